@@ -1,0 +1,11 @@
+pub mod TextLaws
+pub mod GrammarLaws
+pub mod ListLaws
+pub mod RisingLaws
+pub mod BitLaws
+pub mod OnesLaws
+pub mod MaskLaws
+pub mod SplitLaws
+pub mod VerdictLaws
+pub mod DistanceLaws
+pub mod ConsensusLaws

@@ -1,0 +1,114 @@
+-- Laws of the plain words: choices, tests over lists, members.
+--
+--   Mem x l         x is a member of l, as a type
+--   by-test P b     what holds of both ways of a choice holds of the choice
+use Prim.Native.Nat.{ℕ}
+use mathlib.Core.Path.{_≡_, refl, ap, sym, _∙_, subst}
+use mathlib.Core.Logic.{_⊎_, inl, inr, ⊎-map}
+use mathlib.Core.Bool.{Bool, true, false, _&&_, _||_, true≢false}
+use mathlib.Core.List.{List, [], _∷_, _++_}
+use lib.Dec.{eqb}
+use borrow.Author.Tests.{eqb-true, eq-eqb}
+use Rattle.trees.specs.Plain.{if_then_else_, every, keep, member}
+
+-- ---- choices and tests
+
+pub by-test : {A : Type 0} (P : A → Type 0) (b : Bool) {x y : A} → (b ≡ true → P x) → (b ≡ false → P y) → P (if b then x else y)
+by-test P true f g = f refl
+by-test P false f g = g refl
+
+pub if-true : {A : Type 0} {b : Bool} (x y : A) → b ≡ true → (if b then x else y) ≡ x
+if-true x y e = ap (λ b. if b then x else y) e
+
+pub if-false : {A : Type 0} {b : Bool} (x y : A) → b ≡ false → (if b then x else y) ≡ y
+if-false x y e = ap (λ b. if b then x else y) e
+
+pub and-left : (a b : Bool) → (a && b) ≡ true → a ≡ true
+and-left true b e = refl
+and-left false b e = e
+
+pub and-right : (a b : Bool) → (a && b) ≡ true → b ≡ true
+and-right true b e = e
+and-right false b e = absurd (true≢false (sym e))
+
+pub and-true : {a b : Bool} → a ≡ true → b ≡ true → (a && b) ≡ true
+and-true {a} {b} p q = ap (λ x. x && b) p ∙ q
+
+pub or-cases : (a b : Bool) → (a || b) ≡ true → (a ≡ true) ⊎ (b ≡ true)
+or-cases true b e = inl refl
+or-cases false b e = inr e
+
+pub or-left : (a b : Bool) → a ≡ true → (a || b) ≡ true
+or-left true b e = refl
+or-left false b e = absurd (true≢false (sym e))
+
+pub or-right : (a b : Bool) → b ≡ true → (a || b) ≡ true
+or-right true b e = refl
+or-right false b e = e
+
+-- ---- members
+
+abbrev pub Mem : {A : Type 0} → A → List A → Type 0
+Mem x [] = ⊥
+Mem x (y ∷ l) = (x ≡ y) ⊎ Mem x l
+
+pub mem-left : {A : Type 0} (x : A) (l k : List A) → Mem x l → Mem x (l ++ k)
+mem-left x (y ∷ l) k (inl e) = inl e
+mem-left x (y ∷ l) k (inr h) = inr (mem-left x l k h)
+
+pub mem-right : {A : Type 0} (x : A) (l k : List A) → Mem x k → Mem x (l ++ k)
+mem-right x [] k h = h
+mem-right x (y ∷ l) k h = inr (mem-right x l k h)
+
+pub mem-cases : {A : Type 0} (x : A) (l k : List A) → Mem x (l ++ k) → Mem x l ⊎ Mem x k
+mem-cases x [] k h = inr h
+mem-cases x (y ∷ l) k (inl e) = inl (inl e)
+mem-cases x (y ∷ l) k (inr h) = ⊎-map (λ m. inr m) (λ m. m) (mem-cases x l k h)
+
+pub member-mem : (m : ℕ) (l : List ℕ) → member m l ≡ true → Mem m l
+unfolding member
+member-mem m [] e = absurd (true≢false (sym e))
+member-mem m (x ∷ l) e = ⊎-map (eqb-true m x) (λ q. member-mem m l q) (or-cases (eqb m x) (member m l) e)
+
+pub mem-member : (m : ℕ) (l : List ℕ) → Mem m l → member m l ≡ true
+unfolding member
+mem-member m (x ∷ l) (inl e) = or-left (eqb m x) (member m l) (eq-eqb m x e)
+mem-member m (x ∷ l) (inr h) = or-right (eqb m x) (member m l) (mem-member m l h)
+
+pub member-not : (m : ℕ) (l : List ℕ) → (Mem m l → ⊥) → member m l ≡ false
+member-not m l f = go (member m l) refl
+  where
+    go : (b : Bool) → member m l ≡ b → b ≡ false
+    go true e = absurd (f (member-mem m l e))
+    go false e = refl
+
+pub not-member : (m : ℕ) (l : List ℕ) → member m l ≡ false → Mem m l → ⊥
+not-member m l e h = true≢false (sym (mem-member m l h) ∙ e)
+
+-- ---- every member passes
+
+pub every-at : {A : Type 0} (p : A → Bool) (l : List A) → every p l ≡ true → (x : A) → Mem x l → p x ≡ true
+unfolding every
+every-at p (y ∷ l) e x (inl q) = ap p q ∙ and-left (p y) (every p l) e
+every-at p (y ∷ l) e x (inr h) = every-at p l (and-right (p y) (every p l) e) x h
+
+pub every-intro : {A : Type 0} (p : A → Bool) (l : List A) → ((x : A) → Mem x l → p x ≡ true) → every p l ≡ true
+unfolding every
+every-intro p [] f = refl
+every-intro p (y ∷ l) f = and-true (f y (inl refl)) (every-intro p l (λ x h. f x (inr h)))
+
+-- ---- members that are kept
+
+pub keep-mem : {A : Type 0} (p : A → Bool) (l : List A) (x : A) → Mem x (keep p l) → Mem x l × (p x ≡ true)
+unfolding keep
+keep-mem {A} p (y ∷ l) x h = go (p y) refl h (λ m. keep-mem p l x m)
+  where
+    go : (b : Bool) → p y ≡ b → Mem x (if b then y ∷ keep p l else keep p l) → (Mem x (keep p l) → Mem x l × (p x ≡ true)) → ((x ≡ y) ⊎ Mem x l) × (p x ≡ true)
+    go true e (inl q) f = (inl q, ap p q ∙ e)
+    go true e (inr m) f = (inr (f m .0), f m .1)
+    go false e m f = (inr (f m .0), f m .1)
+
+pub mem-keep : {A : Type 0} (p : A → Bool) (l : List A) (x : A) → Mem x l → p x ≡ true → Mem x (keep p l)
+unfolding keep
+mem-keep {A} p (y ∷ l) x (inl q) e = by-test (λ (k : List A). Mem x k) (p y) (λ d. inl q) (λ d. absurd (true≢false (sym e ∙ ap p q ∙ d)))
+mem-keep {A} p (y ∷ l) x (inr h) e = by-test (λ (k : List A). Mem x k) (p y) (λ d. inr (mem-keep p l x h e)) (λ d. mem-keep p l x h e)

@@ -1,0 +1,132 @@
+-- What a collection holds, and what the calls that change it do.
+--
+--   Lane                a lane: the bytes of its unfinished text, or that it ran over
+--   Held                what a collection holds: its opening; the accepted trees, in order of acceptance, each by its splits;
+--                       for each lane its unfinished text
+--   opened o            a collection just opened
+--   verdict h l         the verdict on the text of the lane l: 6 to 12, or the splits of the tree that is accepted
+--   feeding h l p       feeding the piece p to lane l
+--   closing h l         closing lane l
+use Prim.Native.Nat.{ℕ, suc, _+_}
+use mathlib.Core.Bool.{Bool, true, false, not}
+use mathlib.Core.List.{List, [], _∷_, _++_}
+use lib.Dec.{ltb, eqb}
+use lib.ListN.{length, getD, set, replicate}
+use Rattle.trees.specs.Plain.{if_then_else_, every, keep, member, Answer, refused, gives}
+use Rattle.trees.specs.Text.{isBlank}
+use Rattle.trees.specs.Verdict.{judged}
+use Rattle.trees.specs.Consensus.{recorded}
+use Rattle.trees.specs.Opening.{Opening}
+
+pub data Lane : Type 0 where
+  holding : List ℕ → Lane
+  overrun : Lane
+
+pub record Held : Type 0 where
+  pub opening : Opening
+  pub trees : List (List ℕ)
+  pub texts : List Lane
+
+-- no trees, and every lane empty
+unfoldable pub opened : Opening → Held
+opened o = record { opening = o; trees = []; texts = replicate (o .numbers .lanes) (holding []) }
+
+-- the lane l of a collection, and the collection with another lane l
+unfoldable pub laneOf : Held → ℕ → Lane
+laneOf h l = getD (h .texts) l (holding [])
+
+unfoldable pub withLane : Held → ℕ → Lane → Held
+withLane h l x = record { opening = h .opening; trees = h .trees; texts = set (h .texts) l x }
+
+unfoldable pub withTree : Held → List ℕ → Held
+withTree h t = record { opening = h .opening; trees = h .trees ++ t ∷ []; texts = h .texts }
+
+-- "bytes of a text before its semicolon", the most
+abbrev pub mostText : ℕ
+mostText = 4096
+
+-- "Past 4,096 held bytes, blanks counted, the lane drops bytes until the semicolon"
+unfoldable pub longer : Lane → List ℕ → Lane
+longer overrun p = overrun
+longer (holding s) p = if ltb mostText (length (s ++ p)) then overrun else holding (s ++ p)
+
+-- the splits of a tree that no accepted tree has
+unfoldable pub newSplits : Held → List ℕ → List ℕ
+unfolding keep recorded member
+newSplits h t = keep (λ m. not (member m (recorded (h .trees)))) t
+
+-- "accepted trees equal the tree room"; "recorded splits and this tree's new ones together exceed the split room"
+unfoldable pub roomFor : Held → List ℕ → Answer (List ℕ)
+unfolding recorded newSplits
+roomFor h t =
+    if eqb (length (h .trees)) (h .opening .numbers .treeRoom) then refused 11
+    else if ltb (h .opening .numbers .splitRoom) (length (recorded (h .trees)) + length (newSplits h t)) then refused 12
+    else gives t
+
+-- the text's own verdict first, then 11 and 12
+unfoldable pub withRoom : Held → Answer (List ℕ) → Answer (List ℕ)
+unfolding roomFor
+withRoom h (refused k) = refused k
+withRoom h (gives t) = roomFor h t
+
+-- "A verdict checks 6, then 7 over all the text, then leaves from left to right for 8 or 9, then 10, 11, 12"
+unfoldable pub verdict : Held → Lane → Answer (List ℕ)
+unfolding judged withRoom
+verdict h overrun = refused 6
+verdict h (holding s) = withRoom h (judged (h .opening .names) s)
+
+-- what feeding answers besides the bytes taken, when it refuses nothing
+pub data Progress : Type 0 where
+  moreWanted : Progress
+  accepted : ℕ → Progress
+
+pub record Fed : Type 0 where
+  pub taken : ℕ
+  pub answer : Answer Progress
+  pub after : Held
+
+-- the bytes of a piece before its first semicolon, and whether it has one
+unfoldable pub beforeSemicolon : List ℕ → List ℕ
+beforeSemicolon [] = []
+beforeSemicolon (b ∷ p) = if eqb b 59 then [] else b ∷ beforeSemicolon p
+
+-- "accepted, with the tree's number (from 0, in order of acceptance); refused, with a number"
+unfoldable pub finished : Held → Answer (List ℕ) → Answer Progress
+finished h (refused k) = refused k
+finished h (gives t) = gives (accepted (length (h .trees)))
+
+unfoldable pub recording : Held → Answer (List ℕ) → Held
+unfolding withTree
+recording h (refused k) = h
+recording h (gives t) = withTree h t
+
+-- "After a semicolon the lane is empty either way"
+unfoldable pub finishing : Held → ℕ → ℕ → Answer (List ℕ) → Fed
+unfolding finished recording withLane
+finishing h l taken v = record { taken = taken; answer = finished h v; after = withLane (recording h v) l (holding []) }
+
+-- "A call takes bytes up to the first semicolon and that semicolon, or all if there is none"; 5: "no such lane"
+unfoldable pub feeding : Held → ℕ → List ℕ → Fed
+unfolding member beforeSemicolon longer laneOf withLane verdict finishing
+feeding h l p =
+    if ltb l (h .opening .numbers .lanes) then
+    if member 59 p then finishing h l (suc (length (beforeSemicolon p))) (verdict h (longer (laneOf h l) (beforeSemicolon p)))
+    else record { taken = length p; answer = gives moreWanted; after = withLane h l (longer (laneOf h l) p) }
+    else record { taken = 0; answer = refused 5; after = h }
+
+pub record Closed : Type 0 where
+  pub answer : Answer (Unit {0})
+  pub after : Held
+
+-- "6 if it had run over, 7 if it held any byte but blanks, else done"
+unfoldable pub closed : Lane → Answer (Unit {0})
+unfolding every isBlank
+closed overrun = refused 6
+closed (holding s) = if every isBlank s then gives tt else refused 7
+
+-- "Closing a lane empties it"; 5: "no such lane"
+unfoldable pub closing : Held → ℕ → Closed
+unfolding closed laneOf withLane
+closing h l =
+    if ltb l (h .opening .numbers .lanes) then record { answer = closed (laneOf h l); after = withLane h l (holding []) }
+    else record { answer = refused 5; after = h }

@@ -1,0 +1,59 @@
+-- Branch lengths, which are read and dropped.
+--
+--   isLength w      the token w is a length
+use Prim.Native.Nat.{ℕ}
+use mathlib.Core.Bool.{Bool, true, false, _&&_, _||_}
+use mathlib.Core.List.{List, [], _∷_}
+use lib.Dec.{leb, eqb}
+use Rattle.trees.specs.Plain.{if_then_else_, every}
+
+-- 0 to 9
+unfoldable pub isDigit : ℕ → Bool
+isDigit b = leb 48 b && leb b 57
+
+-- e or E
+unfoldable pub isE : ℕ → Bool
+isE b = eqb b 101 || eqb b 69
+
+-- "one or more digits"
+unfoldable pub isDigits : List ℕ → Bool
+unfolding every isDigit
+isDigits [] = false
+isDigits (b ∷ w) = every isDigit (b ∷ w)
+
+-- "optional sign": w behind its + or -, if it has one
+unfoldable pub unsigned : List ℕ → List ℕ
+unsigned [] = []
+unsigned (b ∷ w) = if eqb b 43 || eqb b 45 then w else b ∷ w
+
+-- w without its first point
+unfoldable pub withoutPoint : List ℕ → List ℕ
+withoutPoint [] = []
+withoutPoint (b ∷ w) = if eqb b 46 then w else b ∷ withoutPoint w
+
+-- w up to its first e or E, and from there on
+unfoldable pub beforeE : List ℕ → List ℕ
+unfolding isE
+beforeE [] = []
+beforeE (b ∷ w) = if isE b then [] else b ∷ beforeE w
+
+unfoldable pub fromE : List ℕ → List ℕ
+unfolding isE
+fromE [] = []
+fromE (b ∷ w) = if isE b then b ∷ w else fromE w
+
+-- "optional sign, digits with at most one point among or beside them, at least one digit"
+unfoldable pub isDecimal : List ℕ → Bool
+unfolding isDigits withoutPoint unsigned
+isDecimal w = isDigits (withoutPoint (unsigned w))
+
+-- "and optionally e or E, optional sign, one or more digits"
+unfoldable pub isExponent : List ℕ → Bool
+unfolding isDigits unsigned
+isExponent [] = true
+isExponent (e ∷ w) = isDigits (unsigned w)
+
+-- "A length is one token"
+unfoldable pub isLength : List ℕ → Bool
+unfolding isDecimal isExponent beforeE fromE
+isLength w = isDecimal (beforeE w) && isExponent (fromE w)
