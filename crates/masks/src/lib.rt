@@ -1,0 +1,137 @@
+// Masks in one word: sets of at most 64 taxa, bit i for taxon i. This crate alone knows that a mask is a u64; its callers
+// know only what the contracts say, over masks of any size. Read crate trees, specs/Mask.antt, for what they cite; ones,
+// bitOr and ltb are the library's.
+ghost use mathlib.Core.Path.{_≡_};
+ghost use Prim.Native.Nat.{_≤_, _<_, _^_};
+ghost use lib.Bits.{bitOr};
+ghost use lib.Count.{ones};
+ghost use lib.Dec.{ltb};
+ghost use Rattle.trees.specs.Mask.{has, everyTaxon, without, apart, within, proper, lowest};
+ghost use Rattle.trees.specs.Mask.{agree as Mask·agree, side as Mask·side};
+
+// Whether two splits agree: their masks have no common bit, or one lies within the other.
+pub fn agree(a: u64, b: u64) -> bool
+    ensures { λ r. ⌜ r ≡ Mask·agree a b ⌝ }
+{
+    let both = a & b;
+    if both == 0 {
+        return true;
+    }
+    if both == a {
+        return true;
+    }
+    both == b
+}
+
+// Whether every taxon of a is in b.
+pub fn is_within(a: u64, b: u64) -> bool
+    ensures { λ r. ⌜ r ≡ within a b ⌝ }
+{
+    a & b == a
+}
+
+// Whether no taxon is in both a and b.
+pub fn are_apart(a: u64, b: u64) -> bool
+    ensures { λ r. ⌜ r ≡ apart a b ⌝ }
+{
+    a & b == 0
+}
+
+// Whether m is the mask of a split that counts, of n taxa.
+pub fn is_proper(m: u64, n: u32) -> bool
+    ensures { λ r. ⌜ r ≡ proper n m ⌝ }
+{
+    if m % 2 != 0 {
+        return false;
+    }
+    let taxa = count_taxa(m);
+    if taxa < 2 {
+        return false;
+    }
+    if n < taxa + 2 {
+        return false;
+    }
+    if n < 64 {
+        return m >> n == 0;
+    }
+    true
+}
+
+// The number of taxa in m.
+pub fn count_taxa(m: u64) -> u32
+    ensures { λ r. ⌜ r ≡ ones m ⌝ }
+    ensures { λ r. ⌜ r ≤ 64 ⌝ }
+{
+    u64::count_ones(m)
+}
+
+// The smallest taxon of m; of no taxa, 0.
+pub fn lowest_taxon(m: u64) -> u32
+    ensures { λ r. ⌜ r ≡ lowest m ⌝ }
+    ensures { λ r. ⌜ r < 64 ⌝ }
+{
+    if m == 0 {
+        return 0;
+    }
+    u64::trailing_zeros(m)
+}
+
+// Whether a stands before b where masks are ordered: as whole numbers.
+pub fn comes_before(a: u64, b: u64) -> bool
+    ensures { λ r. ⌜ r ≡ ltb a b ⌝ }
+{
+    a < b
+}
+
+// The mask of all n taxa.
+pub fn every_taxon(n: u32) -> u64
+    requires { ⌜ n ≤ 64 ⌝ }
+    ensures { λ r. ⌜ r ≡ everyTaxon n ⌝ }
+{
+    if n == 64 {
+        return !0;
+    }
+    (1 << n) - 1
+}
+
+// The side without taxon 0 of the split of n taxa that parts the taxa m from the others.
+pub fn side(m: u64, n: u32) -> u64
+    requires { ⌜ n ≤ 64 ⌝ }
+    requires { ⌜ m < 2 ^ n ⌝ }
+    ensures { λ r. ⌜ r ≡ Mask·side n m ⌝ }
+{
+    if m % 2 == 1 {
+        return every_taxon(n) - m;
+    }
+    m
+}
+
+// The taxa of a and those of b.
+pub fn union_of(a: u64, b: u64) -> u64
+    ensures { λ r. ⌜ r ≡ bitOr a b ⌝ }
+{
+    a | b
+}
+
+// The taxa of a that are not in b.
+pub fn taxa_without(a: u64, b: u64) -> u64
+    ensures { λ r. ⌜ r ≡ without a b ⌝ }
+{
+    a & !b
+}
+
+// Whether taxon i is in m.
+pub fn has_taxon(m: u64, i: u32) -> bool
+    requires { ⌜ i < 64 ⌝ }
+    ensures { λ r. ⌜ r ≡ has m i ⌝ }
+{
+    (m >> i) % 2 == 1
+}
+
+// The mask of taxon i alone.
+pub fn only_taxon(i: u32) -> u64
+    requires { ⌜ i < 64 ⌝ }
+    ensures { λ r. ⌜ r ≡ 2 ^ i ⌝ }
+{
+    1 << i
+}
