@@ -3,20 +3,14 @@
 --   agree-both         agreement, by what two masks have in common
 --   shift-one          taxon i alone is the first taxon, i places up
 --   and-not            what is not in b is what is in the word's other bits
---   side-odd           the side, of a mask with taxon 0
---   side-even          the side, of a mask without it
 --   proper-odd         no split that counts has taxon 0 on its side
 --   proper-few-ones    nor fewer than two taxa there
 --   proper-many-ones   nor fewer than two taxa on the other side
---   proper-few         so none parts fewer than four taxa
 --   proper-narrow      what else it takes, where the word is wider than n: nothing from bit n on
 --   proper-wide        and where the word is no wider than n: no more
 --   trailing-lowest    the smallest taxon is the number of zeros below the lowest one
 --   trailing-lt        that number is below the word's width
 --   lowest-none        the smallest taxon, of no taxa
---   lowest-odd         of a mask with taxon 0
---   lowest-even        and of any other
---   lowest-lt          the smallest taxon is a taxon
 use Prim.Native.Nat.{ℕ, zero, suc, _+_, _-_, _*_, _/_, _%_, _^_, _≤_, _<_, min}
 use mathlib.Core.Path.{_≡_, refl, sym, ap, _∙_}
 use mathlib.Core.Bool.{true, false, _||_, and-false}
@@ -28,7 +22,7 @@ use lib.Bits.{bitAnd, and-step, and-comm}
 use lib.Count.{ones, trailingZeros}
 use lib.Dec.{ltb, eqb}
 use borrow.Author.Tests.{eq-eqb, ne-eqb, lt-ltb, le-ltb, le-leb, lt-leb}
-use Rattle.trees.specs.Mask.{everyTaxon, without, apart, within, agree, side, proper, lowestFrom, lowest}
+use Rattle.trees.specs.Mask.{without, apart, within, agree, proper, lowestFrom, lowest}
 
 -- ---- cases
 
@@ -83,16 +77,6 @@ pub and-not : (k a b : ℕ) → a < 2 ^ k → b < 2 ^ k → bitAnd a (2 ^ k - 1 
 unfolding without
 and-not k a b ha hb = omega (arith, and-not-and k a b ha hb)
 
--- ---- side
-
-pub side-odd : (n m : ℕ) → m % 2 ≡ 1 → side n m ≡ everyTaxon n - m
-unfolding side
-side-odd n m e = rw (e, side)
-
-pub side-even : (n m : ℕ) → m % 2 ≡ 0 → side n m ≡ m
-unfolding side
-side-even n m e = rw (e, side)
-
 -- ---- proper
 
 module _ (n m : ℕ) where
@@ -115,9 +99,6 @@ module _ (n m : ℕ) where
 
   pub proper-many-ones : n < ones m + 2 → proper n m ≡ false
   proper-many-ones l = ⊎-elim (λ h. proper-few-ones h) (λ h. two-and-too-many h l) few-or-more
-
-  pub proper-few : n < 4 → proper n m ≡ false
-  proper-few l = ⊎-elim (λ h. proper-few-ones h) (λ h. proper-many-ones (omega arith)) few-or-more
 
   module _ (e : m % 2 ≡ 0) (h : 2 ≤ ones m) (l : ones m + 2 ≤ n) where
     proper-rest : proper n m ≡ ltb m (2 ^ n)
@@ -171,19 +152,6 @@ pub trailing-lowest : (k m : ℕ) → m < 2 ^ k → 0 < m → trailingZeros k m 
 unfolding lowest
 trailing-lowest k m p h = trailing-enough k m m h p (below-power m) ∙ omega (arith, from-trailing m 0 m)
 
-pub lowest-lt : (k m : ℕ) → m < 2 ^ k → 0 < m → lowest m < k
-lowest-lt k m p h = omega (arith, trailing-lowest k m p h, trailing-lt k m p h)
-
 pub lowest-none : lowest 0 ≡ 0
 unfolding lowest lowestFrom
 lowest-none = refl
-
-pub lowest-odd : (m : ℕ) → m % 2 ≡ 1 → lowest m ≡ 0
-unfolding trailingZeros
-lowest-odd m e = sym (trailing-lowest (suc m) m (omega (arith, pow-suc 2 m, below-power m)) (omega arith)) ∙ rw e
-
-pub lowest-even : (m : ℕ) → 0 < m → m % 2 ≡ 0 → lowest m ≡ suc (lowest (m / 2))
-unfolding trailingZeros
-lowest-even m h e =
-    sym (trailing-lowest (suc m) m (omega (arith, pow-suc 2 m, below-power m)) h)
-    ∙ rw e (ap suc (trailing-lowest m (m / 2) (omega (arith, below-power m)) (omega arith)))

@@ -9,6 +9,9 @@ ghost use lib.Dec.{ltb};
 ghost use Rattle.trees.specs.Mask.{has, everyTaxon, without, apart, within, proper, lowest};
 ghost use Rattle.trees.specs.Mask.{agree as Mask·agree, side as Mask·side};
 
+// A taxon's number: its place in the name list, from 0.
+pub struct Taxon(pub u32);
+
 // Whether two splits agree: their masks have no common bit, or one lies within the other.
 pub fn agree(a: u64, b: u64) -> bool
     ensures { λ r. ⌜ r ≡ Mask·agree a b ⌝ }
@@ -66,14 +69,14 @@ pub fn count_taxa(m: u64) -> u32
 }
 
 // The smallest taxon of m; of no taxa, 0.
-pub fn lowest_taxon(m: u64) -> u32
-    ensures { λ r. ⌜ r ≡ lowest m ⌝ }
-    ensures { λ r. ⌜ r < 64 ⌝ }
+pub fn lowest_taxon(m: u64) -> Taxon
+    ensures { λ r. ⌜ r .0 ≡ lowest m ⌝ }
+    ensures { λ r. ⌜ r .0 < 64 ⌝ }
 {
     if m == 0 {
-        return 0;
+        return Taxon(0);
     }
-    u64::trailing_zeros(m)
+    Taxon(u64::trailing_zeros(m))
 }
 
 // Whether a stands before b where masks are ordered: as whole numbers.
@@ -121,17 +124,19 @@ pub fn taxa_without(a: u64, b: u64) -> u64
 }
 
 // Whether taxon i is in m.
-pub fn has_taxon(m: u64, i: u32) -> bool
-    requires { ⌜ i < 64 ⌝ }
-    ensures { λ r. ⌜ r ≡ has m i ⌝ }
+pub fn has_taxon(m: u64, i: Taxon) -> bool
+    requires { ⌜ i .0 < 64 ⌝ }
+    ensures { λ r. ⌜ r ≡ has m (i .0) ⌝ }
 {
-    (m >> i) % 2 == 1
+    let k = i.0;
+    (m >> k) % 2 == 1
 }
 
 // The mask of taxon i alone.
-pub fn only_taxon(i: u32) -> u64
-    requires { ⌜ i < 64 ⌝ }
-    ensures { λ r. ⌜ r ≡ 2 ^ i ⌝ }
+pub fn only_taxon(i: Taxon) -> u64
+    requires { ⌜ i .0 < 64 ⌝ }
+    ensures { λ r. ⌜ r ≡ 2 ^ i .0 ⌝ }
 {
-    1 << i
+    let k = i.0;
+    1 << k
 }

@@ -9,4 +9,4 @@ unfolding has
 returns c = refl
 
 pub has-taxon-spec : {M : Type 1} → statement M
-has-taxon-spec = tie.close (tie.spec (λ c. search needs) returns)
+has-taxon-spec = tie.close (tie.spec (λ c. search needs) (λ c. search needs) returns)

@@ -2,7 +2,8 @@ use mathlib.Core.Path.{sym}
 use native.Mathlib.Omega.{arith}
 use borrow.Author.Needs.{needs}
 use Rattle.trees.specs.Mask.{everyTaxon}
-use Rattle.masks.specs.MaskLaws.{side-odd, side-even}
+use Rattle.theorems.specs.BitLaws.{on-first, first-on}
+use Rattle.theorems.specs.MaskLaws.{side-odd, side-even}
 use Rattle.masks.proofs.side.Statement.{statement}
 use Rattle.masks.proofs.side.Tie as tie
 
@@ -16,5 +17,5 @@ side-spec =
     (tie.spec
     (λ c κs. search needs)
     sub-result
-    (λ c. rw (c .every-taxon .ensures) (sym (side-odd _ _ (c .before .if1 .taken))))
-    (λ c. sym (side-even _ _ (omega arith))))
+    (λ c. rw (c .every-taxon .ensures) (sym (side-odd _ _ (on-first _ (c .before .if1 .taken)))))
+    (λ c. sym (side-even _ _ (λ o. c .if1 .left (first-on _ o)))))
