@@ -11,6 +11,14 @@ use Rattle.trees.specs.Plain.{if_then_else_, every}
 unfoldable pub isDigit : ℕ → Bool
 isDigit b = leb 48 b && leb b 57
 
+-- + or -
+unfoldable pub isSign : ℕ → Bool
+isSign b = eqb b 43 || eqb b 45
+
+-- the point
+unfoldable pub isPoint : ℕ → Bool
+isPoint b = eqb b 46
+
 -- e or E
 unfoldable pub isE : ℕ → Bool
 isE b = eqb b 101 || eqb b 69
@@ -21,15 +29,17 @@ unfolding every isDigit
 isDigits [] = false
 isDigits (b ∷ w) = every isDigit (b ∷ w)
 
--- "optional sign": w behind its + or -, if it has one
+-- "optional sign": w behind its sign, if it has one
 unfoldable pub unsigned : List ℕ → List ℕ
+unfolding isSign
 unsigned [] = []
-unsigned (b ∷ w) = if eqb b 43 || eqb b 45 then w else b ∷ w
+unsigned (b ∷ w) = if isSign b then w else b ∷ w
 
 -- w without its first point
 unfoldable pub withoutPoint : List ℕ → List ℕ
+unfolding isPoint
 withoutPoint [] = []
-withoutPoint (b ∷ w) = if eqb b 46 then w else b ∷ withoutPoint w
+withoutPoint (b ∷ w) = if isPoint b then w else b ∷ withoutPoint w
 
 -- w up to its first e or E, and from there on
 unfoldable pub beforeE : List ℕ → List ℕ

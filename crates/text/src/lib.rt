@@ -1,0 +1,763 @@
+// What stands where in a text: its symbols one after another, and what may follow a node. Positions are byte places; a text is the
+// bytes before a semicolon. Read crate trees, specs/Text.antt, Length.antt and Reading.antt; specs/Read.antt here says what each
+// reader answers in their terms.
+ghost use mathlib.Core.Path.{_≡_};
+ghost use Prim.Native.Nat.{_≤_, _<_};
+ghost use lib.ListN.{length};
+ghost use lib.Seq.{slice};
+ghost use Rattle.trees.specs.Text.{kind};
+ghost use Rattle.trees.specs.Length.{isLength};
+ghost use Rattle.text.specs.Read.{kindNo, Seen, Skipped, RunEnd, LengthRead, LabelRead, ClosingRead};
+ghost use Rattle.text.specs.Automaton.{byteClass, move as moveNo};
+
+// A place in a text.
+pub struct Cursor {
+    pub at: usize,
+}
+
+// The next symbol of a text: nothing, a mark and the place behind it, a byte that no tree has, or a token and its two ends.
+pub enum Next {
+    End,
+    Open(usize),
+    Close(usize),
+    Comma(usize),
+    Colon(usize),
+    Stray,
+    Token(usize, usize),
+}
+
+// What reading a part of a text comes to: the place behind it, or a fault of form.
+pub enum Read {
+    Past(Cursor),
+    Fault,
+}
+
+// The kind of each byte: 0 a blank, 1 a label byte, 2 ( 3 ) 4 , 5 : and 6 any other.
+const KINDS: [u8; 256] = [
+    6,
+    6,
+    6,
+    6,
+    6,
+    6,
+    6,
+    6,
+    6,
+    0,
+    0,
+    6,
+    6,
+    0,
+    6,
+    6,
+    6,
+    6,
+    6,
+    6,
+    6,
+    6,
+    6,
+    6,
+    6,
+    6,
+    6,
+    6,
+    6,
+    6,
+    6,
+    6,
+    0,
+    1,
+    1,
+    1,
+    1,
+    1,
+    1,
+    6,
+    2,
+    3,
+    1,
+    1,
+    4,
+    1,
+    1,
+    1,
+    1,
+    1,
+    1,
+    1,
+    1,
+    1,
+    1,
+    1,
+    1,
+    1,
+    5,
+    6,
+    1,
+    1,
+    1,
+    1,
+    1,
+    1,
+    1,
+    1,
+    1,
+    1,
+    1,
+    1,
+    1,
+    1,
+    1,
+    1,
+    1,
+    1,
+    1,
+    1,
+    1,
+    1,
+    1,
+    1,
+    1,
+    1,
+    1,
+    1,
+    1,
+    1,
+    1,
+    6,
+    1,
+    6,
+    1,
+    1,
+    1,
+    1,
+    1,
+    1,
+    1,
+    1,
+    1,
+    1,
+    1,
+    1,
+    1,
+    1,
+    1,
+    1,
+    1,
+    1,
+    1,
+    1,
+    1,
+    1,
+    1,
+    1,
+    1,
+    1,
+    1,
+    1,
+    1,
+    1,
+    1,
+    1,
+    1,
+    6,
+    6,
+    6,
+    6,
+    6,
+    6,
+    6,
+    6,
+    6,
+    6,
+    6,
+    6,
+    6,
+    6,
+    6,
+    6,
+    6,
+    6,
+    6,
+    6,
+    6,
+    6,
+    6,
+    6,
+    6,
+    6,
+    6,
+    6,
+    6,
+    6,
+    6,
+    6,
+    6,
+    6,
+    6,
+    6,
+    6,
+    6,
+    6,
+    6,
+    6,
+    6,
+    6,
+    6,
+    6,
+    6,
+    6,
+    6,
+    6,
+    6,
+    6,
+    6,
+    6,
+    6,
+    6,
+    6,
+    6,
+    6,
+    6,
+    6,
+    6,
+    6,
+    6,
+    6,
+    6,
+    6,
+    6,
+    6,
+    6,
+    6,
+    6,
+    6,
+    6,
+    6,
+    6,
+    6,
+    6,
+    6,
+    6,
+    6,
+    6,
+    6,
+    6,
+    6,
+    6,
+    6,
+    6,
+    6,
+    6,
+    6,
+    6,
+    6,
+    6,
+    6,
+    6,
+    6,
+    6,
+    6,
+    6,
+    6,
+    6,
+    6,
+    6,
+    6,
+    6,
+    6,
+    6,
+    6,
+    6,
+    6,
+    6,
+    6,
+    6,
+    6,
+    6,
+    6,
+    6,
+    6,
+    6,
+    6,
+    6,
+    6,
+    6,
+    6,
+    6,
+    6,
+    6,
+    6,
+    6,
+];
+
+// The kind of a byte, as a number.
+fn kind_of(b: u8) -> u8
+    ensures { λ r. ⌜ (r ≡ kindNo (kind b)) × (r < 7) ⌝ }
+{
+    let i = b as usize;
+    KINDS[i]
+}
+
+// Past the blanks from `from` on.
+fn skip_blanks(text: &[u8], from: usize) -> usize
+    requires { ⌜ from ≤ length (now text) ⌝ }
+    ensures { λ r. ⌜ Skipped (now (text .entry)) from r ⌝ }
+{
+    let mut at = from;
+    while at < text.len() {
+        if kind_of(text[at]) != 0 {
+            return at;
+        }
+        at += 1;
+    }
+    at
+}
+
+// Past the label bytes from `from` on.
+fn token_end(text: &[u8], from: usize) -> usize
+    requires { ⌜ from ≤ length (now text) ⌝ }
+    ensures { λ r. ⌜ RunEnd (now (text .entry)) from r ⌝ }
+{
+    let mut at = from;
+    while at < text.len() {
+        if kind_of(text[at]) != 1 {
+            return at;
+        }
+        at += 1;
+    }
+    at
+}
+
+// The symbol that stands at `from`, or behind the blanks there.
+pub fn next_symbol(text: &[u8], from: usize) -> Next
+    requires { ⌜ from ≤ length (now text) ⌝ }
+    ensures { λ r. ⌜ Seen (now (text .entry)) from r ⌝ }
+{
+    let at = skip_blanks(text, from);
+    if at == text.len() {
+        return Next::End;
+    }
+    let k = kind_of(text[at]);
+    let e = at + 1;
+    if k == 1 {
+        return Next::Token(at, token_end(text, e));
+    }
+    if k == 2 {
+        return Next::Open(e);
+    }
+    if k == 3 {
+        return Next::Close(e);
+    }
+    if k == 4 {
+        return Next::Comma(e);
+    }
+    if k == 5 {
+        return Next::Colon(e);
+    }
+    Next::Stray
+}
+
+// The class of each byte in a length: 0 a digit, 1 a sign, 2 the point, 3 e or E, 4 any other.
+const CLASSES: [u8; 256] = [
+    4,
+    4,
+    4,
+    4,
+    4,
+    4,
+    4,
+    4,
+    4,
+    4,
+    4,
+    4,
+    4,
+    4,
+    4,
+    4,
+    4,
+    4,
+    4,
+    4,
+    4,
+    4,
+    4,
+    4,
+    4,
+    4,
+    4,
+    4,
+    4,
+    4,
+    4,
+    4,
+    4,
+    4,
+    4,
+    4,
+    4,
+    4,
+    4,
+    4,
+    4,
+    4,
+    4,
+    1,
+    4,
+    1,
+    2,
+    4,
+    0,
+    0,
+    0,
+    0,
+    0,
+    0,
+    0,
+    0,
+    0,
+    0,
+    4,
+    4,
+    4,
+    4,
+    4,
+    4,
+    4,
+    4,
+    4,
+    4,
+    4,
+    3,
+    4,
+    4,
+    4,
+    4,
+    4,
+    4,
+    4,
+    4,
+    4,
+    4,
+    4,
+    4,
+    4,
+    4,
+    4,
+    4,
+    4,
+    4,
+    4,
+    4,
+    4,
+    4,
+    4,
+    4,
+    4,
+    4,
+    4,
+    4,
+    4,
+    4,
+    4,
+    3,
+    4,
+    4,
+    4,
+    4,
+    4,
+    4,
+    4,
+    4,
+    4,
+    4,
+    4,
+    4,
+    4,
+    4,
+    4,
+    4,
+    4,
+    4,
+    4,
+    4,
+    4,
+    4,
+    4,
+    4,
+    4,
+    4,
+    4,
+    4,
+    4,
+    4,
+    4,
+    4,
+    4,
+    4,
+    4,
+    4,
+    4,
+    4,
+    4,
+    4,
+    4,
+    4,
+    4,
+    4,
+    4,
+    4,
+    4,
+    4,
+    4,
+    4,
+    4,
+    4,
+    4,
+    4,
+    4,
+    4,
+    4,
+    4,
+    4,
+    4,
+    4,
+    4,
+    4,
+    4,
+    4,
+    4,
+    4,
+    4,
+    4,
+    4,
+    4,
+    4,
+    4,
+    4,
+    4,
+    4,
+    4,
+    4,
+    4,
+    4,
+    4,
+    4,
+    4,
+    4,
+    4,
+    4,
+    4,
+    4,
+    4,
+    4,
+    4,
+    4,
+    4,
+    4,
+    4,
+    4,
+    4,
+    4,
+    4,
+    4,
+    4,
+    4,
+    4,
+    4,
+    4,
+    4,
+    4,
+    4,
+    4,
+    4,
+    4,
+    4,
+    4,
+    4,
+    4,
+    4,
+    4,
+    4,
+    4,
+    4,
+    4,
+    4,
+    4,
+    4,
+    4,
+    4,
+    4,
+    4,
+    4,
+    4,
+    4,
+    4,
+    4,
+    4,
+    4,
+    4,
+    4,
+    4,
+    4,
+    4,
+    4,
+    4,
+    4,
+    4,
+    4,
+    4,
+    4,
+    4,
+    4,
+    4,
+    4,
+    4,
+    4,
+    4,
+];
+
+// What a length has come to, by what it had come to, five classes each.
+const MOVES: [u8; 45] = [
+    2,
+    1,
+    3,
+    8,
+    8,
+    2,
+    8,
+    3,
+    8,
+    8,
+    2,
+    8,
+    4,
+    5,
+    8,
+    4,
+    8,
+    8,
+    8,
+    8,
+    4,
+    8,
+    8,
+    5,
+    8,
+    7,
+    6,
+    8,
+    8,
+    8,
+    7,
+    8,
+    8,
+    8,
+    8,
+    7,
+    8,
+    8,
+    8,
+    8,
+    8,
+    8,
+    8,
+    8,
+    8,
+];
+
+// The class of a byte in a length.
+fn class_of(b: u8) -> u8
+    ensures { λ r. ⌜ (r ≡ byteClass b) × (r < 5) ⌝ }
+{
+    let i = b as usize;
+    CLASSES[i]
+}
+
+// What a length that had come to q comes to with a byte of the class k.
+fn move_of(q: u8, k: u8) -> u8
+    requires { ⌜ (q < 9) × (k < 5) ⌝ }
+    ensures { λ r. ⌜ (r ≡ moveNo q k) × (r < 9) ⌝ }
+{
+    let i = (q as usize) * 5 + (k as usize);
+    MOVES[i]
+}
+
+// Whether the token from b up to e is a length.
+fn is_length(text: &[u8], b: usize, e: usize) -> bool
+    requires { ⌜ (b ≤ e) × (e ≤ length (now text)) ⌝ }
+    ensures { λ r. ⌜ r ≡ isLength (slice b e (now (text .entry))) ⌝ }
+{
+    let mut q = 0u8;
+    let mut i = b;
+    while i < e {
+        q = move_of(q, class_of(text[i]));
+        i += 1;
+    }
+    if q == 2 {
+        return true;
+    }
+    if q == 4 {
+        return true;
+    }
+    q == 7
+}
+
+// A colon and a length, or nothing.
+pub fn read_length(text: &[u8], c: Cursor) -> Read
+    requires { ⌜ c .at ≤ length (now text) ⌝ }
+    ensures { λ r. ⌜ LengthRead (now (text .entry)) (c .at) r ⌝ }
+{
+    let at = c.at;
+    let t = next_symbol(text, at);
+    match t {
+        Next::Colon(e) => {
+            let w = next_symbol(text, e);
+            match w {
+                Next::Token(b, f) => {
+                    if is_length(text, b, f) {
+                        Read::Past(Cursor { at: f })
+                    } else {
+                        Read::Fault
+                    }
+                }
+                _ => Read::Fault,
+            }
+        }
+        _ => Read::Past(c),
+    }
+}
+
+// A label or nothing, then a colon and a length or nothing.
+fn read_label(text: &[u8], c: Cursor) -> Read
+    requires { ⌜ c .at ≤ length (now text) ⌝ }
+    ensures { λ r. ⌜ LabelRead (now (text .entry)) (c .at) r ⌝ }
+{
+    let at = c.at;
+    let t = next_symbol(text, at);
+    match t {
+        Next::Token(_, e) => read_length(text, Cursor { at: e }),
+        _ => read_length(text, c),
+    }
+}
+
+// The closing bracket behind n children, and what may follow it.
+pub fn read_closing(text: &[u8], c: Cursor, n: usize) -> Read
+    requires { ⌜ c .at ≤ length (now text) ⌝ }
+    ensures { λ r. ⌜ ClosingRead (now (text .entry)) (c .at) n r ⌝ }
+{
+    let at = c.at;
+    let t = next_symbol(text, at);
+    match t {
+        Next::Close(e) => {
+            if 2 <= n {
+                read_label(text, Cursor { at: e })
+            } else {
+                Read::Fault
+            }
+        }
+        _ => Read::Fault,
+    }
+}
