@@ -9,3 +9,13 @@ pub mod SplitLaws
 pub mod VerdictLaws
 pub mod DistanceLaws
 pub mod ConsensusLaws
+pub mod HashLaws
+pub mod OpeningLaws
+pub mod NameLaws
+pub mod ShownLaws
+pub mod WidestLaws
+pub mod ProperLaws
+pub mod BranchLaws
+pub mod TreeOfLaws
+pub mod WrittenLaws
+pub mod WrittenFedLaws

@@ -1,0 +1,53 @@
+-- Laws of proper masks, the masks of splits that count.
+--
+--   proper-even, proper-two, proper-most, proper-sub   what it says of a mask that it is proper
+--   every-ones         all n taxa are n
+--   one-taxon          the cluster of one taxon is never a split
+use Prim.Native.Nat.{ℕ, _-_, _^_, _%_, _≤_}
+use native.Mathlib.Omega.{arith}
+use mathlib.Core.Path.{_≡_, ap, _∙_}
+use mathlib.Core.Logic.{_⊎_, inl, inr}
+use mathlib.Core.Bool.{true, _&&_}
+use lib.Count.{ones, ones-ones}
+use lib.Dec.{leb, ltb, eqb}
+use borrow.Author.Tests.{ltb-true, leb-true, eqb-true}
+use Rattle.trees.specs.Mask.{everyTaxon, proper, side}
+use Rattle.theorems.specs.ListLaws.{and-left, and-right}
+use Rattle.theorems.specs.BitLaws.{On, Sub, first-on, on?}
+use Rattle.theorems.specs.OnesLaws.{ones-part}
+use Rattle.theorems.specs.MaskLaws.{below-sub, others-xor, side-even, side-odd}
+
+-- ---- one split
+
+module _ (n m : ℕ) (h : proper n m ≡ true) where
+  pub proper-even : On m 0 → ⊥
+  unfolding proper
+  proper-even o = omega (arith, first-on m o, eqb-true (m % 2) 0 (and-left (eqb (m % 2) 0) _ h))
+
+  proper-rest : (leb 2 (ones m) && (leb (ones m) (n - 2) && ltb m (2 ^ n))) ≡ true
+  unfolding proper
+  proper-rest = and-right (eqb (m % 2) 0) _ h
+
+  pub proper-two : 2 ≤ ones m
+  proper-two = leb-true 2 (ones m) (and-left (leb 2 (ones m)) _ proper-rest)
+
+  pub proper-most : ones m ≤ n - 2
+  proper-most = leb-true (ones m) (n - 2) (and-left (leb (ones m) (n - 2)) _ (and-right (leb 2 (ones m)) _ proper-rest))
+
+  pub proper-sub : Sub m (everyTaxon n)
+  proper-sub = below-sub n m (ltb-true m (2 ^ n) (and-right (leb (ones m) (n - 2)) _ (and-right (leb 2 (ones m)) _ proper-rest)))
+
+-- ---- the cluster of one taxon is never a split
+
+pub every-ones : (n : ℕ) → ones (everyTaxon n) ≡ n
+unfolding everyTaxon
+every-ones n = ones-ones n
+
+pub one-taxon : (n c : ℕ) → Sub c (everyTaxon n) → ones c ≡ 1 → proper n (side n c) ≡ true → ⊥
+one-taxon n c h e p = go (on? c 0)
+  where
+    go : (On c 0 → ⊥) ⊎ On c 0 → ⊥
+    go (inl f) = omega (arith, proper-two n (side n c) p, ap ones (side-even n c f))
+    go (inr o) =
+        omega
+        (arith, proper-two n (side n c) p, proper-most n (side n c) p, ap ones (side-odd n c o ∙ others-xor (everyTaxon n) c h), ones-part c (everyTaxon n) h, every-ones n)

@@ -1,0 +1,182 @@
+-- What is written: the tree of good splits has exactly these splits, its text is accepted with them, and it is short.
+--
+--   tree-has-splits            the tree made of splits has exactly these splits
+--   majority-tree-splits, strict-tree-splits     so the consensus trees have exactly the consensus splits
+--   written-tree-reads-back    the verdict on what is written gives the splits that it was written from
+--   written-no-semicolon       what is shown has no semicolon
+--   written-before-semicolon   so what is written, up to its semicolon, is what is shown
+--   written-short              35 bytes for each of n taxa, less 4, are enough
+--   written-length             so at most 2,236 bytes are written
+--   same-splits                good lists of splits with the same members are one list
+--   one-writing                so equal sets of splits are written the same
+use Prim.Native.Nat.{ℕ, zero, suc, _+_, _*_, _≤_, _<_}
+use native.Mathlib.Omega.{arith}
+use mathlib.Core.Path.{_≡_, refl, ap, sym, _∙_, subst}
+use mathlib.Core.Logic.{_⊎_, inl, inr}
+use mathlib.Core.Bool.{true, false}
+use mathlib.Core.List.{List, [], _∷_, _++_}
+use mathlib.Core.Option.{none, some}
+use lib.Count.{ones}
+use lib.ListN.{length, length-append}
+use borrow.Author.Tests.{eq-eqb, ne-eqb}
+use Rattle.trees.specs.Plain.{member, Answer, refused, gives}
+use Rattle.trees.specs.Mask.{everyTaxon, side, proper}
+use Rattle.trees.specs.Tree.{Nodes, nil, inner, children, leaves, width}
+use Rattle.trees.specs.Reading.{reading}
+use Rattle.trees.specs.Names.{goodNames}
+use Rattle.trees.specs.Splits.{clusters, counted, splitsOf}
+use Rattle.trees.specs.Verdict.{leafFault, judgedTree, judged}
+use Rattle.trees.specs.Consensus.{strict, majority}
+use Rattle.trees.specs.Written.{branches, treeOf, shown, parted, written}
+use Rattle.trees.specs.Held.{beforeSemicolon}
+use Rattle.trees.specs.Whole.{goodTree}
+use Rattle.theorems.specs.ListLaws.{if-true, if-false, Mem, mem-member, member-mem, member-not}
+use Rattle.theorems.specs.RisingLaws.{rising-true, rising-same}
+use Rattle.theorems.specs.BitLaws.{On, off-zero, sub-le}
+use Rattle.theorems.specs.OnesLaws.{ones-lt}
+use Rattle.theorems.specs.MaskLaws.{every-on, side-even}
+use Rattle.theorems.specs.SplitLaws.{cluster-sub, counted-mem, mem-counted, counted-rising}
+use Rattle.theorems.specs.ConsensusLaws.{AllGood, good-rising, majority-good, strict-good}
+use Rattle.theorems.specs.NameLaws.{good-count}
+use Rattle.theorems.specs.ShownLaws.{Readable, readable-nil, readable-inner, shown-reading, shown-no-semicolon}
+use Rattle.theorems.specs.ProperLaws.{every-ones, one-taxon, proper-even, proper-two, proper-most, proper-sub}
+use Rattle.theorems.specs.BranchLaws.{Done, split-proper, parted-length}
+use Rattle.theorems.specs.TreeOfLaws.{branches-done}
+
+-- ---- the verdict on a text that is read and has no faulty leaf
+
+judged-gives : (ns : List (List ℕ)) (w : List ℕ) (t : Nodes) → reading w ≡ some t → leafFault ns 0 (leaves t) ≡ 0 → judged ns w ≡ gives (splitsOf ns t)
+unfolding judged judgedTree
+judged-gives ns w t e z =
+    ap (λ o. elim o as (λ _. Answer (List ℕ)) [ none ↦ refused 7 | some u ↦ judgedTree ns u ]) e
+    ∙ ap (λ (k : ℕ). elim k as (λ _. Answer (List ℕ)) [ zero ↦ gives (splitsOf ns t) | suc k ↦ refused (suc k) ]) z
+
+-- ---- a text and its semicolon
+
+pub before-semicolon : (w : List ℕ) → (Mem 59 w → ⊥) → beforeSemicolon (w ++ 59 ∷ []) ≡ w
+unfolding beforeSemicolon
+before-semicolon [] f = refl
+before-semicolon (b ∷ w) f =
+    if-false [] (b ∷ beforeSemicolon (w ++ 59 ∷ [])) (ne-eqb b 59 (λ e. f (inl (sym e)))) ∙ ap (λ x. b ∷ x) (before-semicolon w (λ h. f (inr h)))
+
+-- two brackets and a semicolon
+bracketed-length : (c : Nodes) → length (shown (inner c nil) ++ 59 ∷ []) ≡ length (shown c) + 3
+unfolding shown parted
+bracketed-length c = omega (arith, length-append (shown c ++ 41 ∷ []) (59 ∷ []), length-append (shown c) (41 ∷ []))
+
+-- ---- over good names and good splits
+
+-- the children of the root
+rootBranches : ℕ → List (List ℕ) → List ℕ → Nodes
+rootBranches n ns s = branches (suc (everyTaxon n + everyTaxon n)) ns s (everyTaxon n) (everyTaxon n)
+
+module _ (n : ℕ) (ns : List (List ℕ)) (s : List ℕ) (names : goodNames n ns ≡ true) (good : goodTree n s ≡ true) where
+  done : Done ns s (everyTaxon n) (everyTaxon n) (rootBranches n ns s)
+  unfolding rootBranches
+  done = branches-done n ns s names good
+
+  tree-root : treeOf ns s ≡ inner (rootBranches n ns s) nil
+  unfolding treeOf rootBranches
+  tree-root = ap (λ (k : ℕ). inner (branches (suc (everyTaxon k + everyTaxon k)) ns s (everyTaxon k) (everyTaxon k)) nil) (good-count n ns names)
+
+  -- two taxa or more are not in a split
+  split-ones : (y : ℕ) → Mem y s → ones y + 2 ≤ n
+  split-ones y h = omega (arith, proper-two n y (split-proper n ns s names good y h), proper-most n y (split-proper n ns s names good y h))
+
+  split-below : (y : ℕ) → Mem y s → y < everyTaxon n
+  split-below y h = omega (arith, sub-le y (everyTaxon n) (proper-sub n y (split-proper n ns s names good y h)), not-all)
+    where
+      not-all : y ≡ everyTaxon n → ⊥
+      not-all e = omega (arith, split-ones y h, ap ones e, every-ones n)
+
+  counted-from : (y : ℕ) → Mem y (counted n (clusters ns (rootBranches n ns s))) → Mem y s
+  counted-from y h = go (done .built .sound (r .0) (r .1))
+    where
+      r : (c : ℕ) × Mem c (clusters ns (rootBranches n ns s)) × (y ≡ side n c) × (proper n y ≡ true)
+      r = counted-mem n (clusters ns (rootBranches n ns s)) y h
+
+      go : Mem (r .0) s ⊎ (ones (r .0) ≡ 1) → Mem y s
+      go (inl m) = subst (λ (z : ℕ). Mem z s) (sym (r .2 ∙ side-even n (r .0) (proper-even n (r .0) (split-proper n ns s names good (r .0) m)))) m
+      go (inr e) = absurd (one-taxon n (r .0) (λ i o. subst (λ (z : ℕ). On z i) (done .built .masked) (cluster-sub ns (rootBranches n ns s) (r .0) (r .1) i o)) e (ap (proper n) (sym (r .2)) ∙ r .3))
+
+  into-counted : (y : ℕ) → Mem y s → Mem y (counted n (clusters ns (rootBranches n ns s)))
+  into-counted y h =
+      let p = split-proper n ns s names good y h in
+      let e = side-even n y (proper-even n y p) in
+      let c = done .built .complete y h (split-below y h) (proper-sub n y p) in
+      subst (λ (z : ℕ). Mem z (counted n (clusters ns (rootBranches n ns s)))) e (mem-counted n (clusters ns (rootBranches n ns s)) y c (ap (proper n) e ∙ p))
+
+  pub tree-has-splits : splitsOf ns (treeOf ns s) ≡ s
+  unfolding splitsOf children
+  tree-has-splits =
+      ap (splitsOf ns) tree-root ∙ ap (λ (k : ℕ). counted k (clusters ns (rootBranches n ns s))) (good-count n ns names)
+      ∙ rising-same (counted n (clusters ns (rootBranches n ns s))) s (counted-rising n (clusters ns (rootBranches n ns s))) (rising-true s (good-rising n s good)) counted-from into-counted
+
+  -- ---- what is written is read back
+
+  root-pair : 2 ≤ n → 2 ≤ width (rootBranches n ns s)
+  root-pair h = done .wide .two (omega (arith, every-ones n)) (λ y m l p. ones-lt y (everyTaxon n) p l)
+
+  root-readable : 2 ≤ n → (d : ℕ) → n ≤ d + 2 → Readable (suc d) (inner (rootBranches n ns s) nil)
+  root-readable h d l = readable-inner (root-pair h) (done .readable d (omega (arith, every-ones n))) readable-nil
+
+  tree-reading : 2 ≤ n → n ≤ 64 → reading (shown (treeOf ns s)) ≡ some (treeOf ns s)
+  tree-reading h l = ap (λ t. reading (shown t)) tree-root ∙ shown-reading (rootBranches n ns s) (root-readable h 62 l) ∙ ap some (sym tree-root)
+
+  tree-faultless : leafFault ns 0 (leaves (treeOf ns s)) ≡ 0
+  unfolding leaves leafFault
+  tree-faultless =
+      ap (λ t. leafFault ns 0 (leaves t)) tree-root ∙ done .faultless 0 [] (λ i h k. off-zero i h)
+      ∙ if-true 0 10 (eq-eqb (0 + everyTaxon n) (everyTaxon (length ns)) (omega (arith, ap everyTaxon (good-count n ns names))))
+
+  pub written-tree-reads-back : 2 ≤ n → n ≤ 64 → judged ns (shown (treeOf ns s)) ≡ gives s
+  written-tree-reads-back h l = judged-gives ns (shown (treeOf ns s)) (treeOf ns s) (tree-reading h l) tree-faultless ∙ ap gives tree-has-splits
+
+  -- ---- its one semicolon ends it
+
+  no-semicolon : 2 ≤ n → Mem 59 (shown (treeOf ns s)) → ⊥
+  no-semicolon h m = shown-no-semicolon (root-readable h n (omega arith)) (subst (λ t. Mem 59 (shown t)) tree-root m)
+
+  pub written-no-semicolon : 2 ≤ n → member 59 (shown (treeOf ns s)) ≡ false
+  written-no-semicolon h = member-not 59 (shown (treeOf ns s)) (no-semicolon h)
+
+  pub written-before-semicolon : 2 ≤ n → beforeSemicolon (written ns s) ≡ shown (treeOf ns s)
+  unfolding written
+  written-before-semicolon h = before-semicolon (shown (treeOf ns s)) (no-semicolon h)
+
+  -- ---- its length
+
+  written-bytes : length (written ns s) ≡ length (shown (rootBranches n ns s)) + 3
+  unfolding written
+  written-bytes = ap (λ t. length (shown t ++ 59 ∷ [])) tree-root ∙ bracketed-length (rootBranches n ns s)
+
+  root-three : 3 ≤ n → 3 ≤ width (rootBranches n ns s)
+  root-three h = done .wide .three (omega (arith, every-ones n)) (every-on n 0 (omega arith)) (λ y m. omega (arith, split-ones y m, every-ones n))
+
+  pub written-short : 3 ≤ n → length (written ns s) + 4 ≤ 35 * n
+  written-short h =
+      let w = root-three h in
+      omega (arith, written-bytes, parted-length (rootBranches n ns s) (shown (rootBranches n ns s)) (omega arith), done .short, every-ones n)
+
+  pub written-length : 3 ≤ n → n ≤ 64 → length (written ns s) ≤ 2236
+  written-length h l = omega (arith, written-short h)
+
+-- ---- the consensus trees
+
+module _ (n : ℕ) (ns : List (List ℕ)) (ts : List (List ℕ)) (names : goodNames n ns ≡ true) (all : AllGood n ts) where
+  pub majority-tree-splits : splitsOf ns (treeOf ns (majority ts)) ≡ majority ts
+  majority-tree-splits = tree-has-splits n ns (majority ts) names (majority-good n ts all)
+
+  pub strict-tree-splits : splitsOf ns (treeOf ns (strict ts)) ≡ strict ts
+  strict-tree-splits = tree-has-splits n ns (strict ts) names (strict-good n ts all)
+
+-- ---- equal sets of splits are written the same
+
+module _ (n : ℕ) (s u : List ℕ) (p : goodTree n s ≡ true) (q : goodTree n u ≡ true) (same : (m : ℕ) → member m s ≡ member m u) where
+  pub same-splits : s ≡ u
+  same-splits =
+      rising-same s u (rising-true s (good-rising n s p)) (rising-true u (good-rising n u q)) (λ y h. member-mem y u (sym (same y) ∙ mem-member y s h))
+      (λ y h. member-mem y s (same y ∙ mem-member y u h))
+
+  pub one-writing : (ns : List (List ℕ)) → written ns s ≡ written ns u
+  one-writing ns = ap (written ns) same-splits
