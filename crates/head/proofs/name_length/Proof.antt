@@ -1,0 +1,23 @@
+-- `head::name_length` meets its contract: a byte is below 256. Assumes nothing.
+use Prim.Native.Nat.{_+_, _*_}
+use mathlib.Core.Path.{refl}
+use native.Mathlib.Omega.{arith}
+use borrow.Author.Needs.{needs}
+use Rattle.head.proofs.name_length.Statement.{statement}
+use Rattle.head.proofs.name_length.Tie as tie
+
+cast-result : tie.Need-cast-result
+cast-result c = omega (arith, c .shared-slice-known .given (16 + 33 * c .before .args .i))
+
+returns : tie.Need-returns
+returns c = (refl, omega (arith, c .shared-slice-known .given (16 + 33 * c .before .args .i)))
+
+pub name-length-spec : {M : Type 1} → statement M
+name-length-spec =
+    tie.close
+    (tie.spec
+    (λ c. search needs)
+    (λ c. search needs)
+    (λ c. search needs)
+    cast-result
+    returns)

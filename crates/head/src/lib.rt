@@ -1,0 +1,218 @@
+// The head of a store, its first 4,096 bytes: the opening's numbers and constants, and the search
+// for the taxon that a leaf label names.
+//
+// Its contracts cite `specs/Head.antt` (`numbersAt`, `namesAt`) and `specs/Index.antt` (`Indexed`,
+// `foundOf`); crate trees, `specs/Names.antt`, says what `taxonOf` is. The laws that callers use
+// stand in `HeadLaws` and `FindLaws`.
+ghost use mathlib.Core.Path.{_≡_};
+ghost use Prim.Native.Nat.{_+_, _*_, _≤_, _<_};
+ghost use lib.ListN.{length, getD};
+ghost use lib.Seq.{slice};
+ghost use Rattle.trees.specs.Plain.{sameBytes};
+ghost use Rattle.trees.specs.Names.{taxonOf};
+ghost use Rattle.fields.specs.Field.{number};
+ghost use Rattle.head.specs.Head.{numbersAt, nameAt, namesAt};
+ghost use Rattle.head.specs.Index.{key, Indexed, foundOf, Below};
+use masks::Taxon;
+
+// The answer of a search for a name.
+pub enum Found {
+    At(Taxon),
+    Nothing,
+}
+
+// The number of taxa.
+pub fn taxa(s: &[u8]) -> u32
+    requires { ⌜ 4096 ≤ length (now s) ⌝ }
+    ensures { λ r. ⌜ r ≡ numbersAt (now (s .entry)) .taxa ⌝ }
+    ensures { λ r. ⌜ r < 65536 ⌝ }
+{
+    number16(s, 0)
+}
+
+// The number of lanes.
+pub fn lanes(s: &[u8]) -> u32
+    requires { ⌜ 4096 ≤ length (now s) ⌝ }
+    ensures { λ r. ⌜ r ≡ numbersAt (now (s .entry)) .lanes ⌝ }
+    ensures { λ r. ⌜ r < 65536 ⌝ }
+{
+    number16(s, 2)
+}
+
+// How many trees there is room for.
+pub fn tree_room(s: &[u8]) -> u32
+    requires { ⌜ 4096 ≤ length (now s) ⌝ }
+    ensures { λ r. ⌜ r ≡ numbersAt (now (s .entry)) .treeRoom ⌝ }
+    ensures { λ r. ⌜ r < 65536 ⌝ }
+{
+    number16(s, 4)
+}
+
+// How many splits there is room for.
+pub fn split_room(s: &[u8]) -> u32
+    requires { ⌜ 4096 ≤ length (now s) ⌝ }
+    ensures { λ r. ⌜ r ≡ numbersAt (now (s .entry)) .splitRoom ⌝ }
+    ensures { λ r. ⌜ r < 65536 ⌝ }
+{
+    number16(s, 6)
+}
+
+// The number of places.
+pub fn places(s: &[u8]) -> u32
+    requires { ⌜ 4096 ≤ length (now s) ⌝ }
+    ensures { λ r. ⌜ r ≡ numbersAt (now (s .entry)) .places ⌝ }
+    ensures { λ r. ⌜ r < 65536 ⌝ }
+{
+    number16(s, 8)
+}
+
+// The number in the 2 bytes of s from at, in 32 bits.
+fn number16(s: &[u8], at: usize) -> u32
+    requires { ⌜ at + 2 ≤ length (now s) ⌝ }
+    ensures { λ r. ⌜ r ≡ number 2 (now (s .entry)) at ⌝ }
+    ensures { λ r. ⌜ r < 65536 ⌝ }
+{
+    wide16(fields::get16(s, at))
+}
+
+// x in 32 bits, of which it takes 16.
+fn wide16(x: u16) -> u32
+    ensures { λ r. ⌜ (r ≡ x) × (r < 65536) ⌝ }
+{
+    x as u32
+}
+
+// The first list's constant of taxon i.
+pub fn first_constant(s: &[u8], i: Taxon) -> u64
+    requires { ⌜ 4096 ≤ length (now s) ⌝ }
+    requires { ⌜ i .0 < 64 ⌝ }
+    ensures { λ r. ⌜ r ≡ number 2 (now (s .entry)) (2128 + 2 * i .0) ⌝ }
+    ensures { λ r. ⌜ r < 65536 ⌝ }
+{
+    number16(s, 2128 + 2 * i.0 as usize) as u64
+}
+
+// The second list's constant of taxon i.
+pub fn second_constant(s: &[u8], i: Taxon) -> u64
+    requires { ⌜ 4096 ≤ length (now s) ⌝ }
+    requires { ⌜ i .0 < 64 ⌝ }
+    ensures { λ r. ⌜ r ≡ number 8 (now (s .entry)) (2256 + 8 * i .0) ⌝ }
+{
+    fields::get64(s, 2256 + 8 * i.0 as usize)
+}
+
+// Makes the index of the names, whatever the two arrays held, from the last taxon down to the first.
+pub fn build_index(s: &[u8], starts: &mut [u8; 128], links: &mut [u8; 64])
+    requires { ⌜ 4096 ≤ length (now s) ⌝ }
+    requires { ⌜ numbersAt (now s) .taxa ≤ 64 ⌝ }
+    ensures { λ r. ⌜ Indexed (namesAt (now (s .entry))) (now (starts .exit)) (now (links .exit)) ⌝ }
+{
+    *starts = [0; 128];
+    *links = [0; 64];
+    let mut i = taxa(s) as usize;
+    while 0 < i {
+        i -= 1;
+        let k = name_key(s, i);
+        links[i] = starts[k];
+        starts[k] = (i + 1) as u8;
+    }
+}
+
+// The taxon whose name is the bytes of the text from b up to e: the names of their key, in list order.
+pub fn find_taxon(
+    s: &[u8],
+    starts: &[u8; 128],
+    links: &[u8; 64],
+    text: &[u8],
+    b: usize,
+    e: usize,
+) -> Found
+    requires { ⌜ 4096 ≤ length (now s) ⌝ }
+    requires { ⌜ numbersAt (now s) .taxa ≤ 64 ⌝ }
+    requires { ⌜ Indexed (namesAt (now s)) (now starts) (now links) ⌝ }
+    requires { ⌜ b ≤ e ⌝ }
+    requires { ⌜ e ≤ length (now text) ⌝ }
+    ensures { λ r. ⌜ r ≡ foundOf (taxonOf (namesAt (now (s .entry))) (slice b e (now (text .entry)))) ⌝ }
+    ensures { λ r. ⌜ Below (numbersAt (now (s .entry)) .taxa) r ⌝ }
+{
+    let k = key_of(text, b, e);
+    let mut number = starts[k];
+    while number != 0 {
+        let i = (number - 1) as usize;
+        if name_is(s, i, text, b, e) {
+            return Found::At(Taxon(i as u32));
+        }
+        number = links[i];
+    }
+    Found::Nothing
+}
+
+// Whether the name of taxon i is the bytes of the text from b up to e.
+fn name_is(s: &[u8], i: usize, text: &[u8], b: usize, e: usize) -> bool
+    requires { ⌜ 4096 ≤ length (now s) ⌝ }
+    requires { ⌜ i < 64 ⌝ }
+    requires { ⌜ b ≤ e ⌝ }
+    requires { ⌜ e ≤ length (now text) ⌝ }
+    ensures { λ r. ⌜ r ≡ sameBytes (nameAt (now (s .entry)) i) (slice b e (now (text .entry))) ⌝ }
+{
+    let n = name_length(s, i);
+    if e - b != n {
+        return false;
+    }
+    let a = 17 + 33 * i;
+    same_runs(s, a, a + n, text, b, e)
+}
+
+// Whether the bytes of s from a up to z are those of the text from b up to e, which are as many.
+fn same_runs(s: &[u8], a: usize, z: usize, text: &[u8], b: usize, e: usize) -> bool
+    requires { ⌜ a ≤ z ⌝ }
+    requires { ⌜ z ≤ length (now s) ⌝ }
+    requires { ⌜ e ≤ length (now text) ⌝ }
+    requires { ⌜ b + z ≡ e + a ⌝ }
+    ensures { λ r. ⌜ r ≡ sameBytes (slice a z (now (s .entry))) (slice b e (now (text .entry))) ⌝ }
+{
+    let mut i = a;
+    let mut j = b;
+    while i < z {
+        if s[i] != text[j] {
+            return false;
+        }
+        i += 1;
+        j += 1;
+    }
+    true
+}
+
+// The key of the name of taxon i.
+fn name_key(s: &[u8], i: usize) -> usize
+    requires { ⌜ 4096 ≤ length (now s) ⌝ }
+    requires { ⌜ i < 64 ⌝ }
+    ensures { λ r. ⌜ (r ≡ key (nameAt (now (s .entry)) i)) × (r < 128) ⌝ }
+{
+    let a = 17 + 33 * i;
+    key_of(s, a, a + name_length(s, i))
+}
+
+// The length of the name of taxon i.
+fn name_length(s: &[u8], i: usize) -> usize
+    requires { ⌜ 4096 ≤ length (now s) ⌝ }
+    requires { ⌜ i < 64 ⌝ }
+    ensures { λ r. ⌜ (r ≡ getD (now (s .entry)) (16 + 33 * i) 0) × (r < 256) ⌝ }
+{
+    s[16 + 33 * i] as usize
+}
+
+// The key of the bytes of s from b up to e.
+fn key_of(s: &[u8], b: usize, e: usize) -> usize
+    requires { ⌜ b ≤ e ⌝ }
+    requires { ⌜ e ≤ length (now s) ⌝ }
+    ensures { λ r. ⌜ (r ≡ key (slice b e (now (s .entry)))) × (r < 128) ⌝ }
+{
+    let mut k = 0u32;
+    let mut i = b;
+    while i < e {
+        k = (k * 37 + s[i] as u32) % 65536;
+        i += 1;
+    }
+    (k % 128) as usize
+}

@@ -1,0 +1,4 @@
+pub mod NodeLaws
+pub mod SumLaws
+pub mod GotLaws
+pub mod LeafLaws

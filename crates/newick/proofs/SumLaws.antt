@@ -1,0 +1,95 @@
+-- Laws of what is gathered: of nodes put beside each other, of a leaf, of an inner node.
+use Prim.Native.Nat.{ℕ, zero, suc, _+_, _*_, _%_, _^_, _≤_, _<_}
+use native.Mathlib.Omega.{arith}
+use native.Mathlib.Numerals.{add-one, add-two}
+use native.Mathlib.Nat.{add-zero, add-assoc, add-mod, mod-lt, mod-eq-of-lt}
+use mathlib.Core.Path.{_≡_, refl, ap, ap₂, sym, _∙_, subst}
+use mathlib.Core.Bool.{Bool, true, false, _&&_}
+use mathlib.Core.List.{List, [], _∷_, _++_, append-assoc}
+use mathlib.Core.Option.{Option, none, some}
+use lib.Dec.{leb, ltb, eqb}
+use lib.Bits.{bitOr, or-zero-l, or-zero-r}
+use lib.ListN.{length, getD, set, length-append}
+use lib.Seq.{sets}
+use borrow.Author.Tests.{ltb-true, leb-true}
+use Rattle.trees.specs.Plain.{if_then_else_, every}
+use Rattle.trees.specs.Tree.{Nodes, nil, leaf, inner, beside, width, leaves}
+use Rattle.trees.specs.Names.{taxonOf}
+use Rattle.trees.specs.Splits.{taxon, taxa}
+use Rattle.trees.specs.Opening.{Opening, between, inRange, goodConstants}
+use Rattle.trees.specs.Whole.{goodOpening}
+use Rattle.theorems.specs.ListLaws.{and-left, and-right}
+use Rattle.theorems.specs.BitLaws.{ext, Sub, on?, or-on, on-or-l, on-or-r}
+use Rattle.newick.specs.Gather.{constantOf, leafSum, placeSum, identifierSum, records, Leaves, leafStep, leavesAfter}
+
+-- ---- nodes beside each other
+
+pub width-beside : (t k : Nodes) → width (beside t k) ≡ width t + width k
+unfolding width beside
+width-beside nil k = omega arith
+width-beside (leaf w r) k = omega (arith, width-beside r k)
+width-beside (inner c r) k = omega (arith, width-beside r k)
+
+or-assoc : (a b c : ℕ) → bitOr (bitOr a b) c ≡ bitOr a (bitOr b c)
+or-assoc a b c = ext (bitOr (bitOr a b) c) (bitOr a (bitOr b c)) right left
+  where
+    right : Sub (bitOr (bitOr a b) c) (bitOr a (bitOr b c))
+    right i h = mathlib.Core.Logic.⊎-elim (λ n. on-or-r a (bitOr b c) i (mathlib.Core.Logic.⊎-elim (λ m. on-or-r b c i (or-on (bitOr a b) c i h (λ o. m (or-on a b i o n)))) (λ o. on-or-l b c i o) (on? b i))) (λ o. on-or-l a (bitOr b c) i o) (on? a i)
+
+    left : Sub (bitOr a (bitOr b c)) (bitOr (bitOr a b) c)
+    left i h = mathlib.Core.Logic.⊎-elim (λ n. mathlib.Core.Logic.⊎-elim (λ m. on-or-r (bitOr a b) c i (or-on b c i (or-on a (bitOr b c) i h n) m)) (λ o. on-or-l (bitOr a b) c i (on-or-r a b i o)) (on? b i)) (λ o. on-or-l (bitOr a b) c i (on-or-l a b i o)) (on? a i)
+
+pub taxa-beside : (ns : List (List ℕ)) (t k : Nodes) → taxa ns (beside t k) ≡ bitOr (taxa ns t) (taxa ns k)
+unfolding taxa beside
+taxa-beside ns nil k = sym (or-zero-l (taxa ns k))
+taxa-beside ns (leaf w r) k = ap (bitOr (taxon ns w)) (taxa-beside ns r k) ∙ sym (or-assoc (taxon ns w) (taxa ns r) (taxa ns k))
+taxa-beside ns (inner c r) k = ap (bitOr (taxa ns c)) (taxa-beside ns r k) ∙ sym (or-assoc (taxa ns c) (taxa ns r) (taxa ns k))
+
+leafSum-beside : (cs : List ℕ) (ns : List (List ℕ)) (t k : Nodes) → leafSum cs ns (beside t k) ≡ leafSum cs ns t + leafSum cs ns k
+unfolding leafSum beside
+leafSum-beside cs ns nil k = omega arith
+leafSum-beside cs ns (leaf w r) k = omega (arith, leafSum-beside cs ns r k)
+leafSum-beside cs ns (inner c r) k = omega (arith, leafSum-beside cs ns r k)
+
+pub place-beside : (o : Opening) (t k : Nodes) → (placeSum o t + placeSum o k) % o .numbers .places ≡ placeSum o (beside t k)
+unfolding placeSum
+place-beside o t k =
+    let m : ℕ = o .numbers .places in
+    sym (add-mod (leafSum (o .first) (o .names) t) (leafSum (o .first) (o .names) k) m) ∙ ap (λ (x : ℕ). x % m) (sym (leafSum-beside (o .first) (o .names) t k))
+
+pub identifier-beside : (o : Opening) (t k : Nodes) → (identifierSum o t + identifierSum o k) % 2 ^ 64 ≡ identifierSum o (beside t k)
+unfolding identifierSum
+identifier-beside o t k =
+    sym (add-mod (leafSum (o .second) (o .names) t) (leafSum (o .second) (o .names) k) (2 ^ 64)) ∙ ap (λ (x : ℕ). x % 2 ^ 64) (sym (leafSum-beside (o .second) (o .names) t k))
+
+pub records-beside : (o : Opening) (t k : Nodes) → records o (beside t k) ≡ records o t ++ records o k
+unfolding records beside
+records-beside o nil k = refl
+records-beside o (leaf w r) k = records-beside o r k
+records-beside o (inner c r) k =
+    ap (λ l. records o c ++ (taxa (o .names) c ∷ placeSum o c ∷ identifierSum o c ∷ l)) (records-beside o r k)
+    ∙ sym (append-assoc (records o c) (taxa (o .names) c ∷ placeSum o c ∷ identifierSum o c ∷ records o r) (records o k))
+
+leaves-beside : (t k : Nodes) → leaves (beside t k) ≡ leaves t ++ leaves k
+unfolding leaves beside
+leaves-beside nil k = refl
+leaves-beside (leaf w r) k = ap (λ l. w ∷ l) (leaves-beside r k)
+leaves-beside (inner c r) k = ap (λ l. leaves c ++ l) (leaves-beside r k) ∙ sym (append-assoc (leaves c) (leaves r) (leaves k))
+
+after-append : (ns : List (List ℕ)) (l : Leaves) (vs ws : List (List ℕ)) → leavesAfter ns l (vs ++ ws) ≡ leavesAfter ns (leavesAfter ns l vs) ws
+unfolding leavesAfter
+after-append ns l [] ws = refl
+after-append ns l (v ∷ vs) ws = after-append ns (leafStep ns l v) vs ws
+
+pub after-beside : (ns : List (List ℕ)) (l : Leaves) (t k : Nodes) → leavesAfter ns (leavesAfter ns l (leaves t)) (leaves k) ≡ leavesAfter ns l (leaves (beside t k))
+after-beside ns l t k = sym (ap (leavesAfter ns l) (leaves-beside t k) ∙ after-append ns l (leaves t) (leaves k))
+
+-- ---- runs of stores
+
+pub sets-append : (vs l : List ℕ) (i : ℕ) (ws : List ℕ) → sets l i (vs ++ ws) ≡ sets (sets l i vs) (i + length vs) ws
+sets-append [] l i ws = ap (λ (j : ℕ). sets l j ws) (sym (add-zero i))
+sets-append (v ∷ vs) l i ws = sets-append vs (set l i v) (suc i) ws ∙ ap (λ (j : ℕ). sets (sets (set l i v) (suc i) vs) j ws) (omega arith)
+
+-- three stores, one behind the other
+pub sets-three : (l : List ℕ) (j a b d : ℕ) {l₁ l₂ l₃ : List ℕ} → l₁ ≡ set l j a → l₂ ≡ set l₁ (j + 1) b → l₃ ≡ set l₂ (j + 2) d → l₃ ≡ sets l j (a ∷ b ∷ d ∷ [])
+sets-three l j a b d p q r = r ∙ ap₂ (λ x (k : ℕ). set x k d) (q ∙ ap₂ (λ x (k : ℕ). set x k b) p (add-one j)) (add-two j)

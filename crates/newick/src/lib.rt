@@ -1,0 +1,2 @@
+// Reading a tree.
+mod gather;

@@ -1,0 +1,3 @@
+-- The definitions that the contracts of `rising` cite, and their laws.
+pub mod Slot
+pub mod SlotLaws

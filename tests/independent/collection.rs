@@ -1,0 +1,239 @@
+//! The collection: accepted trees as sets of masks, lanes, and every call on it.
+
+use crate::consensus::{majority, strict, written, Counts};
+use crate::hash::{identifier, place};
+use crate::opening::Opening;
+use crate::text::is_blank;
+use crate::verdict::{judge, Masks, MOST_BYTES};
+use std::collections::BTreeMap;
+
+pub struct Collection {
+    opening: Opening,
+    trees: Vec<Masks>,
+    lanes: Vec<Lane>,
+}
+
+enum Lane {
+    Holding(Vec<u8>),
+    RunOver,
+}
+
+pub enum Fed {
+    More { taken: usize },
+    Accepted { taken: usize, tree: usize },
+    Refused { taken: usize, refusal: u32 },
+}
+
+/// What a batch answers: for each text a tree or a refusal, and the bytes taken.
+pub struct Batch {
+    pub verdicts: Vec<Result<usize, u32>>,
+    pub taken: usize,
+}
+
+impl Lane {
+    fn empty() -> Lane {
+        Lane::Holding(Vec::new())
+    }
+
+    /// "Past 4,096 held bytes, blanks counted, the lane drops bytes."
+    fn hold(&mut self, bytes: &[u8]) {
+        if let Lane::Holding(held) = self {
+            held.extend(bytes);
+            if held.len() > MOST_BYTES {
+                *self = Lane::RunOver;
+            }
+        }
+    }
+}
+
+impl Collection {
+    pub fn new(opening: Opening) -> Collection {
+        let lanes = (0..opening.numbers.lanes).map(|_| Lane::empty()).collect();
+        Collection { opening, trees: Vec::new(), lanes }
+    }
+
+    // Feeding
+
+    /// "Takes bytes up to the first semicolon and that semicolon, or all if there is none."
+    pub fn feed(&mut self, lane: u64, piece: &[u8]) -> Fed {
+        let Some(at) = self.lane_index(lane) else {
+            return Fed::Refused { taken: 0, refusal: 5 };
+        };
+        let Some(semicolon) = piece.iter().position(|b| *b == b';') else {
+            self.lanes[at].hold(piece);
+            return Fed::More { taken: piece.len() };
+        };
+        self.lanes[at].hold(&piece[..semicolon]);
+        let taken = semicolon + 1;
+        match self.judge_lane(at) {
+            Ok(tree) => Fed::Accepted { taken, tree },
+            Err(refusal) => Fed::Refused { taken, refusal },
+        }
+    }
+
+    /// As many feedings as take the whole piece; 4 if there are more texts than the room for verdicts.
+    pub fn batch(&mut self, lane: u64, piece: &[u8], room: usize) -> Result<Batch, u32> {
+        if self.lane_index(lane).is_none() {
+            return Err(5);
+        }
+        if piece.iter().filter(|b| **b == b';').count() > room {
+            return Err(4);
+        }
+        let mut batch = Batch { verdicts: Vec::new(), taken: 0 };
+        while batch.taken < piece.len() {
+            let took = match self.feed(lane, &piece[batch.taken..]) {
+                Fed::More { taken } => taken,
+                Fed::Accepted { taken, tree } => {
+                    batch.verdicts.push(Ok(tree));
+                    taken
+                }
+                Fed::Refused { taken, refusal } => {
+                    batch.verdicts.push(Err(refusal));
+                    taken
+                }
+            };
+            batch.taken += took;
+        }
+        Ok(batch)
+    }
+
+    /// "6 if it had run over, 7 if it held any byte but blanks, else done."
+    pub fn close(&mut self, lane: u64) -> Result<(), u32> {
+        let at = self.lane_index(lane).ok_or(5u32)?;
+        match std::mem::replace(&mut self.lanes[at], Lane::empty()) {
+            Lane::RunOver => Err(6),
+            Lane::Holding(held) if held.iter().any(|b| !is_blank(*b)) => Err(7),
+            Lane::Holding(_) => Ok(()),
+        }
+    }
+
+    fn lane_index(&self, lane: u64) -> Option<usize> {
+        usize::try_from(lane).ok().filter(|at| *at < self.lanes.len())
+    }
+
+    /// "After a semicolon the lane is empty either way."
+    fn judge_lane(&mut self, at: usize) -> Result<usize, u32> {
+        match std::mem::replace(&mut self.lanes[at], Lane::empty()) {
+            Lane::RunOver => Err(6),
+            Lane::Holding(text) => {
+                let splits = judge(&self.opening.names, &text)?;
+                self.accept(splits)
+            }
+        }
+    }
+
+    /// 11, then 12, before anything is recorded.
+    fn accept(&mut self, splits: Masks) -> Result<usize, u32> {
+        let recorded: Masks = self.counts().into_keys().collect();
+        if self.trees.len() as u64 == self.opening.numbers.tree_room {
+            return Err(11);
+        }
+        if recorded.union(&splits).count() as u64 > self.opening.numbers.split_room {
+            return Err(12);
+        }
+        self.trees.push(splits);
+        Ok(self.trees.len() - 1)
+    }
+
+    // Questions
+
+    pub fn names(&self) -> &[Vec<u8>] {
+        &self.opening.names
+    }
+
+    pub fn number_of_trees(&self) -> usize {
+        self.trees.len()
+    }
+
+    /// The recorded splits in rising order of mask, each with the number of trees that have it.
+    pub fn counts(&self) -> Counts {
+        let mut counts = Counts::new();
+        for mask in self.trees.iter().flatten() {
+            *counts.entry(*mask).or_insert(0) += 1;
+        }
+        counts
+    }
+
+    pub fn splits(&self, room: usize) -> Result<Vec<(u64, u64)>, u32> {
+        fitting(self.counts().into_iter().collect(), room)
+    }
+
+    pub fn split(&self, number: u64) -> Result<(u64, u64), u32> {
+        let at = usize::try_from(number).map_err(|_| 13u32)?;
+        self.counts().into_iter().nth(at).ok_or(13)
+    }
+
+    pub fn tree(&self, number: u64, room: usize) -> Result<Vec<u64>, u32> {
+        fitting(self.masks(number)?.iter().copied().collect(), room)
+    }
+
+    /// "The one-sided number is the splits of i that j lacks."
+    pub fn one_sided(&self, i: u64, j: u64) -> Result<u64, u32> {
+        let (of_i, of_j) = (self.masks(i)?, self.masks(j)?);
+        Ok(of_i.difference(of_j).count() as u64)
+    }
+
+    pub fn doubled(&self, i: u64, j: u64) -> Result<u64, u32> {
+        Ok(self.one_sided(i, j)? + self.one_sided(j, i)?)
+    }
+
+    /// "t × t sixteen-bit entries, row by row."
+    pub fn matrix(&self, room: usize) -> Result<Vec<u64>, u32> {
+        let t = self.trees.len() as u64;
+        let entries = (0..t).flat_map(|i| (0..t).map(move |j| (i, j)));
+        let distances: Result<Vec<u64>, u32> = entries.map(|(i, j)| self.doubled(i, j)).collect();
+        fitting(distances?, room)
+    }
+
+    /// "The count of unordered pairs of different recorded splits equal in place and identifier."
+    pub fn collisions(&self) -> u64 {
+        let mut alike: BTreeMap<(u64, u64), u64> = BTreeMap::new();
+        for mask in self.counts().into_keys() {
+            let place = place(mask, &self.opening.first, self.opening.numbers.places);
+            let identifier = identifier(mask, &self.opening.second);
+            *alike.entry((place, identifier)).or_insert(0) += 1;
+        }
+        alike.values().map(|k| k * (k - 1) / 2).sum()
+    }
+
+    pub fn strict_splits(&self) -> Masks {
+        strict(&self.counts(), self.trees.len() as u64)
+    }
+
+    pub fn majority_splits(&self) -> Masks {
+        majority(&self.counts(), self.trees.len() as u64)
+    }
+
+    pub fn strict_text(&self, room: usize) -> Result<Vec<u8>, u32> {
+        self.consensus_text(&self.strict_splits(), room)
+    }
+
+    pub fn majority_text(&self, room: usize) -> Result<Vec<u8>, u32> {
+        self.consensus_text(&self.majority_splits(), room)
+    }
+
+    pub fn tree_text(&self, number: u64, room: usize) -> Result<Vec<u8>, u32> {
+        fitting(written(&self.opening.names, self.masks(number)?), room)
+    }
+
+    /// "Consensus of no trees" is 14.
+    fn consensus_text(&self, splits: &Masks, room: usize) -> Result<Vec<u8>, u32> {
+        if self.trees.is_empty() {
+            return Err(14);
+        }
+        fitting(written(&self.opening.names, splits), room)
+    }
+
+    fn masks(&self, tree: u64) -> Result<&Masks, u32> {
+        usize::try_from(tree).ok().and_then(|at| self.trees.get(at)).ok_or(13)
+    }
+}
+
+/// 4 if "a lent buffer is too short for the whole answer".
+fn fitting<T>(answer: Vec<T>, room: usize) -> Result<Vec<T>, u32> {
+    if answer.len() > room {
+        Err(4)
+    } else {
+        Ok(answer)
+    }
+}

@@ -1,0 +1,251 @@
+//! Generated lines for `treecalls`.
+
+use crate::generator::{
+    damage_names, first_constants, name_list, one_text, second_constants, some_names, some_places, some_shapes,
+};
+use crate::grow::{Name, Shape};
+use crate::opening::Numbers;
+use crate::random::Random;
+use crate::words::{comma_list, hex};
+
+/// So many lines for `treecalls`, after a first opening.
+pub fn calls(seed: u64, count: usize) -> Vec<u8> {
+    let mut script = Script::new(seed);
+    let mut lines = script.opening();
+    while lines.len() < count {
+        lines.push(script.line());
+    }
+    lines.iter().flat_map(|line| format!("{line}\n").into_bytes()).collect()
+}
+
+struct Script {
+    random: Random,
+    names: Vec<Name>,
+    pool: Vec<Shape>,
+    numbers: Numbers,
+    /// What is still to be fed to each lane.
+    waiting: Vec<Vec<u8>>,
+    /// Lines that come next, the last one first.
+    planned: Vec<String>,
+}
+
+/// The longest piece of one feeding or batch, so that a line stays below 16,384 bytes.
+const LONGEST_PIECE: usize = 7000;
+
+impl Script {
+    fn new(seed: u64) -> Script {
+        let mut random = Random::new(seed);
+        let names = some_names(&mut random);
+        let pool = some_shapes(&mut random, &names);
+        let numbers = some_numbers(&mut random, names.len());
+        let waiting = vec![Vec::new(); 9];
+        Script { random, names, pool, numbers, waiting, planned: Vec::new() }
+    }
+
+    /// Memory of about the right size, and the opening.
+    fn opening(&mut self) -> Vec<String> {
+        let size = self.numbers.size().expect("numbers in range");
+        let lent = size + *self.random.pick(&[0, 0, 1, 100]);
+        vec![format!("size {}", five_words(&self.numbers)), format!("lend {lent}"), self.open_line()]
+    }
+
+    fn open_line(&mut self) -> String {
+        let (n, places) = (self.names.len(), self.numbers.places);
+        let first = comma_list(&first_constants(&mut self.random, n, places));
+        let second = comma_list(&second_constants(&mut self.random, n));
+        format!("open {} {} {first} {second}", five_words(&self.numbers), hex(&name_list(&self.names)))
+    }
+
+    fn line(&mut self) -> String {
+        if let Some(line) = self.planned.pop() {
+            return line;
+        }
+        match self.random.below(100) {
+            0..=49 => self.feed_line(),
+            50..=54 => self.batch_line(),
+            55..=57 => format!("close {}", self.lane()),
+            58..=90 => self.question_line(),
+            91..=94 => self.room_line(),
+            95..=97 => self.bad_opening_line(),
+            98 => self.bad_line(),
+            _ => self.memory_line(),
+        }
+    }
+
+    /// Mostly a lane that there is.
+    fn lane(&mut self) -> usize {
+        let lanes = self.numbers.lanes as usize;
+        if self.random.one_in(20) {
+            self.random.between(lanes, 8)
+        } else {
+            self.random.below(lanes)
+        }
+    }
+
+    /// A piece cut anywhere; what a feeding leaves behind the semicolon is fed next.
+    fn feed_line(&mut self) -> String {
+        let lane = self.lane();
+        let piece = self.piece(lane);
+        let taken = piece.iter().position(|b| *b == b';').map_or(piece.len(), |at| at + 1);
+        self.waiting[lane].drain(..taken);
+        format!("feed {lane} {}", hex(&piece))
+    }
+
+    fn batch_line(&mut self) -> String {
+        let lane = self.lane();
+        for _ in 0..self.random.below(4) {
+            self.refill(lane);
+        }
+        let piece = self.piece(lane);
+        self.waiting[lane].drain(..piece.len());
+        format!("batch {lane} {}", hex(&piece))
+    }
+
+    fn piece(&mut self, lane: usize) -> Vec<u8> {
+        if self.waiting[lane].is_empty() {
+            self.refill(lane);
+        }
+        let all = self.waiting[lane].len().min(LONGEST_PIECE);
+        let cut = self.random.between(0, all);
+        let long = *self.random.pick(&[cut, all, all]);
+        self.waiting[lane][..long].to_vec()
+    }
+
+    fn refill(&mut self, lane: usize) {
+        let mut text = one_text(&mut self.random, &self.names, &self.pool);
+        text.push(b';');
+        self.waiting[lane].extend(text);
+    }
+
+    fn question_line(&mut self) -> String {
+        let (a, b) = (self.small(), self.small());
+        let masks = (self.random.next() % 64, self.random.next() % 64);
+        match self.random.below(14) {
+            0 => "trees".to_string(),
+            1 => "count".to_string(),
+            2 => "splits".to_string(),
+            3 => format!("split {a}"),
+            4 => format!("tree {a}"),
+            5 => format!("one {a} {b}"),
+            6 => format!("two {a} {b}"),
+            7 => "matrix".to_string(),
+            8 => "strict".to_string(),
+            9 => "majority".to_string(),
+            10 => format!("write {a}"),
+            11 => "collisions".to_string(),
+            12 => format!("agree {} {}", masks.0, masks.1),
+            _ => format!("agree {} {}", self.random.next(), self.random.next()),
+        }
+    }
+
+    /// A tree or split number that is mostly there, or far from it.
+    fn small(&mut self) -> u64 {
+        let small = self.random.below(8) as u64;
+        let number = self.random.next();
+        *self.random.pick(&[small, small, small, small, small, 40, 1024, 1 << 32, number, u64::MAX])
+    }
+
+    fn room_line(&mut self) -> String {
+        let most = *self.random.pick(&[1, 10, 100, 3000]);
+        let room = self.random.between(0, most);
+        if self.random.one_in(2) {
+            "room -".to_string()
+        } else {
+            format!("room {room}")
+        }
+    }
+
+    /// An opening or a size with one number, list or name changed: nearly always refused, and then it changes nothing.
+    fn bad_opening_line(&mut self) -> String {
+        let numbers = changed_numbers(&mut self.random, self.numbers);
+        if self.random.one_in(2) {
+            return format!("size {}", five_words(&numbers));
+        }
+        let mut list = name_list(&self.names);
+        damage_names(&mut self.random, &mut list);
+        let zeros = comma_list(&vec![0; self.names.len() - self.random.below(2)]);
+        let numbers = if self.random.one_in(2) { numbers } else { self.numbers };
+        format!("open {} {} {zeros} {zeros}", five_words(&numbers), hex(&list))
+    }
+
+    fn bad_line(&mut self) -> String {
+        let lines = [
+            "",
+            " ",
+            "trees ",
+            " trees",
+            "tree",
+            "tree x",
+            "tree -1",
+            "tree 18446744073709551616",
+            "feed 0",
+            "feed 0 0",
+            "feed 0 0G",
+            "feed 0 AB",
+            "feed  0 -",
+            "close",
+            "close 0 0",
+            "open",
+            "agree 1",
+            "Trees",
+            "size 4 1 1 1",
+            "lend 1048577",
+            "peek 1048576 1",
+            "poke 1048576 00",
+            "room",
+            "room x",
+            "batch 0",
+        ];
+        self.random.pick(&lines).to_string()
+    }
+
+    /// Memory behind the store, the memory lent again, or the store opened again.
+    fn memory_line(&mut self) -> String {
+        let size = self.numbers.size().expect("numbers in range");
+        match self.random.below(6) {
+            0 => format!("peek {size} 1"),
+            1 => format!("poke {size} 07"),
+            2 => format!("peek {size} 0"),
+            3 => self.lend_again(size),
+            _ => self.open_line(),
+        }
+    }
+
+    /// Too little memory first; then enough, with calls before the opening.
+    fn lend_again(&mut self, size: u64) -> String {
+        let before = [self.question_line(), self.feed_line(), format!("close {}", self.lane())];
+        let open = self.open_line();
+        self.planned.push(open);
+        self.planned.extend(before);
+        self.planned.push(format!("lend {}", size + 5));
+        let open = self.open_line();
+        self.planned.push(open);
+        format!("lend {}", size - 1)
+    }
+}
+
+fn some_numbers(random: &mut Random, n: usize) -> Numbers {
+    let lanes = random.between(1, 8) as u64;
+    let tree_room = *random.pick(&[1, 5, 40, 1024, 1024]);
+    let split_room = *random.pick(&[1, n, 3 * n, 5 * n, 4096]);
+    let places = some_places(random, split_room);
+    Numbers { taxa: n as u64, lanes, tree_room, split_room: split_room as u64, places }
+}
+
+fn changed_numbers(random: &mut Random, numbers: Numbers) -> Numbers {
+    let mut changed = numbers;
+    let value = *random.pick(&[0, 1, 3, 4, 8, 9, 64, 65, 1024, 1025, 4096, 4097, 8192, 8193, u64::MAX]);
+    match random.below(5) {
+        0 => changed.taxa = value,
+        1 => changed.lanes = value,
+        2 => changed.tree_room = value,
+        3 => changed.split_room = value,
+        _ => changed.places = value,
+    }
+    changed
+}
+
+fn five_words(numbers: &Numbers) -> String {
+    let Numbers { taxa, lanes, tree_room, split_room, places } = numbers;
+    format!("{taxa} {lanes} {tree_room} {split_room} {places}")
+}
