@@ -20,31 +20,19 @@ use Rattle.theorems.specs.OpeningLaws.{GoodOpening, good-opening}
 use Rattle.head.specs.Head.{numbersAt, openingAt, namesAt, firstAt, secondAt}
 use Rattle.head.specs.HeadLaws.{first-at, second-at}
 use Rattle.head.specs.Index.{foundOf, Below}
-use Rattle.head.specs.IndexLaws.{below-at}
+use Rattle.head.specs.FindLaws.{found-at, found-nothing, below-at}
 use Rattle.head.specs.declared.Found.{Found}
 use Rattle.head.specs.declared.Found.the-variants.{At, Nothing}
 use Rattle.masks.specs.declared.Taxon.{Taxon}
 use Rattle.newick.specs.Gather.{constantOf, Leaves, leafBy, leafStep, LeafTaken, Prepared}
 use Rattle.newick.specs.declared.gather.Sums.{Sums}
 
--- ---- what the search says of the label
-
-found-none : (x : Option ℕ) → foundOf x ≡ Nothing → x ≡ none
-unfolding foundOf
-found-none none e = refl
-found-none (some k) e = let z : _≡_ {A = ℕ} 0 1 = cc in absurd (omega arith)
-
-found-some : (x : Option ℕ) (t : Taxon) → foundOf x ≡ At t → x ≡ some (t .0)
-unfolding foundOf
-found-some none t e = let z : _≡_ {A = ℕ} 0 1 = cc in absurd (omega arith)
-found-some (some k) t e = let z : _≡_ {A = Taxon} (record { 0 = k }) t = cc in ap (λ (u : Taxon). some (u .0)) z
-
 -- ---- a leaf that names no taxon
 
 module _ (o : Opening) (w : List ℕ) (l : Leaves) (f : Found) (e : f ≡ foundOf (taxonOf (o .names) w)) where
   module _ (n : f ≡ Nothing) where
     unknown : taxonOf (o .names) w ≡ none
-    unknown = found-none (taxonOf (o .names) w) (sym e ∙ n)
+    unknown = found-nothing (taxonOf (o .names) w) (sym n ∙ e)
 
     nothing-taken : (seen fault : ℕ) → record { seen = seen; fault = fault } ≡ leafStep (o .names) l w → LeafTaken o w l (record { mask = 0; place = 0; identifier = 0 }) seen fault
     unfolding taxon
@@ -61,7 +49,7 @@ module _ (o : Opening) (w : List ℕ) (l : Leaves) (f : Found) (e : f ≡ foundO
   -- ---- a leaf that names the taxon t
   module _ (t : Taxon) (n : f ≡ At t) (x : Sums) (m : x .mask ≡ 2 ^ t .0) (p : x .place ≡ getD (o .first) (t .0) 0) (i : x .identifier ≡ getD (o .second) (t .0) 0) where
     known : taxonOf (o .names) w ≡ some (t .0)
-    known = found-some (taxonOf (o .names) w) t (sym e ∙ n)
+    known = found-at (taxonOf (o .names) w) t (sym n ∙ e)
 
     taken : (seen fault : ℕ) → record { seen = seen; fault = fault } ≡ leafStep (o .names) l w → LeafTaken o w l x seen fault
     unfolding taxon

@@ -1,2 +1,3 @@
 // Reading a tree.
 mod gather;
+mod splits;

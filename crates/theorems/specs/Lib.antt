@@ -19,3 +19,14 @@ pub mod BranchLaws
 pub mod TreeOfLaws
 pub mod WrittenLaws
 pub mod WrittenFedLaws
+pub mod RecordedLaws
+pub mod HeldLaws
+pub mod Runs
+pub mod Alike
+pub mod AlikeLaws
+pub mod OwnLaneLaws
+pub mod PieceLaws
+pub mod RunLaws
+pub mod OutcomeLaws
+pub mod LaneLaws
+pub mod HashFree

@@ -31,12 +31,12 @@ unfolding written
 written-more ns s = length-append (shown (treeOf ns s)) (59 ∷ []) ∙ omega arith
 
 -- what feeding does, from its two tests: there is such a lane, the piece has a semicolon
-abbrev feedingBy : Bool → Bool → Held → ℕ → List ℕ → Fed
+abbrev pub feedingBy : Bool → Bool → Held → ℕ → List ℕ → Fed
 feedingBy true true h l p = finishing h l (suc (length (beforeSemicolon p))) (verdict h (longer (laneOf h l) (beforeSemicolon p)))
 feedingBy true false h l p = record { taken = length p; answer = gives moreWanted; after = withLane h l (longer (laneOf h l) p) }
 feedingBy false c h l p = record { taken = 0; answer = refused 5; after = h }
 
-feeding-by : (h : Held) (l : ℕ) (p : List ℕ) → feeding h l p ≡ feedingBy (ltb l (h .opening .numbers .lanes)) (member 59 p) h l p
+pub feeding-by : (h : Held) (l : ℕ) (p : List ℕ) → feeding h l p ≡ feedingBy (ltb l (h .opening .numbers .lanes)) (member 59 p) h l p
 unfolding feeding
 feeding-by h l p = go (ltb l (h .opening .numbers .lanes)) (member 59 p)
   where

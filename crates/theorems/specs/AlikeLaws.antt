@@ -1,0 +1,124 @@
+-- Laws of alike collections: verdicts, feeding, closing and questions have the same answers.
+--
+--   verdict-alike                  the verdict on a lane's text
+--   feeding-alike, closing-alike   feeding and closing a lane that holds the same
+--   questions-alike                every question but that for the collision number
+--   closing-by                     what closing does, from its test
+use Prim.Native.Nat.{ℕ, suc, _+_}
+use mathlib.Core.Path.{_≡_, refl, ap, sym, _∙_, subst}
+use mathlib.Core.Bool.{Bool, true, false, not}
+use mathlib.Core.List.{List, [], _∷_, _++_}
+use lib.Dec.{ltb, eqb}
+use lib.ListN.{length}
+use Rattle.trees.specs.Plain.{if_then_else_, keep, member, Answer, refused, gives}
+use Rattle.trees.specs.Consensus.{recorded}
+use Rattle.trees.specs.Verdict.{judged}
+use Rattle.trees.specs.Held.{Held, Lane, holding, overrun, laneOf, withLane, withTree, longer, newSplits, roomFor, withRoom, verdict, accepted, beforeSemicolon, finished, recording, finishing, feeding, Closed, closed, closing}
+use Rattle.trees.specs.Questions.{treesHeld, splitsHeld, splitList, splitNumber, treeNumber, oneSidedOf, doubledOf, matrixOf, strictOf, majorityOf, writtenOf}
+use Rattle.theorems.specs.WrittenFedLaws.{feedingBy, feeding-by}
+use Rattle.theorems.specs.Alike.{Alike, SameFed, SameClosed, SameAnswers}
+
+-- ---- closing by its test
+
+-- what closing does, from its test: there is such a lane
+abbrev pub closingBy : Bool → Held → ℕ → Closed
+closingBy true h l = record { answer = closed (laneOf h l); after = withLane h l (holding []) }
+closingBy false h l = record { answer = refused 5; after = h }
+
+pub closing-by : (h : Held) (l : ℕ) → closing h l ≡ closingBy (ltb l (h .opening .numbers .lanes)) h l
+unfolding closing
+closing-by h l = go (ltb l (h .opening .numbers .lanes))
+  where
+    go : (b : Bool) → (if b then record { answer = closed (laneOf h l); after = withLane h l (holding []) } else record { answer = refused 5; after = h }) ≡ closingBy b h l
+    go true = refl
+    go false = refl
+
+-- ---- verdicts
+
+-- the room for a tree, from what it depends on
+abbrev roomBy : ℕ → ℕ → List (List ℕ) → List ℕ → Answer (List ℕ)
+roomBy treeRoom splitRoom ts t =
+    if eqb (length ts) treeRoom then refused 11
+    else if ltb splitRoom (length (recorded ts) + length (keep (λ m. not (member m (recorded ts))) t)) then refused 12
+    else gives t
+
+module _ (h k : Held) (a : Alike h k) where
+  room-alike : (t : List ℕ) → roomFor h t ≡ roomFor k t
+  unfolding roomFor newSplits
+  room-alike t = λ i. roomBy (a .treeRoom i) (a .splitRoom i) (a .trees i) t
+
+  withRoom-alike : (v : Answer (List ℕ)) → withRoom h v ≡ withRoom k v
+  unfolding withRoom
+  withRoom-alike (refused n) = refl
+  withRoom-alike (gives t) = room-alike t
+
+  pub verdict-alike : (x : Lane) → verdict h x ≡ verdict k x
+  unfolding verdict
+  verdict-alike overrun = refl
+  verdict-alike (holding s) = withRoom-alike (judged (h .opening .names) s) ∙ ap (λ ns. withRoom k (judged ns s)) (a .names)
+
+  -- ---- feeding
+
+  lane-alike : (l : ℕ) (x y : Lane) → Alike (withLane h l x) (withLane k l y)
+  unfolding withLane
+  lane-alike l x y = record { names = a .names; lanes = a .lanes; treeRoom = a .treeRoom; splitRoom = a .splitRoom; trees = a .trees }
+
+  finishing-alike : (l n : ℕ) (v : Answer (List ℕ)) → SameFed (finishing h l n v) (finishing k l n v)
+  unfolding finishing finished recording withTree withLane
+  finishing-alike l n (refused r) = record { taken = refl; answer = refl; after = lane-alike l (holding []) (holding []) }
+  finishing-alike l n (gives t) =
+      record {
+        taken = refl;
+        answer = λ i. gives (accepted (length (a .trees i)));
+        after = record { names = a .names; lanes = a .lanes; treeRoom = a .treeRoom; splitRoom = a .splitRoom; trees = λ i. a .trees i ++ t ∷ [] };
+      }
+
+  fed-alike : (l : ℕ) (p : List ℕ) (b c : Bool) → laneOf h l ≡ laneOf k l → SameFed (feedingBy b c h l p) (feedingBy b c k l p)
+  fed-alike l p true true e =
+      let q = beforeSemicolon p in
+      let v : verdict h (longer (laneOf h l) q) ≡ verdict k (longer (laneOf k l) q) = ap (λ (x : Lane). verdict h (longer x q)) e ∙ verdict-alike (longer (laneOf k l) q) in
+      subst (λ (w : Answer (List ℕ)). SameFed (finishing h l (suc (length q)) (verdict h (longer (laneOf h l) q))) (finishing k l (suc (length q)) w)) v
+      (finishing-alike l (suc (length q)) (verdict h (longer (laneOf h l) q)))
+  fed-alike l p true false e = record { taken = refl; answer = refl; after = lane-alike l (longer (laneOf h l) p) (longer (laneOf k l) p) }
+  fed-alike l p false c e = record { taken = refl; answer = refl; after = a }
+
+  pub feeding-alike : (l : ℕ) (p : List ℕ) → laneOf h l ≡ laneOf k l → SameFed (feeding h l p) (feeding k l p)
+  feeding-alike l p e =
+      let forth : feeding k l p ≡ feedingBy (ltb l (h .opening .numbers .lanes)) (member 59 p) k l p = feeding-by k l p ∙ ap (λ n. feedingBy (ltb l n) (member 59 p) k l p) (sym (a .lanes)) in
+      subst (λ f. SameFed f (feeding k l p)) (sym (feeding-by h l p))
+      (subst (SameFed (feedingBy (ltb l (h .opening .numbers .lanes)) (member 59 p) h l p)) (sym forth) (fed-alike l p (ltb l (h .opening .numbers .lanes)) (member 59 p) e))
+
+  -- ---- closing
+
+  shut-alike : (l : ℕ) (b : Bool) → laneOf h l ≡ laneOf k l → SameClosed (closingBy b h l) (closingBy b k l)
+  shut-alike l true e = record { answer = ap closed e; after = lane-alike l (holding []) (holding []) }
+  shut-alike l false e = record { answer = refl; after = a }
+
+  pub closing-alike : (l : ℕ) → laneOf h l ≡ laneOf k l → SameClosed (closing h l) (closing k l)
+  closing-alike l e =
+      let forth : closing k l ≡ closingBy (ltb l (h .opening .numbers .lanes)) k l = closing-by k l ∙ ap (λ n. closingBy (ltb l n) k l) (sym (a .lanes)) in
+      subst (λ f. SameClosed f (closing k l)) (sym (closing-by h l))
+      (subst (SameClosed (closingBy (ltb l (h .opening .numbers .lanes)) h l)) (sym forth) (shut-alike l (ltb l (h .opening .numbers .lanes)) e))
+
+-- ---- questions
+
+-- a collection with these names and trees, and nothing else: what the questions come from
+abbrev bare : List (List ℕ) → List (List ℕ) → Held
+bare ns ts = record { opening = record { numbers = record { taxa = 0; lanes = 0; treeRoom = 0; splitRoom = 0; places = 0 }; names = ns; first = []; second = [] }; trees = ts; texts = [] }
+
+pub questions-alike : (h k : Held) → Alike h k → SameAnswers h k
+unfolding treesHeld splitsHeld splitList splitNumber treeNumber oneSidedOf doubledOf matrixOf strictOf majorityOf writtenOf
+questions-alike h k a =
+    record {
+      number-of-trees = λ z. treesHeld (bare (a .names z) (a .trees z));
+      number-of-splits = λ z. splitsHeld (bare (a .names z) (a .trees z));
+      splits-and-counts = λ m c z. splitList (bare (a .names z) (a .trees z)) m c;
+      split-and-count = λ s z. splitNumber (bare (a .names z) (a .trees z)) s;
+      splits-of-tree = λ i r z. treeNumber (bare (a .names z) (a .trees z)) i r;
+      one-sided = λ i j z. oneSidedOf (bare (a .names z) (a .trees z)) i j;
+      doubled = λ i j z. doubledOf (bare (a .names z) (a .trees z)) i j;
+      matrix = λ r z. matrixOf (bare (a .names z) (a .trees z)) r;
+      strict = λ r z. strictOf (bare (a .names z) (a .trees z)) r;
+      majority = λ r z. majorityOf (bare (a .names z) (a .trees z)) r;
+      written = λ i r z. writtenOf (bare (a .names z) (a .trees z)) i r;
+    }

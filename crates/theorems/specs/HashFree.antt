@@ -1,0 +1,100 @@
+-- The number of places and the constants make no difference, save to the collision number: "After an accepted opening ..
+-- it is the only answer that may depend on m or the constants."
+--
+--   alike-run                      alike collections with the same unfinished texts answer every run of calls the same
+--   constants-make-no-difference   so do two openings that differ in the number of places and in the constants
+use Prim.Native.Nat.{ℕ}
+use mathlib.Core.Path.{_≡_, refl, ap, ap₂, sym, _∙_}
+use mathlib.Core.List.{List, [], _∷_}
+use lib.Dec.{ltb}
+use lib.ListN.{getD, replicate}
+use Rattle.trees.specs.Plain.{gives}
+use Rattle.trees.specs.Opening.{Numbers, Opening, opening}
+use Rattle.trees.specs.Held.{Held, Lane, holding, opened, laneOf, feeding, closing}
+use Rattle.theorems.specs.HeldLaws.{Accepted, opening-accepted}
+use Rattle.theorems.specs.Runs.{Call, feed, close, Heard, fed, closed, answer, next, answers, ending}
+use Rattle.theorems.specs.Alike.{Alike, withPlaces, SameRun}
+use Rattle.theorems.specs.AlikeLaws.{feeding-alike, closing-alike, questions-alike}
+use Rattle.theorems.specs.OwnLaneLaws.{laneAfter, lanesAfter, feeding-texts, closing-texts}
+
+-- ---- one call
+
+-- alike, and the same unfinished texts
+record Same (h k : Held) : Type 0 where
+  alike : Alike h k
+  texts : h .texts ≡ k .texts
+
+module _ (h k : Held) (s : Same h k) (l : ℕ) where
+  same-lane : laneOf h l ≡ laneOf k l
+  unfolding laneOf
+  same-lane = ap (λ (xs : List Lane). getD xs l (holding [])) (s .texts)
+
+  same-lanes : (x y : Lane) → x ≡ y → lanesAfter (ltb l (h .opening .numbers .lanes)) (h .texts) l x ≡ lanesAfter (ltb l (k .opening .numbers .lanes)) (k .texts) l y
+  same-lanes x y e = λ i. lanesAfter (ltb l (s .alike .lanes i)) (s .texts i) l (e i)
+
+  feeding-same : (p : List ℕ) → Same (feeding h l p .after) (feeding k l p .after)
+  feeding-same p =
+      record {
+        alike = feeding-alike h k (s .alike) l p same-lane .after;
+        texts = feeding-texts h l p ∙ same-lanes (laneAfter (laneOf h l) p) (laneAfter (laneOf k l) p) (ap (λ (x : Lane). laneAfter x p) same-lane) ∙ sym (feeding-texts k l p);
+      }
+
+  closing-same : Same (closing h l .after) (closing k l .after)
+  closing-same =
+      record {
+        alike = closing-alike h k (s .alike) l same-lane .after;
+        texts = closing-texts h l ∙ same-lanes (holding []) (holding []) refl ∙ sym (closing-texts k l);
+      }
+
+  feeding-heard : (p : List ℕ) → answer h (feed l p) ≡ answer k (feed l p)
+  unfolding answer
+  feeding-heard p = let f = feeding-alike h k (s .alike) l p same-lane in λ i. fed (f .taken i) (f .answer i)
+
+  closing-heard : answer h (close l) ≡ answer k (close l)
+  unfolding answer
+  closing-heard = ap closed (closing-alike h k (s .alike) l same-lane .answer)
+
+-- ---- a run of calls
+
+run-answers : (h k : Held) → Same h k → (cs : List Call) → answers h cs ≡ answers k cs
+unfolding answers next
+run-answers h k s [] = refl
+run-answers h k s (feed l p ∷ cs) = ap₂ (λ (a : Heard) (r : List Heard). a ∷ r) (feeding-heard h k s l p) (run-answers (feeding h l p .after) (feeding k l p .after) (feeding-same h k s l p) cs)
+run-answers h k s (close l ∷ cs) = ap₂ (λ (a : Heard) (r : List Heard). a ∷ r) (closing-heard h k s l) (run-answers (closing h l .after) (closing k l .after) (closing-same h k s l) cs)
+
+run-same : (h k : Held) → Same h k → (cs : List Call) → Same (ending h cs) (ending k cs)
+unfolding ending next
+run-same h k s [] = s
+run-same h k s (feed l p ∷ cs) = run-same (feeding h l p .after) (feeding k l p .after) (feeding-same h k s l p) cs
+run-same h k s (close l ∷ cs) = run-same (closing h l .after) (closing k l .after) (closing-same h k s l) cs
+
+pub alike-run : (h k : Held) → Alike h k → h .texts ≡ k .texts → (cs : List Call) → SameRun h k cs
+alike-run h k a e cs =
+    let s : Same h k = record { alike = a; texts = e } in
+    let r = run-same h k s cs in
+    record { heard = run-answers h k s cs; trees = r .alike .trees; texts = r .texts; questions = questions-alike (ending h cs) (ending k cs) (r .alike) }
+
+-- ---- the theorem
+
+module _ (x : Numbers) (m : ℕ) (nameList first second first′ second′ : List ℕ) (lent lent′ : ℕ) (o q : Opening) where
+  opened-alike : Accepted x nameList o → Accepted (withPlaces x m) nameList q → Alike (opened o) (opened q)
+  unfolding opened withPlaces
+  opened-alike a b =
+      let e : (f : Numbers → ℕ) → f (o .numbers) ≡ f x = λ f. ap f (a .numbers-as-given) in
+      let d : (f : Numbers → ℕ) → f (withPlaces x m) ≡ f (q .numbers) = λ f. sym (ap f (b .numbers-as-given)) in
+      record {
+        names = a .names-as-given ∙ sym (b .names-as-given);
+        lanes = e (λ y. y .lanes) ∙ d (λ y. y .lanes);
+        treeRoom = e (λ y. y .treeRoom) ∙ d (λ y. y .treeRoom);
+        splitRoom = e (λ y. y .splitRoom) ∙ d (λ y. y .splitRoom);
+        trees = refl;
+      }
+
+  opened-texts : Alike (opened o) (opened q) → opened o .texts ≡ opened q .texts
+  unfolding opened
+  opened-texts a = ap (λ n. replicate n (holding [])) (a .lanes)
+
+  pub constants-make-no-difference : opening x nameList first second lent ≡ gives o → opening (withPlaces x m) nameList first′ second′ lent′ ≡ gives q → (cs : List Call) → SameRun (opened o) (opened q) cs
+  constants-make-no-difference e d cs =
+      let a = opened-alike (opening-accepted x nameList first second lent o e) (opening-accepted (withPlaces x m) nameList first′ second′ lent′ q d) in
+      alike-run (opened o) (opened q) a (opened-texts a) cs

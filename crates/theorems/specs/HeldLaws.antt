@@ -1,0 +1,214 @@
+-- "Whole" is kept: a collection just opened is whole, and feeding and closing a whole one leave it whole.
+--
+--   Whole h             what the test of a whole collection says, as facts
+--   verdict-fits        a tree that a verdict gives is in order, and there is room for it
+--   opening-accepted    what an accepted opening fixes
+--   opened-whole, feeding-whole, closing-whole    the calls keep "whole"
+use Prim.Native.Nat.{ℕ, zero, suc, _+_, _≤_, _<_}
+use native.Mathlib.Omega.{arith}
+use mathlib.Core.Path.{_≡_, refl, _∙_, subst}
+use mathlib.Core.Bool.{Bool, true, _&&_}
+use mathlib.Core.List.{List, [], _∷_, _++_}
+use lib.Dec.{leb, ltb, eqb}
+use lib.ListN.{length, set, replicate, length-append, length-set, length-replicate}
+use borrow.Author.Tests.{ltb-false, leb-true, le-leb, eqb-true, eqb-false, eq-eqb}
+use Rattle.trees.specs.Plain.{every, member, Answer, refused, gives}
+use Rattle.trees.specs.Names.{namesIn, goodNames}
+use Rattle.trees.specs.Consensus.{recorded}
+use Rattle.trees.specs.Verdict.{judged}
+use Rattle.trees.specs.Opening.{Numbers, Opening, inRange, goodConstants, storeSize, opening}
+use Rattle.trees.specs.Held.{Held, Lane, holding, overrun, mostText, opened, laneOf, withLane, withTree, longer, newSplits, roomFor, withRoom, verdict, Fed, beforeSemicolon, recording, finishing, feeding, Closed, closing}
+use Rattle.trees.specs.Whole.{goodTree, goodLane, goodOpening, whole}
+use Rattle.theorems.specs.ListLaws.{by-test, and-left, and-right, and-true}
+use Rattle.theorems.specs.RisingLaws.{rising-true}
+use Rattle.theorems.specs.RecordedLaws.{recorded-more}
+use Rattle.theorems.specs.VerdictLaws.{judged-good}
+use Rattle.theorems.specs.OpeningLaws.{both, named}
+use Rattle.theorems.specs.ConsensusLaws.{good-rising}
+
+-- ---- the test and the facts
+
+pub record Whole (h : Held) : Type 0 where
+  pub opening-good : goodOpening (h .opening) ≡ true
+  pub trees-good : every (goodTree (h .opening .numbers .taxa)) (h .trees) ≡ true
+  pub trees-fit : length (h .trees) ≤ h .opening .numbers .treeRoom
+  pub splits-fit : length (recorded (h .trees)) ≤ h .opening .numbers .splitRoom
+  pub lanes-count : length (h .texts) ≡ h .opening .numbers .lanes
+  pub lanes-good : every goodLane (h .texts) ≡ true
+
+pub whole-facts : (h : Held) → whole h ≡ true → Whole h
+unfolding whole
+whole-facts h e =
+    let a = both (goodOpening (h .opening)) _ e in
+    let b = both (every (goodTree (h .opening .numbers .taxa)) (h .trees)) _ (a .1) in
+    let c = both (leb (length (h .trees)) (h .opening .numbers .treeRoom)) _ (b .1) in
+    let d = both (leb (length (recorded (h .trees))) (h .opening .numbers .splitRoom)) _ (c .1) in
+    let f = both (eqb (length (h .texts)) (h .opening .numbers .lanes)) (every goodLane (h .texts)) (d .1) in
+    record {
+      opening-good = a .0;
+      trees-good = b .0;
+      trees-fit = leb-true _ _ (c .0);
+      splits-fit = leb-true _ _ (d .0);
+      lanes-count = eqb-true _ _ (f .0);
+      lanes-good = f .1;
+    }
+
+pub facts-whole : (h : Held) → Whole h → whole h ≡ true
+unfolding whole
+facts-whole h w =
+    and-true (w .opening-good)
+    (and-true (w .trees-good) (and-true (le-leb _ _ (w .trees-fit)) (and-true (le-leb _ _ (w .splits-fit)) (and-true (eq-eqb _ _ (w .lanes-count)) (w .lanes-good)))))
+
+-- ---- lanes
+
+pub every-set : {A : Type 0} (p : A → Bool) (l : List A) (i : ℕ) (x : A) → p x ≡ true → every p l ≡ true → every p (set l i x) ≡ true
+unfolding every
+every-set p [] i x h e = refl
+every-set p (y ∷ l) zero x h e = and-true h (and-right (p y) (every p l) e)
+every-set p (y ∷ l) (suc i) x h e = and-true (and-left (p y) (every p l) e) (every-set p l i x h (and-right (p y) (every p l) e))
+
+pub every-replicate : {A : Type 0} (p : A → Bool) (n : ℕ) (x : A) → p x ≡ true → every p (replicate n x) ≡ true
+unfolding every
+every-replicate p zero x h = refl
+every-replicate p (suc n) x h = and-true h (every-replicate p n x h)
+
+empty-good : goodLane (holding []) ≡ true
+unfolding goodLane
+empty-good = refl
+
+-- "Past 4,096 held bytes, blanks counted, the lane drops bytes"
+longer-good : (x : Lane) (p : List ℕ) → goodLane (longer x p) ≡ true
+unfolding longer goodLane
+longer-good overrun p = refl
+longer-good (holding s) p =
+    by-test (λ (y : Lane). goodLane y ≡ true) (ltb mostText (length (s ++ p))) (λ e. refl) (λ e. le-leb (length (s ++ p)) mostText (ltb-false mostText (length (s ++ p)) e))
+
+lane-whole : (h : Held) (l : ℕ) (x : Lane) → goodLane x ≡ true → Whole h → Whole (withLane h l x)
+unfolding withLane
+lane-whole h l x g w =
+    record {
+      opening-good = w .opening-good;
+      trees-good = w .trees-good;
+      trees-fit = w .trees-fit;
+      splits-fit = w .splits-fit;
+      lanes-count = length-set (h .texts) l x ∙ w .lanes-count;
+      lanes-good = every-set goodLane (h .texts) l x g (w .lanes-good);
+    }
+
+-- ---- a tree that is accepted
+
+-- of a verdict: a tree that it gives is in order, and there is room for it
+pub record Fitting (h : Held) (t : List ℕ) : Type 0 where
+  pub good : goodTree (h .opening .numbers .taxa) t ≡ true
+  pub tree-room : length (h .trees) < h .opening .numbers .treeRoom
+  pub split-room : length (recorded (h .trees)) + length (newSplits h t) ≤ h .opening .numbers .splitRoom
+
+abbrev pub Fits : Held → Answer (List ℕ) → Type 0
+Fits h (refused k) = Unit {0}
+Fits h (gives t) = Fitting h t
+
+room-fits : (h : Held) → Whole h → (t : List ℕ) → goodTree (h .opening .numbers .taxa) t ≡ true → Fits h (roomFor h t)
+unfolding roomFor
+room-fits h w t g =
+    by-test (Fits h) (eqb (length (h .trees)) (h .opening .numbers .treeRoom)) (λ e. tt)
+    (λ e. by-test (Fits h) (ltb (h .opening .numbers .splitRoom) (length (recorded (h .trees)) + length (newSplits h t))) (λ q. tt)
+    (λ q. record { good = g; tree-room = omega (arith, w .trees-fit, eqb-false (length (h .trees)) (h .opening .numbers .treeRoom) e); split-room = ltb-false _ _ q }))
+
+names-count : (o : Opening) → goodOpening o ≡ true → length (o .names) ≡ o .numbers .taxa
+unfolding goodOpening
+names-count o e = named (o .numbers .taxa) (o .names) (and-right (goodConstants (o .numbers) (o .first) (o .second)) _ (and-right (inRange (o .numbers)) _ e)) .count
+
+pub verdict-fits : (h : Held) → Whole h → (x : Lane) → Fits h (verdict h x)
+unfolding verdict withRoom
+verdict-fits h w overrun = tt
+verdict-fits h w (holding s) = go (judged (h .opening .names) s) refl
+  where
+    go : (a : Answer (List ℕ)) → judged (h .opening .names) s ≡ a → Fits h (withRoom h a)
+    go (refused k) e = tt
+    go (gives t) e = room-fits h w t (subst (λ n. goodTree n t ≡ true) (names-count (h .opening) (w .opening-good)) (judged-good (h .opening .names) s t e))
+
+every-append : {A : Type 0} (p : A → Bool) (l : List A) (x : A) → every p l ≡ true → p x ≡ true → every p (l ++ x ∷ []) ≡ true
+unfolding every
+every-append p [] x e h = and-true h refl
+every-append p (y ∷ l) x e h = and-true (and-left (p y) (every p l) e) (every-append p l x (and-right (p y) (every p l) e) h)
+
+splits-more : (h : Held) (t : List ℕ) → Fitting h t → length (recorded (h .trees ++ t ∷ [])) ≡ length (recorded (h .trees)) + length (newSplits h t)
+unfolding newSplits
+splits-more h t f = recorded-more (h .trees) t (rising-true t (good-rising (h .opening .numbers .taxa) t (f .good)))
+
+tree-whole : (h : Held) (t : List ℕ) → Whole h → Fitting h t → Whole (withTree h t)
+unfolding withTree
+tree-whole h t w f =
+    record {
+      opening-good = w .opening-good;
+      trees-good = every-append (goodTree (h .opening .numbers .taxa)) (h .trees) t (w .trees-good) (f .good);
+      trees-fit = omega (arith, length-append (h .trees) (t ∷ []), f .tree-room);
+      splits-fit = omega (arith, splits-more h t f, f .split-room);
+      lanes-count = w .lanes-count;
+      lanes-good = w .lanes-good;
+    }
+
+recording-whole : (h : Held) (v : Answer (List ℕ)) → Whole h → Fits h v → Whole (recording h v)
+unfolding recording
+recording-whole h (refused k) w f = w
+recording-whole h (gives t) w f = tree-whole h t w f
+
+-- ---- the calls
+
+-- what an opening that is accepted fixes
+pub record Accepted (x : Numbers) (nameList : List ℕ) (o : Opening) : Type 0 where
+  pub good : goodOpening o ≡ true
+  pub numbers-as-given : o .numbers ≡ x
+  pub names-as-given : o .names ≡ namesIn nameList
+
+abbrev IfAccepted : Numbers → List ℕ → Answer Opening → Type 0
+IfAccepted x nameList (refused k) = Unit {0}
+IfAccepted x nameList (gives o) = Accepted x nameList o
+
+module _ (x : Numbers) (nameList first second : List ℕ) (lent : ℕ) (o : Opening) (e : opening x nameList first second lent ≡ gives o) where
+  pub opening-accepted : Accepted x nameList o
+  unfolding opening goodOpening
+  opening-accepted =
+      subst (IfAccepted x nameList) e
+      (by-test (IfAccepted x nameList) (inRange x && goodConstants x first second)
+      (λ a. by-test (IfAccepted x nameList) (goodNames (x .taxa) (namesIn nameList))
+      (λ b. by-test (IfAccepted x nameList) (leb (storeSize x) lent)
+      (λ c. let r = both (inRange x) (goodConstants x first second) a in record { good = and-true (r .0) (and-true (r .1) b); numbers-as-given = refl; names-as-given = refl })
+      (λ c. tt))
+      (λ b. tt))
+      (λ a. tt))
+
+  pub opened-whole : whole (opened o) ≡ true
+  unfolding opened recorded every
+  opened-whole =
+      facts-whole (opened o)
+      record {
+        opening-good = opening-accepted .good;
+        trees-good = refl;
+        trees-fit = omega arith;
+        splits-fit = omega arith;
+        lanes-count = length-replicate (o .numbers .lanes) (holding []);
+        lanes-good = every-replicate goodLane (o .numbers .lanes) (holding []) empty-good;
+      }
+
+-- "After a semicolon the lane is empty either way"
+finishing-whole : (h : Held) (l n : ℕ) (v : Answer (List ℕ)) → Whole h → Fits h v → Whole (finishing h l n v .after)
+unfolding finishing
+finishing-whole h l n v w f = lane-whole (recording h v) l (holding []) empty-good (recording-whole h v w f)
+
+feeding-facts : (h : Held) (l : ℕ) (p : List ℕ) → Whole h → Whole (feeding h l p .after)
+unfolding feeding
+feeding-facts h l p w =
+    by-test (λ (f : Fed). Whole (f .after)) (ltb l (h .opening .numbers .lanes))
+    (λ e. by-test (λ (f : Fed). Whole (f .after)) (member 59 p)
+    (λ d. let x = longer (laneOf h l) (beforeSemicolon p) in finishing-whole h l (suc (length (beforeSemicolon p))) (verdict h x) w (verdict-fits h w x))
+    (λ d. lane-whole h l _ (longer-good (laneOf h l) p) w))
+    (λ e. w)
+
+pub feeding-whole : (h : Held) (l : ℕ) (p : List ℕ) → whole h ≡ true → whole (feeding h l p .after) ≡ true
+feeding-whole h l p e = facts-whole (feeding h l p .after) (feeding-facts h l p (whole-facts h e))
+
+pub closing-whole : (h : Held) (l : ℕ) → whole h ≡ true → whole (closing h l .after) ≡ true
+unfolding closing
+closing-whole h l e =
+    by-test (λ (c : Closed). whole (c .after) ≡ true) (ltb l (h .opening .numbers .lanes)) (λ _. facts-whole _ (lane-whole h l (holding []) empty-good (whole-facts h e))) (λ _. e)

@@ -1,0 +1,137 @@
+-- What a run of calls comes to, call by call, on a collection whose lanes hold pending bytes.
+--
+--   outcome h cs        the verdicts of a run, and the trees at its end
+--   state o ts us       a collection with the trees ts, each lane of which was empty and got its bytes of us
+--   judgement o ts w    the verdict on the text w: it does not depend on what the lanes hold
+--   outcome-text, outcome-more, outcome-closed    one call to a lane
+--   outcome-no-lane, outcome-not-closed           one call to a lane that does not exist
+use Prim.Native.Nat.{ℕ, suc}
+use mathlib.Core.Path.{_≡_, refl, ap, ap₂, sym, _∙_}
+use mathlib.Core.Bool.{Bool, true, false}
+use mathlib.Core.List.{List, [], _∷_, _++_, map}
+use lib.Dec.{ltb}
+use lib.ListN.{length, getD, set, List·getD-map}
+use Rattle.trees.specs.Plain.{member, Answer, refused, gives}
+use Rattle.trees.specs.Opening.{Opening}
+use Rattle.trees.specs.Held.{Held, Lane, holding, laneOf, withLane, withTree, longer, verdict, Progress, moreWanted, accepted, beforeSemicolon, Fed, finished, recording, finishing, feeding, Closed, closed, closing}
+use Rattle.theorems.specs.WrittenFedLaws.{feedingBy, feeding-by}
+use Rattle.theorems.specs.Runs.{Call, feed, close, fed, answer, next, answers, ending, Verdict, acceptedAs, refusedWith, closedWith, verdicts}
+use Rattle.theorems.specs.Alike.{Alike}
+use Rattle.theorems.specs.AlikeLaws.{closingBy, closing-by, verdict-alike}
+use Rattle.theorems.specs.PieceLaws.{longer-longer, text, map-set}
+
+-- ---- what a run comes to
+
+-- its verdicts and the trees at its end
+abbrev pub Outcome : Type 0
+Outcome = List Verdict × List (List ℕ)
+
+unfoldable pub outcome : Held → List Call → Outcome
+unfolding verdicts answers ending
+outcome h cs = (verdicts (answers h cs), ending h cs .trees)
+
+-- an answer to a piece, and then the rest of the run
+unfoldable pub noted : Answer Progress → Outcome → Outcome
+noted (gives moreWanted) r = r
+noted (gives (accepted t)) r = (acceptedAs t ∷ r .0, r .1)
+noted (refused k) r = (refusedWith k ∷ r .0, r .1)
+
+pub outcome-feed : (h : Held) (l : ℕ) (p : List ℕ) (cs : List Call) → outcome h (feed l p ∷ cs) ≡ noted (feeding h l p .answer) (outcome (feeding h l p .after) cs)
+unfolding outcome noted answer next
+outcome-feed h l p cs = go (feeding h l p .answer)
+  where
+    go : (a : Answer Progress) → (verdicts (fed (feeding h l p .taken) a ∷ answers (feeding h l p .after) cs), ending (feeding h l p .after) cs .trees) ≡ noted a (outcome (feeding h l p .after) cs)
+    go (gives moreWanted) = refl
+    go (gives (accepted t)) = refl
+    go (refused k) = refl
+
+-- a closing's answer, and then the rest of the run
+abbrev pub shut : Closed → List Call → Outcome
+shut c cs = (closedWith (c .answer) ∷ outcome (c .after) cs .0, outcome (c .after) cs .1)
+
+pub outcome-close : (h : Held) (l : ℕ) (cs : List Call) → outcome h (close l ∷ cs) ≡ shut (closing h l) cs
+unfolding outcome answer next
+outcome-close h l cs = refl
+
+-- ---- a collection whose lanes hold pending bytes
+
+module _ (o : Opening) where
+  abbrev pub state : List (List ℕ) → List (List ℕ) → Held
+  state ts us = record { opening = o; trees = ts; texts = map text us }
+
+  state-lane : (ts us : List (List ℕ)) (l : ℕ) → laneOf (state ts us) l ≡ text (getD us l [])
+  unfolding laneOf longer
+  state-lane ts us l = List·getD-map text us l []
+
+  state-set : (ts us : List (List ℕ)) (l : ℕ) (u : List ℕ) → withLane (state ts us) l (text u) ≡ state ts (set us l u)
+  unfolding withLane
+  state-set ts us l u = ap (λ (xs : List Lane). record { opening = o; trees = ts; texts = xs }) (sym (map-set text us l u))
+
+  -- the trees with the one that a verdict gives
+  abbrev pub grown : List (List ℕ) → Answer (List ℕ) → List (List ℕ)
+  grown ts (refused k) = ts
+  grown ts (gives t) = ts ++ t ∷ []
+
+  -- a verdict on the text w, whatever the lanes hold
+  pub judgement : List (List ℕ) → List ℕ → Answer (List ℕ)
+  judgement ts w = verdict (state ts []) (text w)
+
+  -- what feeding answers and leaves when the text w of lane l ends
+  abbrev pub ended : List (List ℕ) → List (List ℕ) → ℕ → ℕ → Answer (List ℕ) → Fed
+  ended ts us l n v = record { taken = n; answer = finished (state ts []) v; after = state (grown ts v) (set us l []) }
+
+  state-finishing : (ts us : List (List ℕ)) (l n : ℕ) (v : Answer (List ℕ)) → finishing (state ts us) l n v ≡ ended ts us l n v
+  unfolding finishing finished recording withTree longer
+  state-finishing ts us l n (refused k) = ap (λ (h : Held). record { taken = n; answer = refused k; after = h }) (state-set ts us l [])
+  state-finishing ts us l n (gives t) = ap (λ (h : Held). record { taken = n; answer = gives (accepted (length ts)); after = h }) (state-set (ts ++ t ∷ []) us l [])
+
+  -- the verdict v on the text of lane l, and then the rest of the run
+  abbrev pub judgedThen : List (List ℕ) → List (List ℕ) → ℕ → List Call → Answer (List ℕ) → Outcome
+  judgedThen ts us l cs v = noted (finished (state ts []) v) (outcome (state (grown ts v) (set us l [])) cs)
+
+  -- ---- one call
+
+  state-alike : (ts us vs : List (List ℕ)) → Alike (state ts us) (state ts vs)
+  state-alike ts us vs = record { names = refl; lanes = refl; treeRoom = refl; splitRoom = refl; trees = refl }
+
+  state-verdict : (ts us : List (List ℕ)) (l : ℕ) (q : List ℕ) → verdict (state ts us) (longer (laneOf (state ts us) l) q) ≡ judgement ts (getD us l [] ++ q)
+  unfolding judgement
+  state-verdict ts us l q =
+      verdict-alike (state ts us) (state ts []) (state-alike ts us []) (longer (laneOf (state ts us) l) q)
+      ∙ ap (verdict (state ts [])) (ap (λ (x : Lane). longer x q) (state-lane ts us l) ∙ longer-longer (holding []) (getD us l []) q)
+
+  module _ (ts us : List (List ℕ)) (l : ℕ) where
+    feeding-as : (p : List ℕ) (b c : Bool) → ltb l (o .numbers .lanes) ≡ b → member 59 p ≡ c → feeding (state ts us) l p ≡ feedingBy b c (state ts us) l p
+    feeding-as p b c e f = feeding-by (state ts us) l p ∙ ap₂ (λ (x y : Bool). feedingBy x y (state ts us) l p) e f
+
+    -- the piece p ends the lane's text
+    pub outcome-text : (p : List ℕ) (cs : List Call) → ltb l (o .numbers .lanes) ≡ true → member 59 p ≡ true
+        → outcome (state ts us) (feed l p ∷ cs) ≡ judgedThen ts us l cs (judgement ts (getD us l [] ++ beforeSemicolon p))
+    outcome-text p cs e f =
+        let n = suc (length (beforeSemicolon p)) in
+        outcome-feed (state ts us) l p cs
+        ∙ ap (λ (r : Fed). noted (r .answer) (outcome (r .after) cs)) (feeding-as p true true e f ∙ state-finishing ts us l n (verdict (state ts us) (longer (laneOf (state ts us) l) (beforeSemicolon p))))
+        ∙ ap (judgedThen ts us l cs) (state-verdict ts us l (beforeSemicolon p))
+
+    -- the piece p only adds to it
+    pub outcome-more : (p : List ℕ) (cs : List Call) → ltb l (o .numbers .lanes) ≡ true → member 59 p ≡ false
+        → outcome (state ts us) (feed l p ∷ cs) ≡ outcome (state ts (set us l (getD us l [] ++ p))) cs
+    unfolding noted
+    outcome-more p cs e f =
+        outcome-feed (state ts us) l p cs
+        ∙ ap (λ (r : Fed). noted (r .answer) (outcome (r .after) cs)) (feeding-as p true false e f)
+        ∙ ap (λ (x : Lane). outcome (withLane (state ts us) l x) cs) (ap (λ (x : Lane). longer x p) (state-lane ts us l) ∙ longer-longer (holding []) (getD us l []) p)
+        ∙ ap (λ (h : Held). outcome h cs) (state-set ts us l (getD us l [] ++ p))
+
+    pub outcome-no-lane : (p : List ℕ) (cs : List Call) → ltb l (o .numbers .lanes) ≡ false → outcome (state ts us) (feed l p ∷ cs) ≡ noted (refused 5) (outcome (state ts us) cs)
+    outcome-no-lane p cs e = outcome-feed (state ts us) l p cs ∙ ap (λ (r : Fed). noted (r .answer) (outcome (r .after) cs)) (feeding-as p false (member 59 p) e refl)
+
+    pub outcome-closed : (cs : List Call) → ltb l (o .numbers .lanes) ≡ true → outcome (state ts us) (close l ∷ cs) ≡ shut (record { answer = closed (text (getD us l [])); after = state ts (set us l []) }) cs
+    unfolding longer
+    outcome-closed cs e =
+        outcome-close (state ts us) l cs
+        ∙ ap (λ (c : Closed). shut c cs) (closing-by (state ts us) l ∙ ap (λ b. closingBy b (state ts us) l) e)
+        ∙ ap₂ (λ (x : Lane) (h : Held). shut (record { answer = closed x; after = h }) cs) (state-lane ts us l) (state-set ts us l [])
+
+    pub outcome-not-closed : (cs : List Call) → ltb l (o .numbers .lanes) ≡ false → outcome (state ts us) (close l ∷ cs) ≡ shut (record { answer = refused 5; after = state ts us }) cs
+    outcome-not-closed cs e = outcome-close (state ts us) l cs ∙ ap (λ (c : Closed). shut c cs) (closing-by (state ts us) l ∙ ap (λ b. closingBy b (state ts us) l) e)

@@ -1,0 +1,143 @@
+-- Laws of runs of calls.
+--
+--   more-exactly                    "more wanted" exactly when a piece has no semicolon
+--   ending-append, answers-append   a run in two parts
+--   ending-opening                  the opening stays
+--   ending-whole, run-whole         from an accepted opening on, a collection is whole after every run
+--   lanes-hold-pending              every lane holds the bytes fed to it since its last semicolon or closing, or ran over
+--   whole-texts-sample              the whole texts of a run, for an example
+use Prim.Native.Nat.{ℕ}
+use native.Mathlib.Omega.{arith}
+use mathlib.Core.Path.{_≡_, refl, ap, ap₂, sym, _∙_, subst}
+use mathlib.Core.Logic.{_↔_}
+use mathlib.Core.Bool.{Bool, true, false, true≢false}
+use mathlib.Core.List.{List, [], _∷_, _++_, map}
+use lib.Dec.{ltb}
+use lib.ListN.{length, getD, set, replicate, length-set, length-replicate, List·getD-map}
+use lib.Seq.{set-out}
+use borrow.Author.Tests.{ltb-false}
+use Rattle.trees.specs.Plain.{if_then_else_, member, Answer, refused, gives}
+use Rattle.trees.specs.Opening.{Numbers, Opening, opening}
+use Rattle.trees.specs.Held.{Held, Lane, holding, opened, laneOf, longer, verdict, Progress, moreWanted, accepted, beforeSemicolon, Fed, finished, finishing, feeding, closing}
+use Rattle.trees.specs.Whole.{whole}
+use Rattle.theorems.specs.HeldLaws.{opened-whole, feeding-whole, closing-whole}
+use Rattle.theorems.specs.WrittenFedLaws.{feedingBy, feeding-by}
+use Rattle.theorems.specs.OwnLaneLaws.{laneAfter, lanesAfter, feeding-opening, feeding-texts, closing-opening, closing-texts}
+use Rattle.theorems.specs.PieceLaws.{longer-longer, text, map-set, map-replicate}
+use Rattle.theorems.specs.Runs.{Call, feed, close, Heard, answer, next, answers, ending, pendingAfter, wholeTexts}
+
+-- ---- which answers are verdicts
+
+-- an answer that is not "more wanted"
+abbrev Settled : Answer Progress → Type 0
+Settled (refused k) = Unit {0}
+Settled (gives moreWanted) = ⊥
+Settled (gives (accepted t)) = Unit {0}
+
+finished-settled : (h : Held) (v : Answer (List ℕ)) → Settled (finished h v)
+unfolding finished
+finished-settled h (refused k) = tt
+finished-settled h (gives t) = tt
+
+-- a piece to a lane that exists: its answer is a verdict exactly when it has a semicolon
+pub more-exactly : (h : Held) (l : ℕ) (p : List ℕ) → ltb l (h .opening .numbers .lanes) ≡ true → (feeding h l p .answer ≡ gives moreWanted) ↔ (member 59 p ≡ false)
+unfolding finishing
+more-exactly h l p e = go (member 59 p) refl
+  where
+    answered : (c : Bool) → member 59 p ≡ c → feeding h l p .answer ≡ feedingBy true c h l p .answer
+    answered c f = ap (λ (r : Fed). r .answer) (feeding-by h l p ∙ ap₂ (λ (x y : Bool). feedingBy x y h l p) e f)
+
+    go : (c : Bool) → member 59 p ≡ c → (feeding h l p .answer ≡ gives moreWanted) ↔ (c ≡ false)
+    go true f = ((λ q. absurd (subst Settled (sym (answered true f) ∙ q) (finished-settled h (verdict h (longer (laneOf h l) (beforeSemicolon p)))))), λ q. absurd (true≢false q))
+    go false f = ((λ q. refl), λ q. answered false f)
+
+-- ---- a run in two parts
+
+pub ending-append : (h : Held) (cs ds : List Call) → ending h (cs ++ ds) ≡ ending (ending h cs) ds
+unfolding ending
+ending-append h [] ds = refl
+ending-append h (c ∷ cs) ds = ending-append (next h c) cs ds
+
+pub answers-append : (h : Held) (cs ds : List Call) → answers h (cs ++ ds) ≡ answers h cs ++ answers (ending h cs) ds
+unfolding answers ending
+answers-append h [] ds = refl
+answers-append h (c ∷ cs) ds = ap (λ (r : List Heard). answer h c ∷ r) (answers-append (next h c) cs ds)
+
+-- ---- what stays
+
+pub ending-opening : (h : Held) (cs : List Call) → ending h cs .opening ≡ h .opening
+unfolding ending next
+ending-opening h [] = refl
+ending-opening h (feed l p ∷ cs) = ending-opening (feeding h l p .after) cs ∙ feeding-opening h l p
+ending-opening h (close l ∷ cs) = ending-opening (closing h l .after) cs ∙ closing-opening h l
+
+pub ending-whole : (h : Held) (cs : List Call) → whole h ≡ true → whole (ending h cs) ≡ true
+unfolding ending next
+ending-whole h [] w = w
+ending-whole h (feed l p ∷ cs) w = ending-whole (feeding h l p .after) cs (feeding-whole h l p w)
+ending-whole h (close l ∷ cs) w = ending-whole (closing h l .after) cs (closing-whole h l w)
+
+pub run-whole : (x : Numbers) (nameList first second : List ℕ) (lent : ℕ) (o : Opening) → opening x nameList first second lent ≡ gives o → (cs : List Call) → whole (ending (opened o) cs) ≡ true
+run-whole x nameList first second lent o e cs = ending-whole (opened o) cs (opened-whole x nameList first second lent o e)
+
+-- ---- pending bytes
+
+-- the bytes us of each lane, which was empty before them
+record Holds (h : Held) (us : List (List ℕ)) : Type 0 where
+  many : length us ≡ h .opening .numbers .lanes
+  lanes : h .texts ≡ map text us
+
+module _ (h : Held) (us : List (List ℕ)) (d : Holds h us) (l : ℕ) where
+  holds-lane : laneOf h l ≡ text (getD us l [])
+  unfolding laneOf longer
+  holds-lane = ap (λ (xs : List Lane). getD xs l (holding [])) (d .lanes) ∙ List·getD-map text us l []
+
+  holds-piece : (p : List ℕ) → laneAfter (laneOf h l) p ≡ text (if member 59 p then [] else getD us l [] ++ p)
+  unfolding longer
+  holds-piece p = ap (λ (x : Lane). laneAfter x p) holds-lane ∙ go (member 59 p)
+    where
+      go : (c : Bool) → (if c then holding [] else longer (text (getD us l [])) p) ≡ text (if c then [] else getD us l [] ++ p)
+      go true = refl
+      go false = longer-longer (holding []) (getD us l []) p
+
+  holds-set : (w : List ℕ) → lanesAfter (ltb l (h .opening .numbers .lanes)) (h .texts) l (text w) ≡ map text (set us l w)
+  holds-set w = ap (λ (xs : List Lane). lanesAfter (ltb l (h .opening .numbers .lanes)) xs l (text w)) (d .lanes) ∙ go (ltb l (h .opening .numbers .lanes)) refl
+    where
+      go : (b : Bool) → ltb l (h .opening .numbers .lanes) ≡ b → lanesAfter b (map text us) l (text w) ≡ map text (set us l w)
+      go true e = sym (map-set text us l w)
+      go false e = ap (map text) (sym (set-out us l w (omega (arith, d .many, ltb-false l (h .opening .numbers .lanes) e))))
+
+  holds-fed : (p : List ℕ) → Holds (feeding h l p .after) (set us l (if member 59 p then [] else getD us l [] ++ p))
+  holds-fed p =
+      let w = if member 59 p then [] else getD us l [] ++ p in
+      record {
+        many = length-set us l w ∙ d .many ∙ λ i. sym (feeding-opening h l p) i .numbers .lanes;
+        lanes = feeding-texts h l p ∙ ap (lanesAfter (ltb l (h .opening .numbers .lanes)) (h .texts) l) (holds-piece p) ∙ holds-set w;
+      }
+
+  holds-closed : Holds (closing h l .after) (set us l [])
+  unfolding longer
+  holds-closed = record { many = length-set us l [] ∙ d .many ∙ λ i. sym (closing-opening h l) i .numbers .lanes; lanes = closing-texts h l ∙ holds-set [] }
+
+holds-after : (h : Held) (us : List (List ℕ)) → Holds h us → (cs : List Call) → Holds (ending h cs) (pendingAfter us cs)
+unfolding ending next pendingAfter
+holds-after h us d [] = d
+holds-after h us d (feed l p ∷ cs) = holds-after (feeding h l p .after) (set us l (if member 59 p then [] else getD us l [] ++ p)) (holds-fed h us d l p) cs
+holds-after h us d (close l ∷ cs) = holds-after (closing h l .after) (set us l []) (holds-closed h us d l) cs
+
+pub lanes-hold-pending : (o : Opening) (cs : List Call) → ending (opened o) cs .texts ≡ map (longer (holding [])) (pendingAfter (replicate (o .numbers .lanes) []) cs)
+unfolding opened longer
+lanes-hold-pending o cs =
+    holds-after (opened o) (replicate (o .numbers .lanes) []) (record {
+      many = length-replicate (o .numbers .lanes) [];
+      lanes = sym (map-replicate text (o .numbers .lanes) []);
+    }) cs .lanes
+
+-- ---- an example
+
+-- two lanes: `A`, `;` and `B` on lane 0, `C` and a closing on lane 1, and a piece to a lane that does not exist
+pub whole-texts-sample :
+    wholeTexts 2 (feed 0 (65 ∷ []) ∷ feed 1 (67 ∷ []) ∷ feed 0 (59 ∷ 66 ∷ []) ∷ feed 2 (68 ∷ []) ∷ feed 0 (66 ∷ []) ∷ close 1 ∷ [])
+    ≡ feed 0 (65 ∷ 59 ∷ []) ∷ feed 2 (68 ∷ []) ∷ feed 1 (67 ∷ []) ∷ close 1 ∷ []
+unfolding wholeTexts
+whole-texts-sample = refl

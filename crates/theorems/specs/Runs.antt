@@ -1,0 +1,99 @@
+-- Runs of calls: pieces fed to lanes, and closings, one after another.
+--
+--   Call                 feed l p: the piece p to lane l; close l: closing lane l
+--   Heard                what a call answers: fed, with how many bytes it took and the answer; or closed, with the answer
+--   answers h cs         what the calls cs answer, in order, on the collection h
+--   ending h cs          what is held after them
+--   Verdict              an answer that is not "more wanted", without the number of bytes taken
+--   verdicts hs          the verdicts among the answers hs, in order
+--   pendingAfter us cs   for each lane, the bytes that are pending after the calls cs, if before them us are
+--   wholeTexts n cs      the calls cs on n lanes with every text fed whole: at its semicolon, or at its lane's closing
+--   onLane g c           the call c, on lane g l in place of l
+--   onOneLane n l        lane 0 for each of n lanes; a lane that does not exist stays
+use Prim.Native.Nat.{ℕ}
+use mathlib.Core.List.{List, [], _∷_, _++_}
+use lib.Dec.{ltb}
+use lib.ListN.{length, getD, set, replicate}
+use Rattle.trees.specs.Plain.{if_then_else_, member, Answer, refused, gives}
+use Rattle.trees.specs.Held.{Held, Progress, moreWanted, accepted, beforeSemicolon, feeding, closing}
+
+-- ---- calls and what they answer
+
+pub data Call : Type 0 where
+  feed : ℕ → List ℕ → Call
+  close : ℕ → Call
+
+pub data Heard : Type 0 where
+  fed : ℕ → Answer Progress → Heard
+  closed : Answer (Unit {0}) → Heard
+
+unfoldable pub answer : Held → Call → Heard
+answer h (feed l p) = fed (feeding h l p .taken) (feeding h l p .answer)
+answer h (close l) = closed (closing h l .answer)
+
+unfoldable pub next : Held → Call → Held
+next h (feed l p) = feeding h l p .after
+next h (close l) = closing h l .after
+
+unfoldable pub answers : Held → List Call → List Heard
+unfolding answer next
+answers h [] = []
+answers h (c ∷ cs) = answer h c ∷ answers (next h c) cs
+
+unfoldable pub ending : Held → List Call → Held
+unfolding next
+ending h [] = h
+ending h (c ∷ cs) = ending (next h c) cs
+
+-- ---- verdicts
+
+-- "accepted, with the tree's number"; "refused, with a number"; what a closing answers
+pub data Verdict : Type 0 where
+  acceptedAs : ℕ → Verdict
+  refusedWith : ℕ → Verdict
+  closedWith : Answer (Unit {0}) → Verdict
+
+-- every answer but "more wanted"
+unfoldable pub verdicts : List Heard → List Verdict
+verdicts [] = []
+verdicts (fed n (gives moreWanted) ∷ hs) = verdicts hs
+verdicts (fed n (gives (accepted t)) ∷ hs) = acceptedAs t ∷ verdicts hs
+verdicts (fed n (refused k) ∷ hs) = refusedWith k ∷ verdicts hs
+verdicts (closed a ∷ hs) = closedWith a ∷ verdicts hs
+
+-- ---- whole texts
+
+-- `pending` has, for each lane, every byte fed to it since its last semicolon or closing, however many
+unfoldable pub pendingAfter : List (List ℕ) → List Call → List (List ℕ)
+unfolding member
+pendingAfter pending [] = pending
+pendingAfter pending (feed l p ∷ cs) = pendingAfter (set pending l (if member 59 p then [] else getD pending l [] ++ p)) cs
+pendingAfter pending (close l ∷ cs) = pendingAfter (set pending l []) cs
+
+-- A piece with a semicolon ends a text, which is fed whole; one without only adds to the pending bytes. A closing finds them all fed.
+-- A call to a lane that does not exist stays as it is.
+unfoldable pub textsAfter : List (List ℕ) → List Call → List Call
+unfolding member beforeSemicolon
+textsAfter pending [] = []
+textsAfter pending (feed l p ∷ cs) =
+    if ltb l (length pending) then
+    if member 59 p then feed l (getD pending l [] ++ beforeSemicolon p ++ 59 ∷ []) ∷ textsAfter (set pending l []) cs
+    else textsAfter (set pending l (getD pending l [] ++ p)) cs
+    else feed l p ∷ textsAfter pending cs
+textsAfter pending (close l ∷ cs) =
+    if ltb l (length pending) then feed l (getD pending l []) ∷ close l ∷ textsAfter (set pending l []) cs
+    else close l ∷ textsAfter pending cs
+
+-- on n lanes, nothing pending
+unfoldable pub wholeTexts : ℕ → List Call → List Call
+unfolding textsAfter
+wholeTexts n cs = textsAfter (replicate n []) cs
+
+-- ---- other lanes for the same calls
+
+unfoldable pub onLane : (ℕ → ℕ) → Call → Call
+onLane g (feed l p) = feed (g l) p
+onLane g (close l) = close (g l)
+
+unfoldable pub onOneLane : ℕ → ℕ → ℕ
+onOneLane n l = if ltb l n then 0 else l
