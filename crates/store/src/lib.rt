@@ -1,0 +1,1 @@
+// The collection in lent bytes.
