@@ -1,2 +1,11 @@
 pub mod Store
 pub mod WholeStore
+pub mod WholeFacts
+pub mod UpToLaws
+pub mod RecordedAtLaws
+pub mod HeldWholeLaws
+pub mod Chain
+pub mod ChainLaws
+pub mod StoreLaws
+pub mod PartFrameLaws
+pub mod FrameLaws

@@ -14,7 +14,7 @@ use lib.ListN.{length}
 use Rattle.trees.specs.Opening.{Numbers}
 use Rattle.trees.specs.Held.{Held, laneOf, Fed, Closed}
 use Rattle.trees.specs.Questions.{treesHeld, splitsHeld, splitList, splitNumber, treeNumber, oneSidedOf, doubledOf, matrixOf, strictOf, majorityOf, writtenOf}
-use Rattle.theorems.specs.Runs.{Call, answers, ending}
+use Rattle.trees.specs.Runs.{Call, answers, ending}
 
 -- ---- collections
 

@@ -22,7 +22,7 @@ use Rattle.trees.specs.Held.{Held, Lane, opened, longer, beforeSemicolon, finis
 use Rattle.theorems.specs.ListLaws.{if-true, if-false}
 use Rattle.theorems.specs.OpeningLaws.{every-getD}
 use Rattle.theorems.specs.HeldLaws.{every-set, every-replicate}
-use Rattle.theorems.specs.Runs.{Call, feed, close, answers, ending, closedWith, verdicts, textsAfter, wholeTexts, onLane, onOneLane}
+use Rattle.trees.specs.Runs.{Call, feed, close, answers, ending, closedWith, verdicts, textsAfter, wholeTexts, onLane, onOneLane}
 use Rattle.theorems.specs.RunLaws.{ending-opening}
 use Rattle.theorems.specs.Alike.{SameAnswers}
 use Rattle.theorems.specs.AlikeLaws.{questions-alike}

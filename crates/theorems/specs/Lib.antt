@@ -21,7 +21,6 @@ pub mod WrittenLaws
 pub mod WrittenFedLaws
 pub mod RecordedLaws
 pub mod HeldLaws
-pub mod Runs
 pub mod Alike
 pub mod AlikeLaws
 pub mod OwnLaneLaws

@@ -15,7 +15,7 @@ use Rattle.trees.specs.Plain.{member, Answer, refused, gives}
 use Rattle.trees.specs.Opening.{Opening}
 use Rattle.trees.specs.Held.{Held, Lane, holding, laneOf, withLane, withTree, longer, verdict, Progress, moreWanted, accepted, beforeSemicolon, Fed, finished, recording, finishing, feeding, Closed, closed, closing}
 use Rattle.theorems.specs.WrittenFedLaws.{feedingBy, feeding-by}
-use Rattle.theorems.specs.Runs.{Call, feed, close, fed, answer, next, answers, ending, Verdict, acceptedAs, refusedWith, closedWith, verdicts}
+use Rattle.trees.specs.Runs.{Call, feed, close, fed, answer, next, answers, ending, Verdict, acceptedAs, refusedWith, closedWith, verdicts}
 use Rattle.theorems.specs.Alike.{Alike}
 use Rattle.theorems.specs.AlikeLaws.{closingBy, closing-by, verdict-alike}
 use Rattle.theorems.specs.PieceLaws.{longer-longer, text, map-set}

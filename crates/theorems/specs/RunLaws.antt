@@ -24,7 +24,7 @@ use Rattle.theorems.specs.HeldLaws.{opened-whole, feeding-whole, closing
 use Rattle.theorems.specs.WrittenFedLaws.{feedingBy, feeding-by}
 use Rattle.theorems.specs.OwnLaneLaws.{laneAfter, lanesAfter, feeding-opening, feeding-texts, closing-opening, closing-texts}
 use Rattle.theorems.specs.PieceLaws.{longer-longer, text, map-set, map-replicate}
-use Rattle.theorems.specs.Runs.{Call, feed, close, Heard, answer, next, answers, ending, pendingAfter, wholeTexts}
+use Rattle.trees.specs.Runs.{Call, feed, close, Heard, answer, next, answers, ending, pendingAfter, wholeTexts}
 
 -- ---- which answers are verdicts
 

@@ -18,9 +18,10 @@ use Rattle.trees.specs.Length.{isLength}
 use Rattle.trees.specs.Tree.{Nodes}
 use Rattle.trees.specs.Reading.{reading}
 use Rattle.trees.specs.Opening.{Numbers, Opening, opening, sizing}
-use Rattle.trees.specs.Held.{Held, Lane, Progress, moreWanted, accepted, opened, feeding, closing}
+use Rattle.trees.specs.Held.{Held, Lane, moreWanted, accepted, opened}
 use Rattle.trees.specs.Questions.{splitList, splitNumber, treeNumber, doubledOf, matrixOf, collisionsOf, strictOf, majorityOf, writtenOf}
 use Rattle.trees.specs.Whole.{whole}
+use Rattle.trees.specs.Runs.{Call, feed, close, Heard, fed, closed, answers}
 use Rattle.trees.specs.Samples.{bytes, over, collection, Sample, said, has, is, agrees, the-splits, the-verdict, the-agreement}
 use Rattle.trees.specs.Names.{namesIn}
 
@@ -120,25 +121,6 @@ openings-hold = refl
 
 -- ---- calls
 
-pub data Call : Type 0 where
-  feed : ℕ → String → Call
-  close : ℕ → Call
-
-pub data Heard : Type 0 where
-  took : ℕ → Answer Progress → Heard
-  closes : Answer (Unit {0}) → Heard
-
--- what a call answers, and the collection afterwards
-unfoldable pub made : Held → Call → Heard × Held
-unfolding feeding closing bytes
-made h (feed l p) = let f = feeding h l (bytes p) in (took (f .taken) (f .answer), f .after)
-made h (close l) = let c = closing h l in (closes (c .answer), c .after)
-
-unfoldable pub answers : Held → List Call → List Heard
-unfolding made
-answers h [] = []
-answers h (c ∷ cs) = made h c .0 ∷ answers (made h c .1) cs
-
 -- two lanes, room for two trees and two splits
 abbrev shop : Held
 shop =
@@ -150,20 +132,21 @@ shop =
     })
 
 unfoldable pub calls : List (Call × Heard)
+unfolding bytes
 calls =
-    (feed 0 "((A,B),C", took 8 (gives moreWanted))
-    ∷ (feed 1 "", took 0 (gives moreWanted))
-    ∷ (feed 1 "((A,B),D,(C,E)", took 14 (gives moreWanted))
-    ∷ (feed 2 "x;", took 0 (refused 5))
-    ∷ (feed 0 ",(D,E)); ignored", took 8 (gives (accepted 0)))
-    ∷ (feed 1 ");", took 2 (refused 12))
-    ∷ (feed 1 "(A,B);", took 6 (refused 10))
-    ∷ (feed 1 "(A,B,C,D,E);", took 12 (gives (accepted 1)))
-    ∷ (feed 0 "((A,B),D,(C,E));", took 16 (refused 11))
-    ∷ (feed 0 " x", took 2 (gives moreWanted))
-    ∷ (close 0, closes (refused 7))
-    ∷ (close 0, closes (gives tt))
-    ∷ (close 2, closes (refused 5))
+    (feed 0 (bytes "((A,B),C"), fed 8 (gives moreWanted))
+    ∷ (feed 1 (bytes ""), fed 0 (gives moreWanted))
+    ∷ (feed 1 (bytes "((A,B),D,(C,E)"), fed 14 (gives moreWanted))
+    ∷ (feed 2 (bytes "x;"), fed 0 (refused 5))
+    ∷ (feed 0 (bytes ",(D,E)); ignored"), fed 8 (gives (accepted 0)))
+    ∷ (feed 1 (bytes ");"), fed 2 (refused 12))
+    ∷ (feed 1 (bytes "(A,B);"), fed 6 (refused 10))
+    ∷ (feed 1 (bytes "(A,B,C,D,E);"), fed 12 (gives (accepted 1)))
+    ∷ (feed 0 (bytes "((A,B),D,(C,E));"), fed 16 (refused 11))
+    ∷ (feed 0 (bytes " x"), fed 2 (gives moreWanted))
+    ∷ (close 0, closed (refused 7))
+    ∷ (close 0, closed (gives tt))
+    ∷ (close 2, closed (refused 5))
     ∷ []
 
 pub calls-hold : answers shop (map (λ c. c .0) calls) ≡ map (λ c. c .1) calls

@@ -16,5 +16,6 @@ pub mod Opening
 pub mod Held
 pub mod Questions
 pub mod Whole
+pub mod Runs
 pub mod Samples
 pub mod Further

@@ -28,10 +28,12 @@ pub data Heard : Type 0 where
   closed : Answer (Unit {0}) → Heard
 
 unfoldable pub answer : Held → Call → Heard
+unfolding feeding closing
 answer h (feed l p) = fed (feeding h l p .taken) (feeding h l p .answer)
 answer h (close l) = closed (closing h l .answer)
 
 unfoldable pub next : Held → Call → Held
+unfolding feeding closing
 next h (feed l p) = feeding h l p .after
 next h (close l) = closing h l .after
 

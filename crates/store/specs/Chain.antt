@@ -1,0 +1,63 @@
+-- Walks along the chains of a store.
+--
+--   placeIn s m          the place of the mask m
+--   met s p              the splits met along the place p, by their numbers
+--   ofPlace s p n        the splits below n that have the place p, the highest first
+--   Falling l            each number is less than the one before
+--   lookAt s m e         the split with the mask m that is met first from the entry e: its number, or none
+--   look s m             the split with the mask m, along its place
+-- An entry is a split's number and one more, or 0 at a chain's end. Links fall, so as many steps as the entry's number are enough.
+use Prim.Native.Nat.{ℕ, zero, suc, _<_}
+use mathlib.Core.List.{List, [], _∷_}
+use mathlib.Core.Option.{Option, none, some}
+use lib.Dec.{eqb}
+use Rattle.trees.specs.Plain.{if_then_else_}
+use Rattle.trees.specs.Hash.{place}
+use Rattle.theorems.specs.ListLaws.{Mem}
+use Rattle.head.specs.Head.{numbersAt, firstAt}
+use Rattle.store.specs.Store.{maskAt, linkAt, startAt}
+
+abbrev pub placeIn : List ℕ → ℕ → ℕ
+placeIn s m = place (firstAt s) (numbersAt s .places) m
+
+-- ---- all that are met
+
+-- in at most f steps from an entry
+unfoldable pub metFrom : List ℕ → ℕ → ℕ → List ℕ
+unfolding linkAt
+metFrom s zero e = []
+metFrom s (suc f) zero = []
+metFrom s (suc f) (suc k) = k ∷ metFrom s f (linkAt s k)
+
+unfoldable pub met : List ℕ → ℕ → List ℕ
+unfolding metFrom startAt
+met s p = metFrom s (startAt s p) (startAt s p)
+
+-- ---- what should be met
+
+-- of the splits below n
+unfoldable pub ofPlace : List ℕ → ℕ → ℕ → List ℕ
+unfolding place firstAt numbersAt maskAt
+ofPlace s p zero = []
+ofPlace s p (suc k) = if eqb (placeIn s (maskAt s k)) p then k ∷ ofPlace s p k else ofPlace s p k
+
+abbrev pub Falling : List ℕ → Type 0
+Falling [] = Unit {0}
+Falling (x ∷ l) = ((y : ℕ) → Mem y l → y < x) × Falling l
+
+-- ---- the first with a mask
+
+-- in at most f steps from an entry
+unfoldable pub lookFrom : List ℕ → ℕ → ℕ → ℕ → Option ℕ
+unfolding maskAt linkAt
+lookFrom s m zero e = none
+lookFrom s m (suc f) zero = none
+lookFrom s m (suc f) (suc k) = if eqb (maskAt s k) m then some k else lookFrom s m f (linkAt s k)
+
+unfoldable pub lookAt : List ℕ → ℕ → ℕ → Option ℕ
+unfolding lookFrom
+lookAt s m e = lookFrom s m e e
+
+unfoldable pub look : List ℕ → ℕ → Option ℕ
+unfolding lookAt startAt place firstAt numbersAt
+look s m = lookAt s m (startAt s (placeIn s m))

@@ -1,0 +1,103 @@
+-- What whole bytes hold is whole. Assumes nothing.
+--
+--   held-opening, held-numbers     the opening of what is held
+--   texts-length, texts-mem        its lanes
+--   opening-facts                  the opening of whole bytes is in order
+--   tree-rises, tree-good          each tree is in order
+--   lane-good                      each lane's text has a length in range
+--   held-whole                     all that is held is in order
+use Prim.Native.Nat.{ℕ, _+_, _<_}
+use native.Mathlib.Omega.{arith}
+use mathlib.Core.Path.{_≡_, refl}
+use mathlib.Core.Bool.{true}
+use mathlib.Core.List.{List}
+use lib.Dec.{eqb}
+use lib.ListN.{length, take, drop, length-take}
+use borrow.Author.Tests.{le-leb, eqb-false}
+use Rattle.trees.specs.Plain.{every}
+use Rattle.trees.specs.Mask.{proper}
+use Rattle.trees.specs.Held.{Lane, mostText}
+use Rattle.trees.specs.Whole.{goodTree, goodLane, whole}
+use Rattle.theorems.specs.ListLaws.{by-test, and-true, Mem, every-at, every-intro}
+use Rattle.theorems.specs.RisingLaws.{Rising, rising-true, true-rising}
+use Rattle.theorems.specs.OpeningLaws.{GoodOpening, good-opening}
+use Rattle.theorems.specs.HeldLaws.{Whole, facts-whole}
+use Rattle.fields.specs.Field.{number}
+use Rattle.head.specs.Head.{numbersAt, openingAt}
+use Rattle.head.specs.HeadLaws.{upTo-length}
+use Rattle.store.specs.Store.{treesHeldAt, laneFrom, maskAt, masksAt, listAt, treeAt, laneAt, heldAt}
+use Rattle.store.specs.WholeStore.{wholeAt}
+use Rattle.store.specs.WholeFacts.{WholeAt, whole-at-facts}
+use Rattle.store.specs.UpToLaws.{upTo-mem, map-rising}
+use Rattle.store.specs.RecordedAtLaws.{trees-length, trees-mem, mem-masks, tree-mem, mask-rises, recorded-length}
+
+-- ---- what any bytes are read as
+
+module _ (s : List ℕ) where
+  pub held-opening : heldAt s .opening ≡ openingAt s
+  unfolding heldAt
+  held-opening = refl
+
+  pub held-numbers : heldAt s .opening .numbers ≡ numbersAt s
+  unfolding heldAt openingAt
+  held-numbers = refl
+
+  pub texts-length : length (heldAt s .texts) ≡ numbersAt s .lanes
+  unfolding heldAt
+  texts-length = upTo-length (laneAt s) (numbersAt s .lanes)
+
+  pub texts-mem : (x : Lane) → Mem x (heldAt s .texts) → (l : ℕ) × (l < numbersAt s .lanes) × (x ≡ laneAt s l)
+  unfolding heldAt
+  texts-mem x h = upTo-mem (laneAt s) (numbersAt s .lanes) x h
+
+-- ---- what whole bytes hold
+
+module _ (s : List ℕ) (w : wholeAt s ≡ true) where
+  facts : WholeAt s
+  facts = whole-at-facts s w
+
+  pub opening-facts : GoodOpening (openingAt s)
+  opening-facts = good-opening (openingAt s) (facts .head .opening-good)
+
+  tree-proper : (i : ℕ) → i < treesHeldAt s → every (proper (numbersAt s .taxa)) (treeAt s i) ≡ true
+  tree-proper i h =
+      every-intro (proper (numbersAt s .taxa)) (treeAt s i)
+      (λ m q.
+      let k = tree-mem s i m q in
+      rw (k .2)
+      (every-at (proper (numbersAt s .taxa)) (masksAt s) (facts .splits .masks-proper) (maskAt s (k .0)) (mem-masks s (k .0) (facts .lists i h .numbers-below (k .0) (k .1)))))
+
+  -- its numbers rise, and so do the masks
+  pub tree-rises : (i : ℕ) → i < treesHeldAt s → Rising (treeAt s i)
+  unfolding treeAt
+  tree-rises i h =
+      map-rising (maskAt s) (listAt s i) (rising-true (listAt s i) (facts .lists i h .numbers-rising))
+      (λ a b p q l. mask-rises s w a b l (facts .lists i h .numbers-below b q))
+
+  pub tree-good : (i : ℕ) → i < treesHeldAt s → goodTree (numbersAt s .taxa) (treeAt s i) ≡ true
+  unfolding goodTree
+  tree-good i h = and-true (tree-proper i h) (and-true (true-rising (treeAt s i) (tree-rises i h)) (facts .lists i h .agreeing))
+
+  pub lane-good : (l : ℕ) → l < numbersAt s .lanes → goodLane (laneAt s l) ≡ true
+  unfolding laneAt goodLane
+  lane-good l h =
+      by-test (λ (x : Lane). goodLane x ≡ true) (eqb (number 2 s (laneFrom l)) 4097) (λ e. refl)
+      (λ e.
+      let n = length-take (number 2 s (laneFrom l)) (drop (laneFrom l + 8) s) in
+      le-leb (length (take (number 2 s (laneFrom l)) (drop (laneFrom l + 8) s))) mostText (omega (arith, facts .lanes l h, eqb-false (number 2 s (laneFrom l)) 4097 e)))
+
+  held-facts : Whole (heldAt s)
+  held-facts =
+      record {
+        opening-good = rw held-opening (facts .head .opening-good);
+        trees-good =
+            rw held-numbers
+            (every-intro (goodTree (numbersAt s .taxa)) (heldAt s .trees) (λ t h. let i = trees-mem s t h in rw (i .2) (tree-good (i .0) (i .1))));
+        trees-fit = rw (held-numbers, trees-length) (facts .head .trees-fit);
+        splits-fit = rw (held-numbers, recorded-length s w) (facts .head .splits-fit);
+        lanes-count = rw held-numbers (texts-length s);
+        lanes-good = every-intro goodLane (heldAt s .texts) (λ x h. let l = texts-mem s x h in rw (l .2) (lane-good (l .0) (l .1)));
+      }
+
+  pub held-whole : whole (heldAt s) ≡ true
+  held-whole = facts-whole (heldAt s) held-facts
