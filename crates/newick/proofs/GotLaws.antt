@@ -1,12 +1,12 @@
 -- What the readers of nodes gather: one law for each way through the code.
-use Prim.Native.Nat.{ℕ, zero, suc, _+_, _-_, _*_, _%_, _^_, _≤_, _<_}
+use Prim.Native.Nat.{ℕ, _+_, _-_, _*_, _%_, _^_, _≤_, _<_}
 use native.Mathlib.Omega.{arith}
 use native.Mathlib.Nat.{add-zero, mod-lt, mod-eq-of-lt}
 use mathlib.Core.Path.{_≡_, refl, ap, ap₂, sym, _∙_, subst}
 use mathlib.Core.List.{List, [], _∷_, _++_, append-nil}
 use mathlib.Core.Option.{Option, none, some}
 use lib.Bits.{bitOr, or-zero-r}
-use lib.ListN.{length, getD, length-append}
+use lib.ListN.{length, length-append}
 use lib.Seq.{slice, sets}
 use types.Run.{OneOf}
 use Rattle.trees.specs.Tree.{Nodes, nil, leaf, inner, beside, width, leaves}
@@ -18,8 +18,8 @@ use Rattle.text.specs.Read.{Seen, LengthRead, ClosingRead}
 use Rattle.text.specs.declared.Next.{Next}
 use Rattle.text.specs.declared.Next.the-variants.{Open, Comma, Token}
 use Rattle.text.specs.declared.Cursor.{Cursor}
-use Rattle.text.specs.declared.Read.the-variants.{Past, Fault}
-use Rattle.newick.specs.Gather.{constantOf, leafSum, placeSum, identifierSum, records, Leaves, leafStep, leavesAfter, leavesOf, LeafTaken, NoNode, NoNodes, NodeIs, NodesIs, Gathered, NodeGot, NodesGot}
+use Rattle.text.specs.declared.Read.the-variants.{Past}
+use Rattle.newick.specs.Gather.{constantOf, leafSum, placeSum, identifierSum, records, leavesAfter, leavesOf, LeafTaken, NoNode, NoNodes, NodeIs, NodesIs, Gathered, NodeGot, NodesGot}
 use Rattle.newick.specs.declared.gather.Mark.{Mark}
 use Rattle.newick.specs.declared.gather.Sums.{Sums}
 use Rattle.newick.specs.declared.gather.Got.{Got}
@@ -61,7 +61,7 @@ inner-identifier : (o : Opening) (t : Nodes) → identifierSum o t ≡ identifie
 unfolding identifierSum leafSum
 inner-identifier o t = ap (λ (y : ℕ). y % 2 ^ 64) (sym (add-zero (leafSum (o .second) (o .names) t)))
 
-inner-taxa : (ns : List (List ℕ)) (t : Nodes) → taxa ns t ≡ taxa ns (inner t nil)
+pub inner-taxa : (ns : List (List ℕ)) (t : Nodes) → taxa ns t ≡ taxa ns (inner t nil)
 unfolding taxa
 inner-taxa ns t = sym (or-zero-r (taxa ns t))
 
@@ -177,6 +177,10 @@ module _ (o : Opening) (s : List ℕ) (d : ℕ) (c : Mark) (l : List ℕ) where
   odd-none l₁ p = p
 
   -- ---- what was got, as its parts
+  pub wrong-none : (l₁ : List ℕ) → NodeGot o s d c l Wrong l₁ → NoNode s d (c .at)
+  unfolding NodeGot
+  wrong-none l₁ p = p
+
   pub taken-is : (e : Mark) (x : Sums) (l₁ : List ℕ) → NodeGot o s d c l (Taken e x) l₁ → (t : Nodes) × NodeIs s d (c .at) t (e .at) × Gathered o t c l e x l₁
   unfolding NodeGot
   taken-is e x l₁ p = p

@@ -1,12 +1,12 @@
 -- What a leaf gives, by what the search for its label found.
 use Prim.Native.Nat.{ℕ, _+_, _*_, _^_, _≤_, _<_}
 use native.Mathlib.Omega.{arith}
-use mathlib.Core.Path.{_≡_, refl, ap, ap₂, sym, _∙_, subst}
-use mathlib.Core.Bool.{Bool, true, false}
+use mathlib.Core.Path.{_≡_, ap, sym, _∙_, subst}
+use mathlib.Core.Bool.{true, false}
 use mathlib.Core.List.{List}
-use mathlib.Core.Option.{Option, none, some}
+use mathlib.Core.Option.{none, some}
 use lib.Bits.{bitOr, or-disjoint}
-use lib.ListN.{length, getD}
+use lib.ListN.{getD}
 use borrow.Author.Tests.{eq-eqb, ne-eqb}
 use Rattle.trees.specs.Mask.{has}
 use Rattle.trees.specs.Names.{taxonOf}
@@ -17,7 +17,7 @@ use Rattle.theorems.specs.ListLaws.{if-true, if-false}
 use Rattle.theorems.specs.BitLaws.{On, dis-and, only-on}
 use Rattle.theorems.specs.MaskLaws.{has-off}
 use Rattle.theorems.specs.OpeningLaws.{GoodOpening, good-opening}
-use Rattle.head.specs.Head.{numbersAt, openingAt, namesAt, firstAt, secondAt}
+use Rattle.head.specs.Head.{numbersAt, openingAt, namesAt}
 use Rattle.head.specs.HeadLaws.{first-at, second-at}
 use Rattle.head.specs.Index.{foundOf, Below}
 use Rattle.head.specs.FindLaws.{found-at, found-nothing, below-at}

@@ -6,3 +6,8 @@ pub mod TurnLaws
 pub mod StandLaws
 pub mod RecordLaws
 pub mod GatheringLaws
+pub mod FaultLaws
+pub mod HashedLaws
+pub mod FewLaws
+pub mod ClusterLaws
+pub mod JudgeLaws

@@ -1,5 +1,5 @@
 -- What the readers of nodes find in the text: one law for each way through the code.
-use Prim.Native.Nat.{ℕ, zero, suc, _+_, _-_, _*_, _≤_, _<_}
+use Prim.Native.Nat.{ℕ, zero, suc, _+_, _-_, _*_, _<_}
 use native.Mathlib.Numerals.{sub-one}
 use native.Mathlib.Omega.{arith}
 use mathlib.Core.Path.{_≡_, refl, ap, sym, _∙_, subst}
@@ -9,10 +9,10 @@ use lib.ListN.{length}
 use lib.Seq.{slice}
 use types.Run.{OneOf, miss}
 use denote.Enum.Declared.{tagOf}
-use Rattle.trees.specs.Text.{Symbol, openBracket}
-use Rattle.trees.specs.Tree.{Nodes, nil, leaf, inner, beside, width}
+use Rattle.trees.specs.Text.{Symbol}
+use Rattle.trees.specs.Tree.{Nodes, nil, leaf, beside, width}
 use Rattle.trees.specs.Reading.{Read as Read·spec, readClosing, bracketed, joined, readComma, followed, readNode, readNodes}
-use Rattle.text.specs.Read.{symbolsAt, Seen, Ahead, LengthRead, ClosingRead}
+use Rattle.text.specs.Read.{symbolsAt, Seen, LengthRead, ClosingRead}
 use Rattle.text.specs.declared.Next.{Next}
 use Rattle.text.specs.declared.Next.the-variants.{End, Open, Close, Comma, Colon, Stray, Token}
 use Rattle.text.specs.declared.Cursor.{Cursor}

@@ -1,26 +1,19 @@
 -- Laws of what is gathered: of nodes put beside each other, of a leaf, of an inner node.
-use Prim.Native.Nat.{ℕ, zero, suc, _+_, _*_, _%_, _^_, _≤_, _<_}
+use Prim.Native.Nat.{ℕ, suc, _+_, _%_, _^_}
 use native.Mathlib.Omega.{arith}
 use native.Mathlib.Numerals.{add-one, add-two}
-use native.Mathlib.Nat.{add-zero, add-assoc, add-mod, mod-lt, mod-eq-of-lt}
-use mathlib.Core.Path.{_≡_, refl, ap, ap₂, sym, _∙_, subst}
-use mathlib.Core.Bool.{Bool, true, false, _&&_}
+use native.Mathlib.Nat.{add-zero, add-mod}
+use mathlib.Core.Path.{_≡_, refl, ap, ap₂, sym, _∙_}
+use mathlib.Core.Logic.{⊎-elim}
 use mathlib.Core.List.{List, [], _∷_, _++_, append-assoc}
-use mathlib.Core.Option.{Option, none, some}
-use lib.Dec.{leb, ltb, eqb}
-use lib.Bits.{bitOr, or-zero-l, or-zero-r}
-use lib.ListN.{length, getD, set, length-append}
+use lib.Bits.{bitOr, or-zero-l}
+use lib.ListN.{length, set}
 use lib.Seq.{sets}
-use borrow.Author.Tests.{ltb-true, leb-true}
-use Rattle.trees.specs.Plain.{if_then_else_, every}
 use Rattle.trees.specs.Tree.{Nodes, nil, leaf, inner, beside, width, leaves}
-use Rattle.trees.specs.Names.{taxonOf}
 use Rattle.trees.specs.Splits.{taxon, taxa}
-use Rattle.trees.specs.Opening.{Opening, between, inRange, goodConstants}
-use Rattle.trees.specs.Whole.{goodOpening}
-use Rattle.theorems.specs.ListLaws.{and-left, and-right}
+use Rattle.trees.specs.Opening.{Opening}
 use Rattle.theorems.specs.BitLaws.{ext, Sub, on?, or-on, on-or-l, on-or-r}
-use Rattle.newick.specs.Gather.{constantOf, leafSum, placeSum, identifierSum, records, Leaves, leafStep, leavesAfter}
+use Rattle.newick.specs.Gather.{leafSum, placeSum, identifierSum, records, Leaves, leafStep, leavesAfter}
 
 -- ---- nodes beside each other
 
@@ -34,10 +27,10 @@ or-assoc : (a b c : ℕ) → bitOr (bitOr a b) c ≡ bitOr a (bitOr b c)
 or-assoc a b c = ext (bitOr (bitOr a b) c) (bitOr a (bitOr b c)) right left
   where
     right : Sub (bitOr (bitOr a b) c) (bitOr a (bitOr b c))
-    right i h = mathlib.Core.Logic.⊎-elim (λ n. on-or-r a (bitOr b c) i (mathlib.Core.Logic.⊎-elim (λ m. on-or-r b c i (or-on (bitOr a b) c i h (λ o. m (or-on a b i o n)))) (λ o. on-or-l b c i o) (on? b i))) (λ o. on-or-l a (bitOr b c) i o) (on? a i)
+    right i h = ⊎-elim (λ n. on-or-r a (bitOr b c) i (⊎-elim (λ m. on-or-r b c i (or-on (bitOr a b) c i h (λ o. m (or-on a b i o n)))) (λ o. on-or-l b c i o) (on? b i))) (λ o. on-or-l a (bitOr b c) i o) (on? a i)
 
     left : Sub (bitOr a (bitOr b c)) (bitOr (bitOr a b) c)
-    left i h = mathlib.Core.Logic.⊎-elim (λ n. mathlib.Core.Logic.⊎-elim (λ m. on-or-r (bitOr a b) c i (or-on b c i (or-on a (bitOr b c) i h n) m)) (λ o. on-or-l (bitOr a b) c i (on-or-r a b i o)) (on? b i)) (λ o. on-or-l (bitOr a b) c i (on-or-l a b i o)) (on? a i)
+    left i h = ⊎-elim (λ n. ⊎-elim (λ m. on-or-r (bitOr a b) c i (or-on b c i (or-on a (bitOr b c) i h n) m)) (λ o. on-or-l (bitOr a b) c i (on-or-r a b i o)) (on? b i)) (λ o. on-or-l (bitOr a b) c i (on-or-l a b i o)) (on? a i)
 
 pub taxa-beside : (ns : List (List ℕ)) (t k : Nodes) → taxa ns (beside t k) ≡ bitOr (taxa ns t) (taxa ns k)
 unfolding taxa beside
@@ -70,7 +63,7 @@ records-beside o (inner c r) k =
     ap (λ l. records o c ++ (taxa (o .names) c ∷ placeSum o c ∷ identifierSum o c ∷ l)) (records-beside o r k)
     ∙ sym (append-assoc (records o c) (taxa (o .names) c ∷ placeSum o c ∷ identifierSum o c ∷ records o r) (records o k))
 
-leaves-beside : (t k : Nodes) → leaves (beside t k) ≡ leaves t ++ leaves k
+pub leaves-beside : (t k : Nodes) → leaves (beside t k) ≡ leaves t ++ leaves k
 unfolding leaves beside
 leaves-beside nil k = refl
 leaves-beside (leaf w r) k = ap (λ l. w ∷ l) (leaves-beside r k)

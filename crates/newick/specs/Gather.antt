@@ -9,7 +9,7 @@
 --   NodeIs, NodesIs       the nodes t stand in the text from i up to j
 --   Gathered              what was gathered from the nodes t
 --   NodeGot, NodesGot     both, or that no node, no nodes stand there
-use Prim.Native.Nat.{ℕ, zero, suc, _+_, _-_, _*_, _%_, _^_, _≤_, _<_}
+use Prim.Native.Nat.{ℕ, _+_, _-_, _*_, _%_, _^_, _≤_, _<_}
 use mathlib.Core.Path.{_≡_}
 use mathlib.Core.Bool.{true}
 use mathlib.Core.List.{List, [], _∷_, _++_}

@@ -1,2 +1,3 @@
 pub mod Gather
 pub mod Splits
+pub mod Judge

@@ -48,4 +48,4 @@ nextSplits n m l = if proper n (side n m) then insert (side n m) l else l
 -- of k splits that stand at the fronts of three lists, whatever they are, there are r with the mask m after it, and they stand there
 unfoldable pub Taken : Opening → (List ℕ → List ℕ) → ℕ → List ℕ → List ℕ → List ℕ → ℕ → List ℕ → List ℕ → List ℕ → Type 0
 Taken o f k ms ps is r ms′ ps′ is′ =
-  (l e₁ e₂ e₃ : List ℕ) → k ≡ length l → Rising l → Stands o l e₁ e₂ e₃ ms ps is → (r ≡ length (f l)) × Stands o (f l) e₁ e₂ e₃ ms′ ps′ is′
+    (l e₁ e₂ e₃ : List ℕ) → k ≡ length l → Rising l → Stands o l e₁ e₂ e₃ ms ps is → (r ≡ length (f l)) × Stands o (f l) e₁ e₂ e₃ ms′ ps′ is′
