@@ -1,5 +1,7 @@
+-- The definitions that the contracts cite, the laws of what a store holds, and the laws of the tests' code.
 pub mod Store
 pub mod WholeStore
+pub mod AllLaws
 pub mod WholeFacts
 pub mod UpToLaws
 pub mod RecordedAtLaws
@@ -9,3 +11,15 @@ pub mod ChainLaws
 pub mod StoreLaws
 pub mod PartFrameLaws
 pub mod FrameLaws
+pub mod SumLaws
+pub mod GoodHeadLaws
+pub mod NeighbourLaws
+pub mod Splits
+pub mod SplitLaws
+pub mod ChainTests
+pub mod RoomLaws
+pub mod ListTests
+pub mod ListTestLaws
+pub mod CountLaws
+pub mod HeaderLaws
+pub mod WholeTestLaws

@@ -1,7 +1,5 @@
 -- What the test of whole bytes says, as facts, both ways. Assumes nothing.
 --
---   all-at, all-intro, all-same     a test of every number below a bound
---   all-none, all-more, all-fails   the same, a number at a time
 --   HeadAt s                        the head is in order, the lent bytes reach the size, rooms hold
 --   SplitsAt s                      the splits are proper, rising, and have their identifiers
 --   ListAt s i                      the list of tree i is in order
@@ -27,50 +25,8 @@ use Rattle.theorems.specs.OpeningLaws.{both}
 use Rattle.fields.specs.Field.{number}
 use Rattle.head.specs.Head.{numbersAt, firstAt, secondAt, openingAt}
 use Rattle.store.specs.Store.{treesHeldAt, splitsHeldAt, treeFrom, laneFrom, sizeAt, maskAt, masksAt, identifierAt, countAt, linkAt, startAt, listAt, treeAt}
+use Rattle.store.specs.AllLaws.{all-at, all-intro}
 use Rattle.store.specs.WholeStore.{allBelow, goodIdentifier, goodSplits, goodList, listed, goodCount, highestBelow, goodLink, goodStart, goodChains, goodLaneAt, goodHead, wholeAt}
-
--- ---- a test of every number below a bound
-
-last-or-below : (i n : ℕ) → i < suc n → (i < n) ⊎ (i ≡ n)
-last-or-below i n h = go (ltb i n) refl
-  where
-    go : (b : Bool) → ltb i n ≡ b → (i < n) ⊎ (i ≡ n)
-    go true e = inl (ltb-true i n e)
-    go false e = inr (omega (arith, ltb-false i n e))
-
-pub all-at : (p : ℕ → Bool) (n : ℕ) → allBelow p n ≡ true → (i : ℕ) → i < n → p i ≡ true
-unfolding allBelow
-all-at p zero e i h = absurd (omega arith)
-all-at p (suc n) e i h = go (last-or-below i n h) (all-at p n (and-left (allBelow p n) (p n) e) i)
-  where
-    go : (i < n) ⊎ (i ≡ n) → (i < n → p i ≡ true) → p i ≡ true
-    go (inl l) f = f l
-    go (inr q) f = rw q (and-right (allBelow p n) (p n) e)
-
-pub all-intro : (p : ℕ → Bool) (n : ℕ) → ((i : ℕ) → i < n → p i ≡ true) → allBelow p n ≡ true
-unfolding allBelow
-all-intro p zero f = refl
-all-intro p (suc n) f = and-true (all-intro p n (λ i h. f i (omega arith))) (f n (omega arith))
-
-pub all-same : (p q : ℕ → Bool) (n : ℕ) → ((i : ℕ) → i < n → p i ≡ q i) → allBelow p n ≡ allBelow q n
-unfolding allBelow
-all-same p q zero f = refl
-all-same p q (suc n) f = ap₂ (λ (a b : Bool). a && b) (all-same p q n (λ i h. f i (omega arith))) (f n (omega arith))
-
-pub all-none : (p : ℕ → Bool) → allBelow p 0 ≡ true
-unfolding allBelow
-all-none p = refl
-
-pub all-more : (p : ℕ → Bool) (n : ℕ) → allBelow p n ≡ true → p n ≡ true → allBelow p (suc n) ≡ true
-unfolding allBelow
-all-more p n e h = and-true e h
-
-pub all-fails : (p : ℕ → Bool) (n i : ℕ) → i < n → p i ≡ false → allBelow p n ≡ false
-all-fails p n i h e = go (allBelow p n) refl
-  where
-    go : (b : Bool) → allBelow p n ≡ b → b ≡ false
-    go true q = absurd (true≢false (sym (all-at p n q i h) ∙ e))
-    go false q = refl
 
 -- ---- the head
 

@@ -1,1 +1,34 @@
-// The collection in lent bytes.
+// The collection in lent bytes: what whole tests.
+//
+// Read specs/Store.antt for every byte and specs/WholeStore.antt for what "whole" means of bytes; `wholeAt` is what `is_whole` answers.
+ghost use mathlib.Core.Path.{_≡_};
+ghost use Rattle.store.specs.WholeStore.{wholeAt};
+
+mod header;
+mod lists;
+mod places;
+mod splits;
+
+pub use header::head_good;
+
+// Whether the lent bytes, of any number and with any values, are a whole collection.
+pub fn is_whole(s: &[u8]) -> bool
+    ensures { λ r. ⌜ r ≡ wholeAt (now (s .entry)) ⌝ }
+{
+    if !header::head_good(s) {
+        return false;
+    }
+    if !splits::splits_good(s) {
+        return false;
+    }
+    if !lists::lists_good(s) {
+        return false;
+    }
+    if !lists::counts_good(s) {
+        return false;
+    }
+    if !splits::chains_good(s) {
+        return false;
+    }
+    lists::lanes_good(s)
+}

@@ -1,0 +1,53 @@
+-- `store::header::all_label_bytes` meets its contract. The loop's invariant: the bytes from i on decide. Assumes nothing.
+use Prim.Native.Nat.{_≤_, _-_}
+use mathlib.Core.Path.{_≡_, refl, sym, _∙_}
+use native.Mathlib.Omega.{arith}
+use lib.Seq.{slice}
+use borrow.Author.Needs.{needs}
+use Rattle.trees.specs.Plain.{every}
+use Rattle.trees.specs.Text.{isLabelByte}
+use Rattle.opening.specs.GivenLaws.{failed, passed}
+use Rattle.opening.specs.NameListLaws.{label-more, label-not, label-end}
+use Rattle.store.proofs.header.all_label_bytes.Statement.{statement}
+use Rattle.store.proofs.header.all_label_bytes.Tie as tie
+
+abbrev Inv-loop : tie.InvT-loop
+Inv-loop s b e i₀ i = (i ≤ e) × (every isLabelByte (slice b e s) ≡ every isLabelByte (slice i e s))
+
+abbrev μ-loop : tie.MeasureT-loop
+μ-loop s b e i₀ i = e - i
+
+returns : tie.Need-returns Inv-loop μ-loop
+returns c =
+    let a = c .before .before .before .before .before .before .args in
+    let l = c .before .before .before .before .loop in
+    let q = failed _ _ (c .before .is-label-byte .ensures) (c .if1 .taken) in
+    sym (l .inv .1 ∙ label-not (a .s .now) (l .i) (a .e) (omega arith) (omega arith) q)
+
+loop-again : tie.Need-loop-again Inv-loop μ-loop
+loop-again c =
+    let a = c .before .before .before .before .before .before .args in
+    let l = c .before .before .before .before .loop in
+    let q = passed _ _ (c .before .is-label-byte .ensures) (c .if1 .left) in
+    (omega arith, l .inv .1 ∙ label-more (a .s .now) (l .i) (a .e) (omega arith) (omega arith) q)
+
+returns-2 : tie.Need-returns-2 Inv-loop μ-loop
+returns-2 c =
+    let a = c .before .before .before .args in
+    let l = c .before .loop in
+    sym (l .inv .1 ∙ label-end (a .s .now) (l .i) (a .e) (omega arith))
+
+pub all-label-bytes-spec : {M : Type 1} → statement M
+all-label-bytes-spec =
+    tie.close
+    (tie.spec
+    Inv-loop
+    μ-loop
+    (λ c. (omega arith, refl))
+    (λ c. omega arith)
+    (λ c κs. search needs)
+    returns
+    (λ c. omega arith)
+    (λ c. omega arith)
+    loop-again
+    returns-2)

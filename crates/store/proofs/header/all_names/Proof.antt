@@ -1,0 +1,58 @@
+-- `store::header::all_names` meets its contract. The loop's invariant: the names from i on decide. Assumes nothing.
+use Prim.Native.Nat.{_≤_, _-_}
+use mathlib.Core.Path.{_≡_, refl, sym, ap, _∙_}
+use mathlib.Core.List.{[]}
+use native.Mathlib.Omega.{arith}
+use lib.ListN.{drop}
+use Rattle.trees.specs.Plain.{every}
+use Rattle.trees.specs.Names.{isName}
+use Rattle.head.specs.Head.{numbersAt, namesAt}
+use Rattle.head.specs.HeadLaws.{names-length, names-at}
+use Rattle.opening.specs.GivenLaws.{failed, passed, every-more, every-not, every-none}
+use Rattle.store.proofs.header.all_names.Statement.{statement}
+use Rattle.store.proofs.header.all_names.Tie as tie
+
+abbrev Inv-loop : tie.InvT-loop
+Inv-loop s taxa i₀ i = (i ≤ taxa) × (taxa ≡ numbersAt s .taxa) × (every isName (namesAt s) ≡ every isName (drop i (namesAt s)))
+
+abbrev μ-loop : tie.MeasureT-loop
+μ-loop s taxa i₀ i = taxa - i
+
+returns : tie.Need-returns Inv-loop μ-loop
+returns c =
+    let s = c .before .before .before .before .before .before .args .s .now in
+    let l = c .before .before .before .loop in
+    let n = names-length s in
+    let e = ap isName (names-at s (l .i) (omega arith)) ∙ failed _ _ (c .before .is-name .ensures) (c .if1 .taken) in
+    sym (l .inv .2 ∙ every-not isName (namesAt s) [] (l .i) (omega arith) e)
+
+loop-again : tie.Need-loop-again Inv-loop μ-loop
+loop-again c =
+    let s = c .before .before .before .before .before .before .args .s .now in
+    let l = c .before .before .before .loop in
+    let n = names-length s in
+    let e = ap isName (names-at s (l .i) (omega arith)) ∙ passed _ _ (c .before .is-name .ensures) (c .if1 .left) in
+    (omega arith, l .inv .1, l .inv .2 ∙ every-more isName (namesAt s) [] (l .i) (omega arith) e)
+
+returns-2 : tie.Need-returns-2 Inv-loop μ-loop
+returns-2 c =
+    let s = c .before .before .before .before .args .s .now in
+    let l = c .before .loop in
+    let n = names-length s in
+    sym (l .inv .2 ∙ every-none isName (namesAt s) [] (l .i) (omega arith))
+
+pub all-names-spec : {M : Type 1} → statement M
+all-names-spec =
+    tie.close
+    (tie.spec
+    Inv-loop
+    μ-loop
+    (λ c κs. omega arith)
+    (λ c. omega arith)
+    (λ c. (omega arith, c .taxa .ensures .0, refl))
+    (λ c κs. (omega arith, omega arith))
+    returns
+    (λ c. omega arith)
+    (λ c. omega arith)
+    loop-again
+    returns-2)

@@ -1,0 +1,21 @@
+-- `store::places::links_from` meets its contract: the definition. Assumes nothing.
+use native.Mathlib.Omega.{arith}
+use borrow.Author.Needs.{needs}
+use Rattle.store.specs.Store.{linksFrom}
+use Rattle.store.proofs.places.links_from.Statement.{statement}
+use Rattle.store.proofs.places.links_from.Tie as tie
+
+returns : tie.Need-returns
+unfolding linksFrom
+returns c = (omega arith, omega arith)
+
+pub links-from-spec : {M : Type 1} → statement M
+links-from-spec =
+    tie.close
+    (tie.spec
+    (λ c κs. search needs)
+    (λ c κs. search needs)
+    (λ c. search needs)
+    (λ c. search needs)
+    (λ c. search needs)
+    returns)

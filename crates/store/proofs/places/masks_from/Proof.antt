@@ -1,0 +1,24 @@
+-- `store::places::masks_from` meets its contract: the definition. Assumes nothing.
+use native.Mathlib.Omega.{arith}
+use borrow.Author.Needs.{needs}
+use Rattle.store.specs.Store.{laneFrom, treeFrom, masksFrom}
+use Rattle.store.proofs.places.masks_from.Statement.{statement}
+use Rattle.store.proofs.places.masks_from.Tie as tie
+
+returns : tie.Need-returns
+unfolding masksFrom treeFrom laneFrom
+returns c = (omega arith, omega arith)
+
+pub masks-from-spec : {M : Type 1} → statement M
+masks-from-spec =
+    tie.close
+    (tie.spec
+    (λ c κs. search needs)
+    (λ c. search needs)
+    (λ c. search needs)
+    (λ c. search needs)
+    (λ c κs. search needs)
+    (λ c. search needs)
+    (λ c. search needs)
+    (λ c. search needs)
+    returns)

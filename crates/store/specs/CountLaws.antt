@@ -1,0 +1,144 @@
+-- The laws of the counts, as the code adds and compares them. Assumes nothing.
+--
+--   counted-none              no tree
+--   part-none, part-more, part-all     one turn of the loop over a tree's list
+--   part-most                 a count never exceeds the trees' number
+--   count-zero, count-wrong, count-right     a count's test, in the order of the code
+use mathlib.Core.Path.{_≡_, refl, sym, ap, _∙_}
+use mathlib.Core.Logic.{_⊎_, inl, inr}
+use mathlib.Core.Bool.{Bool, true, false, _&&_, _||_, and-false, or-false, or-assoc}
+use mathlib.Core.List.{List, [], _∷_, _++_}
+use Prim.Native.Nat.{ℕ, zero, suc, _+_, _*_, _≤_, _<_}
+use native.Mathlib.Nat.{add-zero}
+use native.Mathlib.Numerals.{add-one}
+use native.Mathlib.Omega.{arith}
+use lib.Dec.{leb, eqb}
+use lib.ListN.{length, getD, set, take, replicate, length-set, length-replicate, getD-replicate}
+use lib.Seq.{take-suc, take-all, getD-set-same, getD-set-other}
+use borrow.Author.Tests.{eq-eqb, ne-eqb, eqb-true, eqb-false, le-leb, lt-leb}
+use Rattle.trees.specs.Plain.{if_then_else_, member}
+use Rattle.theorems.specs.ListLaws.{Mem, member-not}
+use Rattle.theorems.specs.RisingLaws.{Rising}
+use Rattle.fields.specs.Field.{number}
+use Rattle.store.specs.Store.{treesHeldAt, splitsHeldAt, countsFrom, countAt, listAt}
+use Rattle.store.specs.WholeStore.{listed, goodCount}
+use Rattle.store.specs.ListTests.{oneIf, CountedPart, Counted}
+use Rattle.store.specs.ListTestLaws.{mem-getD}
+
+-- ---- one tree more
+
+listed-step : (s : List ℕ) (k t : ℕ) → listed s k (suc t) ≡ listed s k t + oneIf (member k (listAt s t))
+unfolding listed oneIf
+listed-step s k t = go (member k (listAt s t))
+  where
+    go : (b : Bool) → (if b then suc (listed s k t) else listed s k t) ≡ listed s k t + (if b then 1 else 0)
+    go true = omega arith
+    go false = omega arith
+
+one-most : (b : Bool) → oneIf b ≤ 1
+unfolding oneIf
+one-most true = omega arith
+one-most false = omega arith
+
+listed-most : (s : List ℕ) (k t : ℕ) → listed s k t ≤ t
+unfolding listed
+listed-most s k zero = omega arith
+listed-most s k (suc t) = omega (arith, listed-step s k t, one-most (member k (listAt s t)), listed-most s k t)
+
+-- ---- the first numbers of a list
+
+member-last : (k x : ℕ) (l : List ℕ) → member k (l ++ (x ∷ [])) ≡ (member k l || eqb k x)
+unfolding member
+member-last k x [] = or-false (eqb k x)
+member-last k x (y ∷ l) = ap (λ (b : Bool). eqb k y || b) (member-last k x l) ∙ sym (or-assoc (eqb k y) (member k l) (eqb k x))
+
+front-below : (l : List ℕ) (j y : ℕ) → Rising l → j < length l → Mem y (take j l) → y < getD l j 0
+front-below [] j y r h m = absurd (omega arith)
+front-below (x ∷ l) zero y r h m = absurd m
+front-below (x ∷ l) (suc j) y r h (inl e) = rw e (r .0 _ (mem-getD l j (omega arith)))
+front-below (x ∷ l) (suc j) y r h (inr m) = front-below l j y (r .1) (omega arith) m
+
+module _ (l : List ℕ) (j k : ℕ) (h : j < length l) where
+  front-member : member k (take (j + 1) l) ≡ (member k (take j l) || eqb k (getD l j 0))
+  front-member = rw (add-one j, take-suc l j 0 h) (member-last k (getD l j 0) (take j l))
+
+  front-other : (k ≡ getD l j 0 → ⊥) → oneIf (member k (take (j + 1) l)) ≡ oneIf (member k (take j l))
+  front-other n = ap oneIf (front-member ∙ rw (ne-eqb _ _ n) (or-false (member k (take j l))))
+
+  front-here : Rising l → k ≡ getD l j 0 → oneIf (member k (take (j + 1) l)) ≡ oneIf (member k (take j l)) + 1
+  unfolding oneIf
+  front-here r e =
+      let n : member k (take j l) ≡ false = member-not k (take j l) (λ m. omega (arith, front-below l j k r h m)) in
+      rw (front-member, n, eq-eqb k (getD l j 0) e)
+
+-- ---- the counts of a part
+
+same-or-other : (a b : ℕ) → (a ≡ b) ⊎ (a ≡ b → ⊥)
+same-or-other a b = go (eqb a b) refl
+  where
+    go : (t : Bool) → eqb a b ≡ t → (a ≡ b) ⊎ (a ≡ b → ⊥)
+    go true e = inl (eqb-true a b e)
+    go false e = inr (eqb-false a b e)
+
+module _ (s : List ℕ) (t : ℕ) where
+  pub part-none : (c : List ℕ) → Counted s t c → CountedPart s t 0 c
+  unfolding oneIf member
+  part-none c p = record { size = p .size; entries = λ k h. p .entries k h ∙ sym (add-zero (listed s k t)) }
+
+  pub part-all : (j : ℕ) (c : List ℕ) → length (listAt s t) ≤ j → CountedPart s t j c → Counted s (t + 1) c
+  part-all j c h p =
+      record {
+        size = p .size;
+        entries = λ k l. p .entries k l ∙ rw (take-all j (listAt s t) h, add-one t) (sym (listed-step s k t));
+      }
+
+  pub part-most : (j : ℕ) (c : List ℕ) → CountedPart s t j c → (x : ℕ) → x < splitsHeldAt s → getD c x 0 ≤ t + 1
+  part-most j c p x h = omega (arith, p .entries x h, one-most (member x (take j (listAt s t))), listed-most s x t)
+
+  module _ (j : ℕ) (c : List ℕ) (p : CountedPart s t j c) (r : Rising (listAt s t)) (h : j < length (listAt s t)) where
+    pub part-more : (x : ℕ) → getD (listAt s t) j 0 ≡ x → x < 4096 → CountedPart s t (j + 1) (set c x (getD c x 0 + 1))
+    part-more x e f = record { size = length-set c x _ ∙ p .size; entries = λ k l. go k l (same-or-other k x) }
+      where
+        go : (k : ℕ) → k < splitsHeldAt s → (k ≡ x) ⊎ (k ≡ x → ⊥)
+            → getD (set c x (getD c x 0 + 1)) k 0 ≡ listed s k t + oneIf (member k (take (j + 1) (listAt s t)))
+        go k l (inl q) =
+            let z = p .size in
+            let m = front-here (listAt s t) j k h r (q ∙ sym e) in
+            let w = p .entries k l in
+            let u : getD c k 0 ≡ getD c x 0 = ap (λ (i : ℕ). getD c i 0) q in
+            let v : getD c x 0 + 1 ≡ listed s k t + oneIf (member k (take (j + 1) (listAt s t))) = omega arith in
+            ap (λ (i : ℕ). getD (set c x (getD c x 0 + 1)) i 0) q ∙ getD-set-same c x (getD c x 0 + 1) 0 (omega arith) ∙ v
+        go k l (inr q) =
+            let m = front-other (listAt s t) j k h (λ d. q (d ∙ e)) in
+            let w = p .entries k l in
+            let v : getD c k 0 ≡ listed s k t + oneIf (member k (take (j + 1) (listAt s t))) = omega arith in
+            getD-set-other c x k _ 0 q ∙ v
+
+-- no tree is counted yet
+pub counted-none : (s : List ℕ) → Counted s 0 (replicate 4096 0)
+unfolding listed
+counted-none s = record { size = length-replicate {A = ℕ} 4096 0; entries = λ k h. zeros 4096 k }
+  where
+    zeros : (n k : ℕ) → _≡_ {A = ℕ} (getD (replicate n 0) k 0) 0
+    zeros zero k = refl
+    zeros (suc n) zero = refl
+    zeros (suc n) (suc k) = zeros n k
+
+-- ---- a count's test, in the order of the code
+
+module _ (s : List ℕ) (k first x : ℕ) (d : first ≡ countsFrom s) (q : x ≡ number 4 s (first + 4 * k)) where
+  count-at : countAt s k ≡ x
+  unfolding countAt
+  count-at = rw (← d) (sym q)
+
+  pub count-zero : x ≡ 0 → goodCount s k ≡ false
+  unfolding goodCount
+  count-zero e = rw (count-at, e)
+
+  pub count-wrong : (x ≡ listed s k (treesHeldAt s) → ⊥) → goodCount s k ≡ false
+  unfolding goodCount
+  count-wrong n = rw (count-at, ne-eqb _ _ n) (and-false (leb 1 x))
+
+  pub count-right : (x ≡ 0 → ⊥) → x ≡ listed s k (treesHeldAt s) → goodCount s k ≡ true
+  unfolding goodCount
+  count-right n e = rw (count-at, le-leb 1 x (omega arith), eq-eqb _ _ e)

@@ -1,0 +1,37 @@
+-- A tree's list, as the code tests it.
+--
+--   numberIn s i j         number j of the list of tree i
+--   risingBelow k low l    each number of l is at least low, greater than the one before, and below k
+--   CountedPart s t j c    c has, for each split, how many of the first t trees and the first j numbers of the next list it
+--   Counted s t c          c has, for each split, how many of the first t trees list it
+use Prim.Native.Nat.{ℕ, suc, _+_, _*_, _<_}
+use mathlib.Core.Path.{_≡_}
+use mathlib.Core.Bool.{Bool, true, _&&_}
+use mathlib.Core.List.{List, [], _∷_}
+use lib.Dec.{leb, ltb}
+use lib.ListN.{length, getD, take}
+use Rattle.trees.specs.Plain.{if_then_else_, member}
+use Rattle.fields.specs.Field.{number}
+use Rattle.store.specs.Store.{splitsHeldAt, treeFrom, listAt}
+use Rattle.store.specs.WholeStore.{listed}
+
+unfoldable pub numberIn : List ℕ → ℕ → ℕ → ℕ
+unfolding number treeFrom
+numberIn s i j = number 2 s (treeFrom s i + 2 + 2 * j)
+
+unfoldable pub risingBelow : ℕ → ℕ → List ℕ → Bool
+risingBelow k low [] = true
+risingBelow k low (x ∷ l) = leb low x && (ltb x k && risingBelow k (suc x) l)
+
+-- ---- the counts, in a list of 4,096
+
+unfoldable pub oneIf : Bool → ℕ
+oneIf b = if b then 1 else 0
+
+pub record CountedPart (s : List ℕ) (t j : ℕ) (c : List ℕ) : Type 0 where
+  pub size : length c ≡ 4096
+  pub entries : (k : ℕ) → k < splitsHeldAt s → getD c k 0 ≡ listed s k t + oneIf (member k (take j (listAt s t)))
+
+pub record Counted (s : List ℕ) (t : ℕ) (c : List ℕ) : Type 0 where
+  pub size : length c ≡ 4096
+  pub entries : (k : ℕ) → k < splitsHeldAt s → getD c k 0 ≡ listed s k t

@@ -1,0 +1,64 @@
+-- Whole, test after test: the first that fails decides.
+use mathlib.Core.Path.{_≡_, refl, ap, sym, _∙_}
+use mathlib.Core.Bool.{Bool, true, false, _&&_}
+use Prim.Native.Nat.{ℕ}
+use mathlib.Core.List.{List}
+use Rattle.head.specs.Head.{numbersAt}
+use Rattle.store.specs.Store.{treesHeldAt, splitsHeldAt}
+use Rattle.store.specs.WholeStore.{allBelow, goodHead, goodSplits, goodList, goodCount, goodChains, goodLaneAt, wholeAt}
+
+-- six tests, one after another
+chain : (a b c d e f : Bool) → Bool
+chain a b c d e f = a && (b && (c && (d && (e && f))))
+
+abbrev lists : List ℕ → Bool
+lists s = allBelow (goodList s) (treesHeldAt s)
+
+abbrev counts : List ℕ → Bool
+counts s = allBelow (goodCount s) (splitsHeldAt s)
+
+abbrev lanes : List ℕ → Bool
+lanes s = allBelow (goodLaneAt s) (numbersAt s .lanes)
+
+whole-chain : (s : List ℕ) → wholeAt s ≡ chain (goodHead s) (goodSplits s) (lists s) (counts s) (goodChains s) (lanes s)
+unfolding wholeAt chain
+whole-chain s = refl
+
+module _ (s : List ℕ) where
+  -- ---- the first test that fails
+  pub no-head : goodHead s ≡ false → false ≡ wholeAt s
+  unfolding chain
+  no-head a = sym (whole-chain s ∙ ap (λ t. chain t (goodSplits s) (lists s) (counts s) (goodChains s) (lanes s)) a)
+
+  module _ (a : goodHead s ≡ true) where
+    with-head : wholeAt s ≡ (goodSplits s && (lists s && (counts s && (goodChains s && lanes s))))
+    unfolding chain
+    with-head = whole-chain s ∙ ap (λ t. chain t (goodSplits s) (lists s) (counts s) (goodChains s) (lanes s)) a
+
+    pub no-splits : goodSplits s ≡ false → false ≡ wholeAt s
+    no-splits b = sym (with-head ∙ ap (λ t. t && (lists s && (counts s && (goodChains s && lanes s)))) b)
+
+    module _ (b : goodSplits s ≡ true) where
+      with-splits : wholeAt s ≡ (lists s && (counts s && (goodChains s && lanes s)))
+      with-splits = with-head ∙ ap (λ t. t && (lists s && (counts s && (goodChains s && lanes s)))) b
+
+      pub no-lists : lists s ≡ false → false ≡ wholeAt s
+      no-lists c = sym (with-splits ∙ ap (λ t. t && (counts s && (goodChains s && lanes s))) c)
+
+      module _ (c : lists s ≡ true) where
+        with-lists : wholeAt s ≡ (counts s && (goodChains s && lanes s))
+        with-lists = with-splits ∙ ap (λ t. t && (counts s && (goodChains s && lanes s))) c
+
+        pub no-counts : counts s ≡ false → false ≡ wholeAt s
+        no-counts d = sym (with-lists ∙ ap (λ t. t && (goodChains s && lanes s)) d)
+
+        module _ (d : counts s ≡ true) where
+          with-counts : wholeAt s ≡ (goodChains s && lanes s)
+          with-counts = with-lists ∙ ap (λ t. t && (goodChains s && lanes s)) d
+
+          pub no-chains : goodChains s ≡ false → false ≡ wholeAt s
+          no-chains e = sym (with-counts ∙ ap (λ t. t && lanes s) e)
+
+          -- ---- the last test decides
+          pub by-lanes : goodChains s ≡ true → {r : Bool} → r ≡ lanes s → r ≡ wholeAt s
+          by-lanes e f = f ∙ sym (with-counts ∙ ap (λ t. t && lanes s) e)

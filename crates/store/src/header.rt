@@ -1,0 +1,270 @@
+// Whether the head of lent bytes is in order: the test `goodHead` of `specs/WholeStore.antt`, exactly,
+// on any bytes.
+ghost use mathlib.Core.Path.{_≡_};
+ghost use mathlib.Core.Bool.{true};
+ghost use Prim.Native.Nat.{_+_, _*_, _≤_, _<_};
+ghost use lib.ListN.{length, getD, drop};
+ghost use lib.Seq.{slice};
+ghost use Rattle.trees.specs.Plain.{every, sameBytes, inNames};
+ghost use Rattle.trees.specs.Text.{isLabelByte};
+ghost use Rattle.trees.specs.Names.{isName, different, goodNames};
+ghost use Rattle.trees.specs.Opening.{inRange, goodConstants};
+ghost use Rattle.trees.specs.Whole.{goodOpening};
+ghost use Rattle.head.specs.Head.{numbersAt, nameAt, namesAt, firstAt, secondAt, openingAt};
+ghost use Rattle.store.specs.Store.{sizeAt};
+ghost use Rattle.store.specs.WholeStore.{goodHead};
+use super::lists;
+use masks::Taxon;
+
+// Whether the head is there and in order, the lent bytes reach its size, and its rooms hold.
+pub fn head_good(s: &[u8]) -> bool
+    ensures { λ r. ⌜ r ≡ goodHead (now (s .entry)) ⌝ }
+{
+    if s.len() < 4096 {
+        return false;
+    }
+    if !opening_good(s) {
+        return false;
+    }
+    if s.len() < store_size(s) {
+        return false;
+    }
+    if (head::tree_room(s) as usize) < lists::trees_held(s) {
+        return false;
+    }
+    lists::splits_held(s) <= head::split_room(s) as usize
+}
+
+// Whether the opening that the head holds passes its checks.
+fn opening_good(s: &[u8]) -> bool
+    requires { ⌜ 4096 ≤ length (now s) ⌝ }
+    ensures { λ r. ⌜ r ≡ goodOpening (openingAt (now (s .entry))) ⌝ }
+{
+    if !numbers_good(s) {
+        return false;
+    }
+    if !constants_good(s) {
+        return false;
+    }
+    names_good(s)
+}
+
+// Whether the five numbers are in their ranges.
+fn numbers_good(s: &[u8]) -> bool
+    requires { ⌜ 4096 ≤ length (now s) ⌝ }
+    ensures { λ r. ⌜ r ≡ inRange (numbersAt (now (s .entry))) ⌝ }
+{
+    opening::numbers_in_range(
+        head::taxa(s),
+        head::lanes(s),
+        head::tree_room(s),
+        head::split_room(s),
+        head::places(s),
+    )
+}
+
+// The size of the store, by its numbers.
+fn store_size(s: &[u8]) -> usize
+    requires { ⌜ 4096 ≤ length (now s) ⌝ }
+    requires { ⌜ inRange (numbersAt (now s)) ≡ true ⌝ }
+    ensures { λ r. ⌜ r ≡ sizeAt (now (s .entry)) ⌝ }
+{
+    opening::store_size(
+        head::taxa(s),
+        head::lanes(s),
+        head::tree_room(s),
+        head::split_room(s),
+        head::places(s),
+    )
+}
+
+// Whether the first list's constants are below the number of places; the second's are any.
+fn constants_good(s: &[u8]) -> bool
+    requires { ⌜ 4096 ≤ length (now s) ⌝ }
+    requires { ⌜ numbersAt (now s) .taxa ≤ 64 ⌝ }
+    ensures { λ r. ⌜ r ≡ goodConstants (numbersAt (now (s .entry))) (firstAt (now (s .entry))) (secondAt (now (s .entry))) ⌝ }
+{
+    let taxa = head::taxa(s);
+    let places = head::places(s) as u64;
+    let mut i = 0u32;
+    while i < taxa {
+        if places <= head::first_constant(s, Taxon(i)) {
+            return false;
+        }
+        i += 1;
+    }
+    true
+}
+
+// Whether the names are 1 to 32 label bytes each, and all different.
+fn names_good(s: &[u8]) -> bool
+    requires { ⌜ 4096 ≤ length (now s) ⌝ }
+    requires { ⌜ numbersAt (now s) .taxa ≤ 64 ⌝ }
+    ensures { λ r. ⌜ r ≡ goodNames (numbersAt (now (s .entry)) .taxa) (namesAt (now (s .entry))) ⌝ }
+{
+    if !all_names(s) {
+        return false;
+    }
+    all_different(s)
+}
+
+// Whether each name is 1 to 32 label bytes.
+fn all_names(s: &[u8]) -> bool
+    requires { ⌜ 4096 ≤ length (now s) ⌝ }
+    requires { ⌜ numbersAt (now s) .taxa ≤ 64 ⌝ }
+    ensures { λ r. ⌜ r ≡ every isName (namesAt (now (s .entry))) ⌝ }
+{
+    let taxa = head::taxa(s) as usize;
+    let mut i = 0;
+    while i < taxa {
+        if !is_name(s, i) {
+            return false;
+        }
+        i += 1;
+    }
+    true
+}
+
+// Whether the name of taxon i is 1 to 32 label bytes.
+fn is_name(s: &[u8], i: usize) -> bool
+    requires { ⌜ 4096 ≤ length (now s) ⌝ }
+    requires { ⌜ i < 64 ⌝ }
+    ensures { λ r. ⌜ r ≡ isName (nameAt (now (s .entry)) i) ⌝ }
+{
+    let n = name_length(s, i);
+    if n < 1 {
+        return false;
+    }
+    if 32 < n {
+        return false;
+    }
+    let b = 17 + 33 * i;
+    all_label_bytes(s, b, b + n)
+}
+
+// Whether the bytes of s from b up to e are label bytes.
+fn all_label_bytes(s: &[u8], b: usize, e: usize) -> bool
+    requires { ⌜ b ≤ e ⌝ }
+    requires { ⌜ e ≤ length (now s) ⌝ }
+    ensures { λ r. ⌜ r ≡ every isLabelByte (slice b e (now (s .entry))) ⌝ }
+{
+    let mut i = b;
+    while i < e {
+        if !is_label_byte(s[i]) {
+            return false;
+        }
+        i += 1;
+    }
+    true
+}
+
+// Whether b is a label byte: 33 to 126, without the marks `( ) [ ] ' : ; ,`.
+fn is_label_byte(b: u8) -> bool
+    ensures { λ r. ⌜ r ≡ isLabelByte b ⌝ }
+{
+    if b < 33 {
+        return false;
+    }
+    if 126 < b {
+        return false;
+    }
+    if b == 40 {
+        return false;
+    }
+    if b == 41 {
+        return false;
+    }
+    if b == 91 {
+        return false;
+    }
+    if b == 93 {
+        return false;
+    }
+    if b == 39 {
+        return false;
+    }
+    if b == 58 {
+        return false;
+    }
+    if b == 59 {
+        return false;
+    }
+    b != 44
+}
+
+// Whether no name comes twice.
+fn all_different(s: &[u8]) -> bool
+    requires { ⌜ 4096 ≤ length (now s) ⌝ }
+    requires { ⌜ numbersAt (now s) .taxa ≤ 64 ⌝ }
+    ensures { λ r. ⌜ r ≡ different (namesAt (now (s .entry))) ⌝ }
+{
+    let taxa = head::taxa(s) as usize;
+    let mut i = 0;
+    while i < taxa {
+        if comes_again(s, i) {
+            return false;
+        }
+        i += 1;
+    }
+    true
+}
+
+// Whether the name of taxon i is one of those behind it.
+fn comes_again(s: &[u8], i: usize) -> bool
+    requires { ⌜ 4096 ≤ length (now s) ⌝ }
+    requires { ⌜ numbersAt (now s) .taxa ≤ 64 ⌝ }
+    requires { ⌜ i < numbersAt (now s) .taxa ⌝ }
+    ensures { λ r. ⌜ r ≡ inNames (nameAt (now (s .entry)) i) (drop (i + 1) (namesAt (now (s .entry)))) ⌝ }
+{
+    let taxa = head::taxa(s) as usize;
+    let mut j = i + 1;
+    while j < taxa {
+        if same_names(s, j, i) {
+            return true;
+        }
+        j += 1;
+    }
+    false
+}
+
+// Whether the names of taxa i and j are the same.
+fn same_names(s: &[u8], i: usize, j: usize) -> bool
+    requires { ⌜ 4096 ≤ length (now s) ⌝ }
+    requires { ⌜ i < 64 ⌝ }
+    requires { ⌜ j < 64 ⌝ }
+    ensures { λ r. ⌜ r ≡ sameBytes (nameAt (now (s .entry)) i) (nameAt (now (s .entry)) j) ⌝ }
+{
+    let n = name_length(s, i);
+    if n != name_length(s, j) {
+        return false;
+    }
+    same_runs(s, 17 + 33 * i, 17 + 33 * j, n)
+}
+
+// Whether the n bytes of s from a are those from b.
+fn same_runs(s: &[u8], a: usize, b: usize, n: usize) -> bool
+    requires { ⌜ a + n ≤ length (now s) ⌝ }
+    requires { ⌜ b + n ≤ length (now s) ⌝ }
+    ensures { λ r. ⌜ r ≡ sameBytes (slice a (a + n) (now (s .entry))) (slice b (b + n) (now (s .entry))) ⌝ }
+{
+    let z = a + n;
+    let mut i = a;
+    let mut j = b;
+    while i < z {
+        if s[i] != s[j] {
+            return false;
+        }
+        i += 1;
+        j += 1;
+    }
+    true
+}
+
+// The length of the name of taxon i.
+fn name_length(s: &[u8], i: usize) -> usize
+    requires { ⌜ 4096 ≤ length (now s) ⌝ }
+    requires { ⌜ i < 64 ⌝ }
+    ensures { λ r. ⌜ (r ≡ getD (now (s .entry)) (16 + 33 * i) 0) × (r < 256) ⌝ }
+{
+    s[16 + 33 * i] as usize
+}

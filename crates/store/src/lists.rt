@@ -1,0 +1,271 @@
+// Whether the trees' lists, the counts and the lanes of lent bytes with a good head are in order: the
+// tests of `specs/WholeStore.antt`, exactly.
+ghost use mathlib.Core.Path.{_≡_};
+ghost use mathlib.Core.Bool.{true};
+ghost use Prim.Native.Nat.{ℕ, _+_, _*_, _≤_, _<_};
+ghost use lib.ListN.{length, take};
+ghost use lib.Seq.{slice};
+ghost use Rattle.trees.specs.Plain.{every};
+ghost use Rattle.trees.specs.Mask.{agree};
+ghost use Rattle.trees.specs.Whole.{agreeInPairs};
+ghost use Rattle.fields.specs.Field.{number};
+ghost use Rattle.head.specs.Head.{numbersAt};
+ghost use Rattle.store.specs.Store.{treesHeldAt, splitsHeldAt, treeFrom, masksFrom, countsFrom, listAt, treeAt};
+ghost use Rattle.store.specs.WholeStore.{allBelow, goodHead, goodList, goodCount, goodLaneAt};
+ghost use Rattle.store.specs.ListTests.{risingBelow, Counted};
+
+// Whether every tree's list is in order.
+pub fn lists_good(s: &[u8]) -> bool
+    requires { ⌜ goodHead (now s) ≡ true ⌝ }
+    ensures { λ r. ⌜ r ≡ allBelow (goodList (now (s .entry))) (treesHeldAt (now (s .entry))) ⌝ }
+{
+    let trees = trees_held(s);
+    let mut i = 0;
+    while i < trees {
+        if !list_good(s, i) {
+            return false;
+        }
+        i += 1;
+    }
+    true
+}
+
+// Whether tree i lists at most 61 recorded splits, rising and agreeing in pairs.
+pub fn list_good(s: &[u8], i: usize) -> bool
+    requires { ⌜ goodHead (now s) ≡ true ⌝ }
+    requires { ⌜ i < treesHeldAt (now s) ⌝ }
+    ensures { λ r. ⌜ r ≡ goodList (now (s .entry)) i ⌝ }
+{
+    let n = number16(s, tree_from(s, i));
+    if 61 < n {
+        return false;
+    }
+    if !numbers_rise(s, i, n) {
+        return false;
+    }
+    let mut masks = [0; 64];
+    copy_masks(s, i, n, &mut masks);
+    pairs_agree(&masks, n)
+}
+
+// Whether the n numbers of tree i rise and are below the number of splits.
+fn numbers_rise(s: &[u8], i: usize, n: usize) -> bool
+    requires { ⌜ goodHead (now s) ≡ true ⌝ }
+    requires { ⌜ i < treesHeldAt (now s) ⌝ }
+    requires { ⌜ n ≡ number 2 (now s) (treeFrom (now s) i) ⌝ }
+    requires { ⌜ n ≤ 61 ⌝ }
+    ensures { λ r. ⌜ r ≡ risingBelow (splitsHeldAt (now (s .entry))) 0 (listAt (now (s .entry)) i) ⌝ }
+{
+    let from = tree_from(s, i) + 2;
+    let splits = splits_held(s);
+    let mut low = 0;
+    let mut j = 0;
+    while j < n {
+        let k = number16(s, from + 2 * j);
+        if k < low {
+            return false;
+        }
+        if splits <= k {
+            return false;
+        }
+        low = k + 1;
+        j += 1;
+    }
+    true
+}
+
+// Copies the n masks of tree i to the front of `masks`.
+fn copy_masks(s: &[u8], i: usize, n: usize, masks: &mut [u64; 64])
+    requires { ⌜ goodHead (now s) ≡ true ⌝ }
+    requires { ⌜ i < treesHeldAt (now s) ⌝ }
+    requires { ⌜ n ≡ number 2 (now s) (treeFrom (now s) i) ⌝ }
+    requires { ⌜ n ≤ 61 ⌝ }
+    requires { ⌜ risingBelow (splitsHeldAt (now s)) 0 (listAt (now s) i) ≡ true ⌝ }
+    requires { ⌜ length (now masks) ≡ 64 ⌝ }
+    ensures { λ r. ⌜ take n (now (masks .exit)) ≡ treeAt (now (s .entry)) i ⌝ }
+    ensures { λ r. ⌜ length (now (masks .exit)) ≡ 64 ⌝ }
+{
+    let from = tree_from(s, i) + 2;
+    let first = masks_from(s);
+    let mut j = 0;
+    while j < n {
+        let k = number16(s, from + 2 * j);
+        masks[j] = fields::get64(s, first + 8 * k);
+        j += 1;
+    }
+}
+
+// Whether every two of the first n masks agree.
+fn pairs_agree(masks: &[u64; 64], n: usize) -> bool
+    requires { ⌜ length (now masks) ≡ 64 ⌝ }
+    requires { ⌜ n ≤ 64 ⌝ }
+    ensures { λ r. ⌜ r ≡ agreeInPairs (take n (now (masks .entry))) ⌝ }
+{
+    let mut j = 0;
+    while j < n {
+        if !agrees_with(masks, j + 1, n, masks[j]) {
+            return false;
+        }
+        j += 1;
+    }
+    true
+}
+
+// Whether m agrees with each mask from `from` up to n.
+fn agrees_with(masks: &[u64; 64], from: usize, n: usize, m: u64) -> bool
+    requires { ⌜ length (now masks) ≡ 64 ⌝ }
+    requires { ⌜ from ≤ n ⌝ }
+    requires { ⌜ n ≤ 64 ⌝ }
+    ensures { λ r. ⌜ r ≡ every (agree m) (slice from n (now (masks .entry))) ⌝ }
+{
+    let mut j = from;
+    while j < n {
+        if !masks::agree(m, masks[j]) {
+            return false;
+        }
+        j += 1;
+    }
+    true
+}
+
+// Whether every split's count is the number of trees that list it, at least 1.
+pub fn counts_good(s: &[u8]) -> bool
+    requires { ⌜ goodHead (now s) ≡ true ⌝ }
+    requires { ⌜ allBelow (goodList (now s)) (treesHeldAt (now s)) ≡ true ⌝ }
+    ensures { λ r. ⌜ r ≡ allBelow (goodCount (now (s .entry))) (splitsHeldAt (now (s .entry))) ⌝ }
+{
+    let mut counts = [0; 4096];
+    count_lists(s, &mut counts);
+    counts_match(s, &counts)
+}
+
+// Adds up, for each split, how many trees list it.
+fn count_lists(s: &[u8], counts: &mut [u16; 4096])
+    requires { ⌜ goodHead (now s) ≡ true ⌝ }
+    requires { ⌜ allBelow (goodList (now s)) (treesHeldAt (now s)) ≡ true ⌝ }
+    requires { ⌜ Counted (now s) 0 (now counts) ⌝ }
+    ensures { λ r. ⌜ Counted (now (s .entry)) (treesHeldAt (now (s .entry))) (now (counts .exit)) ⌝ }
+{
+    let trees = trees_held(s);
+    let mut t = 0;
+    while t < trees {
+        count_list(s, t, counts);
+        t += 1;
+    }
+}
+
+// Adds one to the count of each split that tree i lists.
+fn count_list(s: &[u8], i: usize, counts: &mut [u16; 4096])
+    requires { ⌜ goodHead (now s) ≡ true ⌝ }
+    requires { ⌜ i < treesHeldAt (now s) ⌝ }
+    requires { ⌜ goodList (now s) i ≡ true ⌝ }
+    requires { ⌜ Counted (now s) i (now counts) ⌝ }
+    ensures { λ r. ⌜ Counted (now (s .entry)) (i + 1) (now (counts .exit)) ⌝ }
+{
+    let from = tree_from(s, i);
+    let n = number16(s, from);
+    let mut j = 0;
+    while j < n {
+        let k = number16(s, from + 2 + 2 * j);
+        counts[k] = counts[k] + 1;
+        j += 1;
+    }
+}
+
+// Whether every split's count is the one that was added up, at least 1.
+fn counts_match(s: &[u8], counts: &[u16; 4096]) -> bool
+    requires { ⌜ goodHead (now s) ≡ true ⌝ }
+    requires { ⌜ Counted (now s) (treesHeldAt (now s)) (now counts) ⌝ }
+    ensures { λ r. ⌜ r ≡ allBelow (goodCount (now (s .entry))) (splitsHeldAt (now (s .entry))) ⌝ }
+{
+    let first = counts_from(s);
+    let splits = splits_held(s);
+    let mut k = 0;
+    while k < splits {
+        let count = fields::get32(s, first + 4 * k);
+        if count == 0 {
+            return false;
+        }
+        if count != wide16(counts[k]) {
+            return false;
+        }
+        k += 1;
+    }
+    true
+}
+
+// Whether every lane's length is in range.
+pub fn lanes_good(s: &[u8]) -> bool
+    requires { ⌜ goodHead (now s) ≡ true ⌝ }
+    ensures { λ r. ⌜ r ≡ allBelow (goodLaneAt (now (s .entry))) (numbersAt (now (s .entry)) .lanes) ⌝ }
+{
+    let lanes = head::lanes(s) as usize;
+    let mut l = 0;
+    while l < lanes {
+        if 4097 < number16(s, 4096 + 4104 * l) {
+            return false;
+        }
+        l += 1;
+    }
+    true
+}
+
+// How many trees there are.
+pub fn trees_held(s: &[u8]) -> usize
+    requires { ⌜ 4096 ≤ length (now s) ⌝ }
+    ensures { λ r. ⌜ r ≡ treesHeldAt (now (s .entry)) ⌝ }
+{
+    number16(s, 10)
+}
+
+// How many splits there are.
+pub fn splits_held(s: &[u8]) -> usize
+    requires { ⌜ 4096 ≤ length (now s) ⌝ }
+    ensures { λ r. ⌜ r ≡ splitsHeldAt (now (s .entry)) ⌝ }
+{
+    number16(s, 12)
+}
+
+// Where tree i begins, 128 bytes of which are lent.
+fn tree_from(s: &[u8], i: usize) -> usize
+    requires { ⌜ goodHead (now s) ≡ true ⌝ }
+    requires { ⌜ i < treesHeldAt (now s) ⌝ }
+    ensures { λ r. ⌜ r ≡ treeFrom (now (s .entry)) i ⌝ }
+    ensures { λ r. ⌜ r + 128 ≤ length (now (s .entry)) ⌝ }
+{
+    4096 + 4104 * head::lanes(s) as usize + 128 * i
+}
+
+// Where the masks begin, 8 bytes of which are lent for each split.
+fn masks_from(s: &[u8]) -> usize
+    requires { ⌜ goodHead (now s) ≡ true ⌝ }
+    ensures { λ r. ⌜ r ≡ masksFrom (now (s .entry)) ⌝ }
+    ensures { λ r. ⌜ r + 8 * splitsHeldAt (now (s .entry)) ≤ length (now (s .entry)) ⌝ }
+{
+    4096 + 4104 * head::lanes(s) as usize + 128 * head::tree_room(s) as usize
+}
+
+// Where the counts begin, 4 bytes of which are lent for each split.
+fn counts_from(s: &[u8]) -> usize
+    requires { ⌜ goodHead (now s) ≡ true ⌝ }
+    ensures { λ r. ⌜ r ≡ countsFrom (now (s .entry)) ⌝ }
+    ensures { λ r. ⌜ r + 4 * splitsHeldAt (now (s .entry)) ≤ length (now (s .entry)) ⌝ }
+{
+    masks_from(s) + 16 * head::split_room(s) as usize
+}
+
+// x in 32 bits, of which it takes 16.
+fn wide16(x: u16) -> u32
+    ensures { λ r. ⌜ r ≡ x ⌝ }
+{
+    x as u32
+}
+
+// The number in the 2 bytes of s from at.
+fn number16(s: &[u8], at: usize) -> usize
+    requires { ⌜ at + 2 ≤ length (now s) ⌝ }
+    ensures { λ r. ⌜ r ≡ number 2 (now (s .entry)) at ⌝ }
+    ensures { λ r. ⌜ r < 65536 ⌝ }
+{
+    fields::get16(s, at) as usize
+}

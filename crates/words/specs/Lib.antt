@@ -1,0 +1,3 @@
+pub mod Words
+pub mod Parsed
+pub mod WordLaws
