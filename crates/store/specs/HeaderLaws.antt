@@ -2,15 +2,15 @@
 --
 --   label-rest            a label byte
 --   head-short, head-refused, head-small, head-trees, head-splits     the head
---   opening-range, opening-constants, opening-names                   the opening that it holds
+--   opening-range, opening-constants, opening-names, opening-ranges   the opening that it holds
 --   constants-first       the constants: the second list's are any
 --   names-bad, names-apart                                            its names
 --   different-more, different-not, different-end                      one turn of the loop over the names
 --   again-here, again-next, again-end                                 one turn of the loop over the names behind one
 --   numbers-read          the five numbers, one by one
 --   name-run              a name, whose length was read
-use mathlib.Core.Path.{_≡_, sym, ap, _∙_}
-use mathlib.Core.Bool.{Bool, true, false, _&&_, _||_, not, or-false}
+use mathlib.Core.Path.{_≡_, _∙_}
+use mathlib.Core.Bool.{true, false, _&&_, _||_, not, or-false}
 use mathlib.Core.List.{List, []}
 use mathlib.Core.Logic.{_⊎_, inl, inr, ⊎-elim}
 use Prim.Native.Nat.{ℕ, _+_, _-_, _*_, _^_, _≤_, _<_}

@@ -1,13 +1,18 @@
--- The laws of a tree's list as the code tests it. Assumes nothing.
+-- The laws of a tree's list as the code tests it, and of a lane. Assumes nothing.
 --
 --   list-length, list-at, tree-length, tree-at     a tree's list and splits, one by one
---   rising-below                  numbers that rise from each to the next rise
---   numbers-more, numbers-low, numbers-high, numbers-end     one turn of the loop over the numbers
---   every-more, every-not, every-end                         one turn of the loop over the masks behind one
---   pairs-more, pairs-not, pairs-end                         one turn of the loop over the masks
---   list-long, list-unsorted, list-rest                      a list's test, in the order of the code
+--   mem-getD                                       what stands in a list is a member
+--   rising-below                                   numbers that rise from each to the next rise
+--   numbers-more, numbers-falls, numbers-high, numbers-end     one turn of the loop over the numbers
+--   every-more, every-not, every-end               one turn of the loop over the masks behind one
+--   pairs-more, pairs-not, pairs-end               one turn of the loop over the masks
+--   list-number, number-recorded, tree-mask        what the code reads
+--   copied-more                                    one turn of the loop that copies the masks
+--   lane-long, lane-short                          a lane
+--   list-long, list-unsorted, list-rest            a list's test, in the order of the code
+--   list-few, list-numbers                         a list that passes
 use mathlib.Core.Path.{_≡_, refl, sym, ap, _∙_}
-use mathlib.Core.Logic.{_⊎_, inl, inr}
+use mathlib.Core.Logic.{inl, inr}
 use mathlib.Core.Bool.{Bool, true, false, _&&_, and-false, and-assoc}
 use mathlib.Core.List.{List, [], _∷_, map}
 use Prim.Native.Nat.{ℕ, zero, suc, _+_, _*_, _≤_, _<_}
@@ -20,10 +25,9 @@ use borrow.Author.Tests.{le-leb, lt-leb, lt-ltb, le-ltb, leb-true, ltb-true}
 use Rattle.trees.specs.Plain.{every}
 use Rattle.trees.specs.Mask.{agree}
 use Rattle.trees.specs.Whole.{rising, agreeInPairs}
-use Rattle.theorems.specs.ListLaws.{and-left, and-right, and-true, Mem, every-at, every-intro}
+use Rattle.theorems.specs.ListLaws.{and-left, and-right, and-true, Mem, every-at}
 use Rattle.theorems.specs.RisingLaws.{Rising, rising-true, true-rising}
 use Rattle.fields.specs.Field.{number}
-use Rattle.head.specs.Head.{upTo}
 use Rattle.head.specs.HeadLaws.{upTo-length, upTo-at}
 use Rattle.store.specs.Store.{laneFrom, treeFrom, splitsHeldAt, masksFrom, maskAt, listAt, treeAt}
 use Rattle.store.specs.WholeStore.{goodList, goodLaneAt}
@@ -63,7 +67,7 @@ mem-getD (x ∷ l) (suc j) h = inr (mem-getD l j (omega arith))
 
 -- ---- two tests that say the same
 
-pub same-test : (a b : Bool) → (a ≡ true → b ≡ true) → (b ≡ true → a ≡ true) → a ≡ b
+same-test : (a b : Bool) → (a ≡ true → b ≡ true) → (b ≡ true → a ≡ true) → a ≡ b
 same-test true b f g = sym (f refl)
 same-test false true f g = g refl
 same-test false false f g = refl
@@ -173,8 +177,9 @@ pub number-recorded : (s : List ℕ) (i j from x : ℕ) → risingBelow (splitsH
     → j < number 2 s (treeFrom s i) → from ≡ treeFrom s i + 2 → x ≡ number 2 s (from + 2 * j) → x < splitsHeldAt s
 number-recorded s i j from x r h e q =
     let n = list-length s i in
-    rw (← list-number s i j from x h e q)
-    (ltb-true _ _ (every-at (λ k. ltb k (splitsHeldAt s)) (listAt s i) (numbers-below (splitsHeldAt s) 0 (listAt s i) r) _ (mem-getD (listAt s i) j (omega arith))))
+    let b = numbers-below (splitsHeldAt s) 0 (listAt s i) r in
+    let m = mem-getD (listAt s i) j (omega arith) in
+    rw (← list-number s i j from x h e q) (ltb-true _ _ (every-at (λ k. ltb k (splitsHeldAt s)) (listAt s i) b _ m))
 
 -- and the mask of that split is the tree's mask j
 pub tree-mask : (s : List ℕ) (i j from x first m : ℕ) → j < number 2 s (treeFrom s i) → from ≡ treeFrom s i + 2

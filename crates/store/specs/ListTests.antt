@@ -1,7 +1,8 @@
--- A tree's list, as the code tests it.
+-- The trees' lists and the counts, as the code tests them.
 --
 --   numberIn s i j         number j of the list of tree i
 --   risingBelow k low l    each number of l is at least low, greater than the one before, and below k
+--   oneIf b                1 where the test b passes, 0 where it fails
 --   CountedPart s t j c    c has, for each split, how many of the first t trees and the first j numbers of the next list it
 --   Counted s t c          c has, for each split, how many of the first t trees list it
 use Prim.Native.Nat.{ℕ, suc, _+_, _*_, _<_}

@@ -51,7 +51,7 @@ before-none s = refl
 
 pub before-more : (s : List ℕ) (k : ℕ) → maskBefore s (k + 1) ≡ maskAt s k
 unfolding maskBefore
-before-more s k = rw add-one
+before-more s k = rw (add-one k)
 
 module _ (s : List ℕ) (k at m : ℕ) where
   pub mask-read : at ≡ masksFrom s → m ≡ number 8 s (at + 8 * k) → m ≡ maskAt s k
@@ -99,7 +99,8 @@ module _ (s : List ℕ) where
   unfolding masksAt upTo
   neighbours h i l = rise-neighbours (maskAt s) 0 (splitsHeldAt s) (rising-true _ h) i (omega arith) (omega arith)
 
-  each-above : every (proper (numbersAt s .taxa)) (masksAt s) ≡ true → rising (masksAt s) ≡ true → (i : ℕ) → i < splitsHeldAt s → maskBefore s i < maskAt s i
+  each-above : every (proper (numbersAt s .taxa)) (masksAt s) ≡ true → rising (masksAt s) ≡ true
+      → (i : ℕ) → i < splitsHeldAt s → maskBefore s i < maskAt s i
   unfolding maskBefore
   each-above e h zero l = proper-some _ _ (each-proper e 0 l)
   each-above e h (suc i) l = neighbours h i l
@@ -119,11 +120,15 @@ module _ (s : List ℕ) where
   all-proper : allBelow (goodMask s) (splitsHeldAt s) ≡ true → every (proper (numbersAt s .taxa)) (masksAt s) ≡ true
   unfolding masksAt upTo
   all-proper h =
-      every-intro _ _ (λ y k. let r = mem-from (maskAt s) 0 (splitsHeldAt s) y k in rw (r .3) (mask-proper (r .0) (all-at _ _ h (r .0) (omega arith))))
+      every-intro _ _ (λ y k.
+      let r = mem-from (maskAt s) 0 (splitsHeldAt s) y k in
+      rw (r .3) (mask-proper (r .0) (all-at _ _ h (r .0) (omega arith))))
 
   all-rising : allBelow (goodMask s) (splitsHeldAt s) ≡ true → rising (masksAt s) ≡ true
   unfolding masksAt upTo
-  all-rising h = true-rising _ (neighbours-rise (maskAt s) (splitsHeldAt s) (λ i l. mask-above i (all-at _ _ h (suc i) l)) 0 (splitsHeldAt s) (omega arith))
+  all-rising h =
+      true-rising _
+      (neighbours-rise (maskAt s) (splitsHeldAt s) (λ i l. mask-above i (all-at _ _ h (suc i) l)) 0 (splitsHeldAt s) (omega arith))
 
   pub masks-tests : (every (proper (numbersAt s .taxa)) (masksAt s) && rising (masksAt s)) ≡ allBelow (goodMask s) (splitsHeldAt s)
   masks-tests =

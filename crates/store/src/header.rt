@@ -14,6 +14,7 @@ ghost use Rattle.head.specs.Head.{numbersAt, nameAt, namesAt, firstAt, secondAt
 ghost use Rattle.store.specs.Store.{sizeAt};
 ghost use Rattle.store.specs.WholeStore.{goodHead};
 use super::lists;
+use super::places;
 use masks::Taxon;
 
 // Whether the head is there and in order, the lent bytes reach its size, and its rooms hold.
@@ -32,7 +33,7 @@ pub fn head_good(s: &[u8]) -> bool
     if (head::tree_room(s) as usize) < lists::trees_held(s) {
         return false;
     }
-    lists::splits_held(s) <= head::split_room(s) as usize
+    places::splits_held(s) <= head::split_room(s) as usize
 }
 
 // Whether the opening that the head holds passes its checks.

@@ -1,8 +1,9 @@
 // Whether the trees' lists, the counts and the lanes of lent bytes with a good head are in order: the
 // tests of `specs/WholeStore.antt`, exactly.
+use crate::places::splits_held;
 ghost use mathlib.Core.Path.{_≡_};
 ghost use mathlib.Core.Bool.{true};
-ghost use Prim.Native.Nat.{ℕ, _+_, _*_, _≤_, _<_};
+ghost use Prim.Native.Nat.{_+_, _*_, _≤_, _<_};
 ghost use lib.ListN.{length, take};
 ghost use lib.Seq.{slice};
 ghost use Rattle.trees.specs.Plain.{every};
@@ -216,14 +217,6 @@ pub fn trees_held(s: &[u8]) -> usize
     ensures { λ r. ⌜ r ≡ treesHeldAt (now (s .entry)) ⌝ }
 {
     number16(s, 10)
-}
-
-// How many splits there are.
-pub fn splits_held(s: &[u8]) -> usize
-    requires { ⌜ 4096 ≤ length (now s) ⌝ }
-    ensures { λ r. ⌜ r ≡ splitsHeldAt (now (s .entry)) ⌝ }
-{
-    number16(s, 12)
 }
 
 // Where tree i begins, 128 bytes of which are lent.

@@ -1,7 +1,6 @@
 -- `store::header::comes_again` meets its contract. The loop's invariant: the names from j on decide. Assumes nothing.
 use Prim.Native.Nat.{_+_, _≤_, _-_}
 use mathlib.Core.Path.{_≡_, refl, sym, ap, _∙_}
-use mathlib.Core.List.{[]}
 use native.Mathlib.Omega.{arith}
 use lib.ListN.{drop}
 use Rattle.trees.specs.Plain.{sameBytes, inNames}

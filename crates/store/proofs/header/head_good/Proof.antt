@@ -1,5 +1,5 @@
 -- `store::header::head_good` meets its contract: its tests, one after the other. Assumes nothing.
-use mathlib.Core.Path.{sym, _∙_}
+use mathlib.Core.Path.{sym}
 use native.Mathlib.Omega.{arith}
 use Rattle.opening.specs.GivenLaws.{failed, passed}
 use Rattle.store.specs.HeaderLaws.{head-short, head-refused, head-small, head-trees, head-splits, opening-ranges}
@@ -28,7 +28,7 @@ returns-5 : tie.Need-returns-5
 returns-5 c =
     let d = c .before .before .before .before .before .before .before in
     let b = passed _ _ (d .before .opening-good .ensures) (d .if2 .left) in
-    rw (c .before .splits-held .ensures, c .split-room .ensures .0)
+    rw (c .before .splits-held .ensures .0, c .split-room .ensures .0)
     (sym (head-splits _ (omega arith) b (omega arith) (omega arith)))
 
 pub head-good-spec : {M : Type 1} → statement M

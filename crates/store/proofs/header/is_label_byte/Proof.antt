@@ -46,7 +46,8 @@ returns-9 c = rw (c .if9 .taken)
 returns-10 : tie.Need-returns-10
 returns-10 c =
     let d = c .before .before .before .before in
-    sym (label-rest _ (d .before .before .before .before .if1 .left) (d .before .before .before .if2 .left) (d .before .before .if3 .left) (d .before .if4 .left) (d .if5 .left)
+    sym (label-rest _ (d .before .before .before .before .if1 .left) (d .before .before .before .if2 .left)
+    (d .before .before .if3 .left) (d .before .if4 .left) (d .if5 .left)
     (c .before .before .before .if6 .left) (c .before .before .if7 .left) (c .before .if8 .left) (c .if9 .left))
 
 pub is-label-byte-spec : {M : Type 1} → statement M

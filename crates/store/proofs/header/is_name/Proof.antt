@@ -13,20 +13,23 @@ returns : tie.Need-returns
 returns c =
     let a = c .before .before .before .args in
     let n = c .before .name-length in
-    sym (ap isName (name-run (a .s .now) (a .i) _ (n .ensures .0)) ∙ short-not (a .s .now) (17 + 33 * a .i) (17 + 33 * a .i + n .result) (omega arith) (omega arith))
+    sym (ap isName (name-run (a .s .now) (a .i) _ (n .ensures .0))
+    ∙ short-not (a .s .now) (17 + 33 * a .i) (17 + 33 * a .i + n .result) (omega arith) (omega arith))
 
 returns-2 : tie.Need-returns-2
 returns-2 c =
     let a = c .before .before .before .before .args in
     let n = c .before .before .name-length in
-    sym (ap isName (name-run (a .s .now) (a .i) _ (n .ensures .0)) ∙ long-not (a .s .now) (17 + 33 * a .i) (17 + 33 * a .i + n .result) (omega arith) (omega arith))
+    sym (ap isName (name-run (a .s .now) (a .i) _ (n .ensures .0))
+    ∙ long-not (a .s .now) (17 + 33 * a .i) (17 + 33 * a .i + n .result) (omega arith) (omega arith))
 
 returns-3 : tie.Need-returns-3
 returns-3 c =
     let a = c .before .before .before .before .before .args in
     let n = c .before .before .before .name-length in
     c .all-label-bytes .ensures
-    ∙ sym (ap isName (name-run (a .s .now) (a .i) _ (n .ensures .0)) ∙ name-bytes (a .s .now) (17 + 33 * a .i) (17 + 33 * a .i + n .result) (omega arith) (omega arith) (omega arith))
+    ∙ sym (ap isName (name-run (a .s .now) (a .i) _ (n .ensures .0))
+    ∙ name-bytes (a .s .now) (17 + 33 * a .i) (17 + 33 * a .i + n .result) (omega arith) (omega arith) (omega arith))
 
 pub is-name-spec : {M : Type 1} → statement M
 is-name-spec =

@@ -2,7 +2,6 @@
 use Prim.Native.Nat.{_+_, _*_}
 use mathlib.Core.Path.{sym, ap₂, _∙_}
 use native.Mathlib.Omega.{arith}
-use lib.ListN.{getD}
 use lib.Seq.{length-slice}
 use borrow.Author.Needs.{needs}
 use Rattle.trees.specs.Plain.{sameBytes}

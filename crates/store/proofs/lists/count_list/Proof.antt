@@ -5,7 +5,7 @@ use mathlib.Core.Bool.{true}
 use mathlib.Core.List.{List}
 use native.Mathlib.Omega.{arith}
 use Rattle.fields.specs.Field.{number}
-use Rattle.store.specs.Store.{treesHeldAt, splitsHeldAt, treeFrom}
+use Rattle.store.specs.Store.{splitsHeldAt, treeFrom}
 use Rattle.store.specs.WholeStore.{goodHead, goodList}
 use Rattle.store.specs.RoomLaws.{good-head}
 use Rattle.store.specs.ListTests.{CountedPart}
@@ -38,14 +38,16 @@ recorded s i j from k g l h e q =
 inside : tie.Need-element-copy-out-counts Inv-loop μ-loop
 inside c =
     let p = c .before .before .before .before .before .before .pre in
-    recorded _ _ (c .before .before .loop .j) _ _ (p .0) (p .1 .1 .0) (omega arith) (c .before .before .before .before .tree-from .ensures .0) (c .number162 .ensures .0) .1
+    let e = c .before .before .before .before .tree-from .ensures .0 in
+    recorded _ _ (c .before .before .loop .j) _ _ (p .0) (p .1 .1 .0) (omega arith) e (c .number162 .ensures .0) .1
 
 few : tie.Need-add-counts Inv-loop μ-loop
 few c =
     let d = c .before .before .before .before .before .before .before in
     let p = d .pre in
     let l = c .before .before .before .loop in
-    let r = recorded _ _ (l .j) _ _ (p .0) (p .1 .1 .0) (omega arith) (c .before .before .before .before .before .tree-from .ensures .0) (c .before .number162 .ensures .0) in
+    let e = c .before .before .before .before .before .tree-from .ensures .0 in
+    let r = recorded _ _ (l .j) _ _ (p .0) (p .1 .1 .0) (omega arith) e (c .before .number162 .ensures .0) in
     let m = part-most _ _ _ _ (l .inv .3) _ (r .0) in
     let g = good-head _ (p .0) in
     omega (arith, m, g .trees, g .ranges .most-trees)
@@ -53,7 +55,8 @@ few c =
 inside-2 : tie.Need-element-write-counts Inv-loop μ-loop
 inside-2 c =
     let p = c .before .before .before .before .before .before .before .pre in
-    recorded _ _ (c .before .before .before .loop .j) _ _ (p .0) (p .1 .1 .0) (omega arith) (c .before .before .before .before .before .tree-from .ensures .0) (c .before .number162 .ensures .0) .1
+    let e = c .before .before .before .before .before .tree-from .ensures .0 in
+    recorded _ _ (c .before .before .before .loop .j) _ _ (p .0) (p .1 .1 .0) (omega arith) e (c .before .number162 .ensures .0) .1
 
 loop-again : tie.Need-loop-again Inv-loop μ-loop
 loop-again c =

@@ -1,6 +1,6 @@
 -- `store::lists::counts_match` meets its contract. The loop's invariant: the counts below k are right. Assumes nothing.
 use Prim.Native.Nat.{_≤_, _-_}
-use mathlib.Core.Path.{_≡_, sym, _∙_}
+use mathlib.Core.Path.{_≡_, sym}
 use mathlib.Core.Bool.{true}
 use native.Mathlib.Omega.{arith}
 use borrow.Author.Needs.{needs}
@@ -21,7 +21,7 @@ abbrev μ-loop : tie.MeasureT-loop
 loop-holds : tie.Need-loop-holds Inv-loop μ-loop
 loop-holds c =
     let g = good-head _ (c .before .before .before .pre .0) in
-    (omega arith, c .splits-held .ensures, omega (arith, g .splits, g .ranges .most-splits), all-none (goodCount _))
+    (omega arith, c .splits-held .ensures .0, omega (arith, g .splits, g .ranges .most-splits), all-none (goodCount _))
 
 returns : tie.Need-returns Inv-loop μ-loop
 returns c =
@@ -43,7 +43,8 @@ loop-again c =
     let l = b .before .before .loop in
     let d = b .before .before .before .before .counts-from .ensures .0 in
     let e = b .before .before .before .before .before .before .pre .1 .entries (l .k) (omega arith) in
-    (omega arith, l .inv .1, l .inv .2, all-more (goodCount _) _ (l .inv .3) (count-right _ _ _ _ d (b .get32 .ensures) (c .before .before .before .if1 .left) (omega arith)))
+    let r = count-right _ _ _ _ d (b .get32 .ensures) (c .before .before .before .if1 .left) (omega arith) in
+    (omega arith, l .inv .1, l .inv .2, all-more (goodCount _) _ (l .inv .3) r)
 
 returns-3 : tie.Need-returns-3 Inv-loop μ-loop
 returns-3 c =

@@ -1,6 +1,6 @@
 -- `store::lists::lanes_good` meets its contract. The loop's invariant: the lanes below l are in range. Assumes nothing.
 use Prim.Native.Nat.{_≤_, _-_}
-use mathlib.Core.Path.{_≡_, refl, sym, ap}
+use mathlib.Core.Path.{_≡_, sym}
 use mathlib.Core.Bool.{true}
 use native.Mathlib.Omega.{arith}
 use Rattle.head.specs.Head.{numbersAt}

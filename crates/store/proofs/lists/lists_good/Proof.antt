@@ -1,6 +1,6 @@
 -- `store::lists::lists_good` meets its contract. The loop's invariant: the lists below i are in order. Assumes nothing.
 use Prim.Native.Nat.{_≤_, _-_}
-use mathlib.Core.Path.{_≡_, sym, _∙_}
+use mathlib.Core.Path.{_≡_, sym}
 use mathlib.Core.Bool.{true}
 use native.Mathlib.Omega.{arith}
 use Rattle.opening.specs.GivenLaws.{failed, passed}

@@ -1,11 +1,9 @@
 -- `store::lists::numbers_rise` meets its contract. The loop's invariant: the numbers from j on decide. Assumes nothing.
-use Prim.Native.Nat.{ℕ, _+_, _≤_, _-_}
+use Prim.Native.Nat.{_≤_, _-_}
 use mathlib.Core.Path.{_≡_, refl, sym, _∙_}
-use mathlib.Core.List.{List}
 use native.Mathlib.Omega.{arith}
-use lib.ListN.{getD, drop}
-use Rattle.fields.specs.Field.{number}
-use Rattle.store.specs.Store.{splitsHeldAt, treeFrom, listAt}
+use lib.ListN.{drop}
+use Rattle.store.specs.Store.{listAt}
 use Rattle.store.specs.RoomLaws.{good-head}
 use Rattle.store.specs.ListTests.{risingBelow}
 use Rattle.store.specs.ListTestLaws.{list-length, list-number, numbers-more, numbers-falls, numbers-high, numbers-end}
@@ -25,7 +23,7 @@ returns c =
     let l = c .before .before .before .loop in
     let n = list-length (a .s .now) (a .i) in
     let q = list-number (a .s .now) (a .i) (l .j) _ _ (omega arith) (omega arith) (c .before .number16 .ensures .0) in
-    rw (← c .before .before .before .before .splits-held .ensures)
+    rw (← c .before .before .before .before .splits-held .ensures .0)
     (sym (l .inv .1 ∙ numbers-falls _ (listAt (a .s .now) (a .i)) (l .low) (l .j) _ (omega arith) q (omega arith)))
 
 returns-2 : tie.Need-returns-2 Inv-loop μ-loop
@@ -34,7 +32,7 @@ returns-2 c =
     let l = c .before .before .before .before .loop in
     let n = list-length (a .s .now) (a .i) in
     let q = list-number (a .s .now) (a .i) (l .j) _ _ (omega arith) (omega arith) (c .before .before .number16 .ensures .0) in
-    rw (← c .before .before .before .before .before .splits-held .ensures)
+    rw (← c .before .before .before .before .before .splits-held .ensures .0)
     (sym (l .inv .1 ∙ numbers-high _ (listAt (a .s .now) (a .i)) (l .low) (l .j) _ (omega arith) q (omega arith)))
 
 loop-again : tie.Need-loop-again Inv-loop μ-loop
@@ -49,7 +47,7 @@ returns-3 : tie.Need-returns-3 Inv-loop μ-loop
 returns-3 c =
     let a = c .before .before .before .before .before .args in
     let n = list-length (a .s .now) (a .i) in
-    rw (← c .before .before .splits-held .ensures)
+    rw (← c .before .before .splits-held .ensures .0)
     (sym (c .before .loop .inv .1 ∙ numbers-end _ (listAt (a .s .now) (a .i)) _ (c .before .loop .j) (omega arith)))
 
 pub numbers-rise-spec : {M : Type 1} → statement M

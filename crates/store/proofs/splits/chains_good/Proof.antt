@@ -62,7 +62,8 @@ returns c =
     let m = mask-read _ (l .loop .k) _ _ (l .before .before .before .masks-from .ensures .0) (g .before .get64 .ensures) in
     let p = place-read _ _ _ _ m (g .place-of .ensures) in
     let h = place-small _ (good-head _ (d .pre .0)) _ _ (g .place-of .ensures) in
-    let e = link-bad _ _ _ _ _ _ (l .before .before .links-from .ensures .0) (c .before .get16 .ensures) p (l .loop .inv .3 .each _ h) (c .if1 .taken) in
+    let a = l .before .before .links-from .ensures .0 in
+    let e = link-bad _ _ _ _ _ _ a (c .before .get16 .ensures) p (l .loop .inv .3 .each _ h) (c .if1 .taken) in
     let s = d .args .s .now in
     let f : allBelow (goodLink s) (splitsHeldAt s) ≡ false = all-fails _ _ (l .loop .k) (omega arith) e in
     sym (good-chains s ∙ rw f)
@@ -85,7 +86,8 @@ loop-again c =
     let m = mask-read _ (l .loop .k) _ _ (l .before .before .before .masks-from .ensures .0) (g .before .get64 .ensures) in
     let p = place-read _ _ _ _ m (g .place-of .ensures) in
     let h = place-small _ (good-head _ (d .pre .0)) _ _ (g .place-of .ensures) in
-    let e = link-good _ _ _ _ _ _ (l .before .before .links-from .ensures .0) (c .before .get16 .ensures) p (l .loop .inv .3 .each _ h) (c .if1 .left) in (
+    let a = l .before .before .links-from .ensures .0 in
+    let e = link-good _ _ _ _ _ _ a (c .before .get16 .ensures) p (l .loop .inv .3 .each _ h) (c .if1 .left) in (
       omega arith,
       l .loop .inv .1,
       simp length-set (l .loop .inv .2),

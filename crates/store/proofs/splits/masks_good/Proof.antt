@@ -30,7 +30,8 @@ returns : tie.Need-returns Inv-loop μ-loop
 returns c =
     let l = c .before .before .before .before in
     let m = mask-read _ (l .loop .k) _ _ (l .before .before .masks-from .ensures .0) (c .before .before .get64 .ensures) in
-    let e = mask-improper _ _ _ _ (l .before .before .before .taxa .ensures .0) m (sym (c .before .is-proper .ensures) ∙ not-true _ (c .if1 .taken)) in
+    let p = sym (c .before .is-proper .ensures) ∙ not-true _ (c .if1 .taken) in
+    let e = mask-improper _ _ _ _ (l .before .before .before .taxa .ensures .0) m p in
     sym (all-fails _ _ (l .loop .k) (omega arith) e)
 
 returns-2 : tie.Need-returns-2 Inv-loop μ-loop
@@ -39,7 +40,8 @@ returns-2 c =
     let l = d .before .before .before .before in
     let m = mask-read _ (l .loop .k) _ _ (l .before .before .masks-from .ensures .0) (d .before .before .get64 .ensures) in
     let p = sym (d .before .is-proper .ensures) ∙ not-false _ (d .if1 .left) in
-    let e = mask-below _ _ _ _ (l .before .before .before .taxa .ensures .0) m p _ (l .loop .inv .1) (sym (c .before .comes-before .ensures) ∙ not-true _ (c .if2 .taken)) in
+    let b = sym (c .before .comes-before .ensures) ∙ not-true _ (c .if2 .taken) in
+    let e = mask-below _ _ _ _ (l .before .before .before .taxa .ensures .0) m p _ (l .loop .inv .1) b in
     sym (all-fails _ _ (l .loop .k) (omega arith) e)
 
 loop-again : tie.Need-loop-again Inv-loop μ-loop
@@ -48,7 +50,8 @@ loop-again c =
     let l = d .before .before .before .before in
     let m = mask-read _ (l .loop .k) _ _ (l .before .before .masks-from .ensures .0) (d .before .before .get64 .ensures) in
     let p = sym (d .before .is-proper .ensures) ∙ not-false _ (d .if1 .left) in
-    let e = mask-good _ _ _ _ (l .before .before .before .taxa .ensures .0) m p _ (l .loop .inv .1) (sym (c .before .comes-before .ensures) ∙ not-false _ (c .if2 .left)) in
+    let b = sym (c .before .comes-before .ensures) ∙ not-false _ (c .if2 .left) in
+    let e = mask-good _ _ _ _ (l .before .before .before .taxa .ensures .0) m p _ (l .loop .inv .1) b in
     (omega arith, m ∙ sym (before-more _ _), all-more _ _ (l .loop .inv .2) e)
 
 returns-3 : tie.Need-returns-3 Inv-loop μ-loop
