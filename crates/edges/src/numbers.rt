@@ -19,7 +19,7 @@ const NUMBERS32: [u32; 9] = [0, 1, 2, 3, 255, 65536, 2147483648, 2147483649, 429
 
 const NUMBERS16: [u16; 9] = [0, 1, 2, 3, 255, 256, 32768, 32769, 65535];
 
-pub fn every_number() {
+pub(crate) fn every_number() {
     let mut i = 0;
     while i < 9 {
         row(i);
@@ -129,7 +129,7 @@ fn read16(b: &[u8; 12], at: usize)
 }
 
 // The buffer after a call, as the line's result.
-pub fn show12(b: &[u8; 12]) {
+pub(crate) fn show12(b: &[u8; 12]) {
     line::bytes(b);
     line::end();
 }

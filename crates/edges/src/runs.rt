@@ -3,7 +3,7 @@ ghost use Prim.Native.Nat.{_+_, _≤_};
 use crate::line;
 use crate::numbers;
 
-pub fn every_run() {
+pub(crate) fn every_run() {
     downwards();
     upwards();
     equal_and_empty();

@@ -37,7 +37,7 @@ const LIMITS: [u64; 12] = [
     18446744073709551614,
 ];
 
-pub fn every_set() {
+pub(crate) fn every_set() {
     every_mask();
     numbers_of_taxa();
     single_taxa();

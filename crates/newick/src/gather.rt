@@ -47,7 +47,7 @@ pub enum Gots {
 }
 
 // One node, with at most `depth` brackets open at once.
-pub fn read_node(
+pub(crate) fn read_node(
     head: &[u8],
     starts: &[u8; 128],
     links: &[u8; 64],
@@ -122,7 +122,7 @@ pub fn read_node(
 }
 
 // One node or more, with commas between.
-pub fn read_nodes(
+pub(crate) fn read_nodes(
     head: &[u8],
     starts: &[u8; 128],
     links: &[u8; 64],
@@ -163,7 +163,7 @@ pub fn read_nodes(
 }
 
 // The leaf whose label stands from b up to e, behind the leaves that the mark c has seen.
-pub fn take_leaf(
+pub(crate) fn take_leaf(
     head: &[u8],
     starts: &[u8; 128],
     links: &[u8; 64],

@@ -16,7 +16,7 @@ ghost use Rattle.store.specs.WholeStore.{allBelow, goodHead, goodList, g
 ghost use Rattle.store.specs.ListTests.{risingBelow, Counted};
 
 // Whether every tree's list is in order.
-pub fn lists_good(s: &[u8]) -> bool
+pub(crate) fn lists_good(s: &[u8]) -> bool
     requires { ⌜ goodHead (now s) ≡ true ⌝ }
     ensures { λ r. ⌜ r ≡ allBelow (goodList (now (s .entry))) (treesHeldAt (now (s .entry))) ⌝ }
 {
@@ -32,7 +32,7 @@ pub fn lists_good(s: &[u8]) -> bool
 }
 
 // Whether tree i lists at most 61 recorded splits, rising and agreeing in pairs.
-pub fn list_good(s: &[u8], i: usize) -> bool
+pub(crate) fn list_good(s: &[u8], i: usize) -> bool
     requires { ⌜ goodHead (now s) ≡ true ⌝ }
     requires { ⌜ i < treesHeldAt (now s) ⌝ }
     ensures { λ r. ⌜ r ≡ goodList (now (s .entry)) i ⌝ }
@@ -130,7 +130,7 @@ fn agrees_with(masks: &[u64; 64], from: usize, n: usize, m: u64) -> bool
 }
 
 // Whether every split's count is the number of trees that list it, at least 1.
-pub fn counts_good(s: &[u8]) -> bool
+pub(crate) fn counts_good(s: &[u8]) -> bool
     requires { ⌜ goodHead (now s) ≡ true ⌝ }
     requires { ⌜ allBelow (goodList (now s)) (treesHeldAt (now s)) ≡ true ⌝ }
     ensures { λ r. ⌜ r ≡ allBelow (goodCount (now (s .entry))) (splitsHeldAt (now (s .entry))) ⌝ }
@@ -196,7 +196,7 @@ fn counts_match(s: &[u8], counts: &[u16; 4096]) -> bool
 }
 
 // Whether every lane's length is in range.
-pub fn lanes_good(s: &[u8]) -> bool
+pub(crate) fn lanes_good(s: &[u8]) -> bool
     requires { ⌜ goodHead (now s) ≡ true ⌝ }
     ensures { λ r. ⌜ r ≡ allBelow (goodLaneAt (now (s .entry))) (numbersAt (now (s .entry)) .lanes) ⌝ }
 {
@@ -212,7 +212,7 @@ pub fn lanes_good(s: &[u8]) -> bool
 }
 
 // How many trees there are.
-pub fn trees_held(s: &[u8]) -> usize
+pub(crate) fn trees_held(s: &[u8]) -> usize
     requires { ⌜ 4096 ≤ length (now s) ⌝ }
     ensures { λ r. ⌜ r ≡ treesHeldAt (now (s .entry)) ⌝ }
 {

@@ -7,7 +7,7 @@ ghost use lib.ListN.{length};
 ghost use Rattle.store.specs.Store.{splitsHeldAt, masksFrom, identifiersFrom, countsFrom, linksFrom, placesFrom};
 
 // How many splits there are.
-pub fn splits_held(s: &[u8]) -> usize
+pub(crate) fn splits_held(s: &[u8]) -> usize
     requires { ⌜ 4096 ≤ length (now s) ⌝ }
     ensures { λ r. ⌜ r ≡ splitsHeldAt (now (s .entry)) ⌝ }
     ensures { λ r. ⌜ r < 65536 ⌝ }
@@ -16,7 +16,7 @@ pub fn splits_held(s: &[u8]) -> usize
 }
 
 // Where the masks begin: behind the head, the lanes and the trees.
-pub fn masks_from(s: &[u8]) -> usize
+pub(crate) fn masks_from(s: &[u8]) -> usize
     requires { ⌜ 4096 ≤ length (now s) ⌝ }
     ensures { λ r. ⌜ r ≡ masksFrom (now (s .entry)) ⌝ }
     ensures { λ r. ⌜ r < 2 ^ 29 ⌝ }
@@ -25,7 +25,7 @@ pub fn masks_from(s: &[u8]) -> usize
 }
 
 // Where the identifiers begin.
-pub fn identifiers_from(s: &[u8]) -> usize
+pub(crate) fn identifiers_from(s: &[u8]) -> usize
     requires { ⌜ 4096 ≤ length (now s) ⌝ }
     ensures { λ r. ⌜ r ≡ identifiersFrom (now (s .entry)) ⌝ }
     ensures { λ r. ⌜ r < 2 ^ 30 ⌝ }
@@ -34,7 +34,7 @@ pub fn identifiers_from(s: &[u8]) -> usize
 }
 
 // Where the counts begin.
-pub fn counts_from(s: &[u8]) -> usize
+pub(crate) fn counts_from(s: &[u8]) -> usize
     requires { ⌜ 4096 ≤ length (now s) ⌝ }
     ensures { λ r. ⌜ r ≡ countsFrom (now (s .entry)) ⌝ }
     ensures { λ r. ⌜ r < 2 ^ 30 ⌝ }
@@ -43,7 +43,7 @@ pub fn counts_from(s: &[u8]) -> usize
 }
 
 // Where the links begin.
-pub fn links_from(s: &[u8]) -> usize
+pub(crate) fn links_from(s: &[u8]) -> usize
     requires { ⌜ 4096 ≤ length (now s) ⌝ }
     ensures { λ r. ⌜ r ≡ linksFrom (now (s .entry)) ⌝ }
     ensures { λ r. ⌜ r < 2 ^ 30 ⌝ }
@@ -52,7 +52,7 @@ pub fn links_from(s: &[u8]) -> usize
 }
 
 // Where the places begin.
-pub fn places_from(s: &[u8]) -> usize
+pub(crate) fn places_from(s: &[u8]) -> usize
     requires { ⌜ 4096 ≤ length (now s) ⌝ }
     ensures { λ r. ⌜ r ≡ placesFrom (now (s .entry)) ⌝ }
     ensures { λ r. ⌜ r < 2 ^ 30 ⌝ }

@@ -19,7 +19,7 @@ use crate::places::splits_held;
 use masks::Taxon;
 
 // The place of the split m: the sum of the first constants over its taxa, modulo the places.
-pub fn place_of(s: &[u8], m: u64) -> u64
+pub(crate) fn place_of(s: &[u8], m: u64) -> u64
     requires { ⌜ goodHead (now s) ≡ true ⌝ }
     requires { ⌜ m < 2 ^ numbersAt (now s) .taxa ⌝ }
     ensures { λ r. ⌜ r ≡ place (firstAt (now (s .entry))) (numbersAt (now (s .entry)) .places) m ⌝ }
@@ -35,7 +35,7 @@ pub fn place_of(s: &[u8], m: u64) -> u64
 }
 
 // The identifier of the split m: the sum of the second constants over its taxa, modulo 2^64.
-pub fn identifier_of(s: &[u8], m: u64) -> u64
+pub(crate) fn identifier_of(s: &[u8], m: u64) -> u64
     requires { ⌜ goodHead (now s) ≡ true ⌝ }
     ensures { λ r. ⌜ r ≡ identifier (secondAt (now (s .entry))) m ⌝ }
 {
@@ -62,7 +62,7 @@ fn second_of(s: &[u8], i: Taxon) -> u64
 }
 
 // Whether the recorded masks are proper and rise, and the stored identifiers are right.
-pub fn splits_good(s: &[u8]) -> bool
+pub(crate) fn splits_good(s: &[u8]) -> bool
     requires { ⌜ goodHead (now s) ≡ true ⌝ }
     ensures { λ r. ⌜ r ≡ goodSplits (now (s .entry)) ⌝ }
 {
@@ -116,7 +116,7 @@ fn identifiers_good(s: &[u8]) -> bool
 }
 
 // Whether the chain of each place meets its splits, each once and the highest first.
-pub fn chains_good(s: &[u8]) -> bool
+pub(crate) fn chains_good(s: &[u8]) -> bool
     requires { ⌜ goodHead (now s) ≡ true ⌝ }
     requires { ⌜ goodSplits (now s) ≡ true ⌝ }
     ensures { λ r. ⌜ r ≡ goodChains (now (s .entry)) ⌝ }
