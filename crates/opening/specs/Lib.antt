@@ -7,4 +7,5 @@ pub mod NameList
 pub mod NameListLaws
 pub mod Writing
 pub mod WritingLaws
-pub mod HeadWritten
+pub mod HeadWriting
+pub mod HeadWritingLaws

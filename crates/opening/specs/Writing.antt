@@ -4,7 +4,6 @@
 --   withName s i w       s with the name w in place i
 --   withNames s i ws     s with the names ws in the places from i on
 --   inOrder x            the five numbers in the order of the head
---   written s o          s with the opening o in its head, and no other byte there
 --   Reached l s at i t   t is s with the first i names of the list l written, those before its place at
 --   Lies s i w           the name w lies in place i of s
 use Prim.Native.Nat.{ℕ, suc, _+_, _*_, _≤_, _<_}
@@ -14,9 +13,9 @@ use mathlib.Core.List.{List, [], _∷_}
 use lib.ListN.{length, getD, set}
 use Rattle.trees.specs.Plain.{every}
 use Rattle.trees.specs.Names.{namesIn, isName}
-use Rattle.trees.specs.Opening.{Numbers, Opening}
+use Rattle.trees.specs.Opening.{Numbers}
 use Rattle.fields.specs.Field.{put}
-use Rattle.fields.specs.Run.{copied, cleared}
+use Rattle.fields.specs.Run.{copied}
 use Rattle.opening.specs.Walk.{namesFrom}
 
 unfoldable pub puts : ℕ → List ℕ → ℕ → List ℕ → List ℕ
@@ -36,11 +35,6 @@ withNames s i (w ∷ ws) = withNames (withName s i w) (suc i) ws
 
 abbrev pub inOrder : Numbers → List ℕ
 inOrder x = x .taxa ∷ x .lanes ∷ x .treeRoom ∷ x .splitRoom ∷ x .places ∷ []
-
-unfoldable pub written : List ℕ → Opening → List ℕ
-unfolding cleared puts withNames
-written s o =
-    puts 8 (puts 2 (withNames (puts 2 (cleared s 0 4096) 0 (inOrder (o .numbers))) 0 (o .names)) 2128 (o .first)) 2256 (o .second)
 
 pub record Reached (list s : List ℕ) (at i : ℕ) (t : List ℕ) : Type 0 where
   pub same : length t ≡ length s

@@ -2,7 +2,8 @@
 //
 // Its contracts cite `specs/Given.antt` (`numbersOf`, `openingOf`); crate trees, `specs/Opening.antt`
 // and `specs/Names.antt`, says what an opening is and what is refused, and crate head,
-// `specs/Head.antt`, how it lies in the bytes. The laws that callers use stand in `GivenLaws`.
+// `specs/Head.antt`, how it lies in the bytes. The laws that callers use stand in `GivenLaws`;
+// `Walk`, `NameList` and `Writing` say what the functions between the public ones do.
 ghost use mathlib.Core.Path.{_≡_};
 ghost use mathlib.Core.Bool.{true};
 ghost use Prim.Native.Nat.{ℕ, _+_, _*_, _≤_, _<_};

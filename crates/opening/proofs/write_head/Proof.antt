@@ -1,7 +1,7 @@
 -- `opening::write_head` meets its contract: the five calls leave the written head, from which the opening is read. Assumes nothing.
 use native.Mathlib.Omega.{arith}
 use borrow.Author.Needs.{needs}
-use Rattle.opening.specs.HeadWritten.{checked, few-names, few-first, few-second, first-fits, written-calls, written-opening, written-none, written-kept, written-length}
+use Rattle.opening.specs.HeadWritingLaws.{checked, few-names, few-first, few-second, first-fits, written-calls, written-opening, written-none, written-kept, written-length}
 use Rattle.opening.proofs.write_head.Statement.{statement}
 use Rattle.opening.proofs.write_head.Tie as tie
 

@@ -1,4 +1,4 @@
--- The head as `write_head` leaves it: the opening is read there, nothing is counted yet, and the bytes behind it are kept. Assumes nothing.
+-- The laws of a head that is written: the opening is read there, nothing is counted yet, and the bytes behind it are kept. Assumes nothing.
 --
 --   names-short            the names of a good list have at most 32 bytes
 --   checked                the three checks of an opening, as facts
@@ -29,7 +29,8 @@ use Rattle.fields.specs.RunLaws.{cleared-length, cleared-outside, number-cleare
 use Rattle.head.specs.Head.{numbersAt, nameAt, namesAt, firstAt, secondAt, openingAt}
 use Rattle.head.specs.HeadLaws.{names-length as listed-names, first-length as listed-first, second-length as listed-second, names-at, first-at, second-at}
 use Rattle.opening.specs.Given.{openingOf}
-use Rattle.opening.specs.Writing.{puts, withNames, inOrder, written, Lies}
+use Rattle.opening.specs.Writing.{puts, withNames, inOrder, Lies}
+use Rattle.opening.specs.HeadWriting.{clear, numbered, called, firsts, written}
 use Rattle.opening.specs.WritingLaws.{puts-length, puts-outside, number-puts-outside, puts-at, names-length, names-outside, names-lie, lies-name, lies-kept}
 
 pub names-short : (ws : List (List ℕ)) → every isName ws ≡ true → (i : ℕ) → length (getD ws i []) ≤ 32
@@ -69,58 +70,43 @@ written-calls s t u v w z o a b d e f =
     f ∙ ap (λ (l : List ℕ). puts 8 l 2256 (o .second)) (e ∙ ap (λ (l : List ℕ). puts 2 l 2128 (o .first)) q)
 
 module _ (s : List ℕ) (o : Opening) (g : GoodOpening o) (f : 4096 ≤ length s) where
-  -- ---- the steps of the writing
-
-  clear : List ℕ
-  clear = cleared s 0 4096
-
-  numbered : List ℕ
-  unfolding clear
-  numbered = puts 2 clear 0 (inOrder (o .numbers))
-
-  called : List ℕ
-  unfolding numbered
-  called = withNames numbered 0 (o .names)
-
-  firsts : List ℕ
-  unfolding called
-  firsts = puts 2 called 2128 (o .first)
+  -- ---- the lengths
 
   short : (i : ℕ) → length (getD (o .names) i []) ≤ 32
   short = names-short (o .names) (g .named .names)
 
-  clear-length : length clear ≡ length s
+  clear-length : length (clear s) ≡ length s
   unfolding clear
   clear-length = cleared-length s 0 4096
 
-  numbered-length : length numbered ≡ length s
+  numbered-length : length (numbered s o) ≡ length s
   unfolding numbered
-  numbered-length = puts-length 2 (inOrder (o .numbers)) clear 0 ∙ clear-length
+  numbered-length = puts-length 2 (inOrder (o .numbers)) (clear s) 0 ∙ clear-length
 
-  called-length : length called ≡ length s
+  called-length : length (called s o) ≡ length s
   unfolding called
-  called-length = names-length (o .names) numbered 0 ∙ numbered-length
+  called-length = names-length (o .names) (numbered s o) 0 ∙ numbered-length
 
-  firsts-length : length firsts ≡ length s
+  firsts-length : length (firsts s o) ≡ length s
   unfolding firsts
-  firsts-length = puts-length 2 (o .first) called 2128 ∙ called-length
+  firsts-length = puts-length 2 (o .first) (called s o) 2128 ∙ called-length
 
   pub written-length : length (written s o) ≡ length s
   unfolding written firsts called numbered clear
-  written-length = puts-length 8 (o .second) firsts 2256 ∙ firsts-length
+  written-length = puts-length 8 (o .second) (firsts s o) 2256 ∙ firsts-length
 
   -- ---- what each step leaves
 
   -- the constants lie behind the names
-  to-called : (i : ℕ) → i < 2128 → getD (written s o) i 0 ≡ getD called i 0
+  to-called : (i : ℕ) → i < 2128 → getD (written s o) i 0 ≡ getD (called s o) i 0
   unfolding written firsts called numbered clear
   to-called i h =
-      puts-outside 8 (o .second) firsts 2256 i (inl (omega arith)) ∙ puts-outside 2 (o .first) called 2128 i (inl h)
+      puts-outside 8 (o .second) (firsts s o) 2256 i (inl (omega arith)) ∙ puts-outside 2 (o .first) (called s o) 2128 i (inl h)
 
   -- the names lie behind the numbers
-  to-numbered : (i : ℕ) → i < 16 → getD (written s o) i 0 ≡ getD numbered i 0
+  to-numbered : (i : ℕ) → i < 16 → getD (written s o) i 0 ≡ getD (numbered s o) i 0
   unfolding called
-  to-numbered i h = to-called i (omega arith) ∙ names-outside (o .names) numbered 0 i short (inl (omega arith))
+  to-numbered i h = to-called i (omega arith) ∙ names-outside (o .names) (numbered s o) 0 i short (inl (omega arith))
 
   -- ---- the numbers
 
@@ -136,8 +122,8 @@ module _ (s : List ℕ) (o : Opening) (g : GoodOpening o) (f : 4096 ≤ length s
   unfolding numbered
   number-at i h =
       let l = clear-length in
-      number-same 2 _ numbered _ (0 + 2 * i) (λ j m. to-numbered (0 + 2 * i + j) (omega arith))
-      ∙ puts-at 2 (inOrder (o .numbers)) clear 0 i (omega arith) numbers-below h
+      number-same 2 _ (numbered s o) _ (0 + 2 * i) (λ j m. to-numbered (0 + 2 * i + j) (omega arith))
+      ∙ puts-at 2 (inOrder (o .numbers)) (clear s) 0 i (omega arith) numbers-below h
 
   numbers-read : numbersAt (written s o) ≡ o .numbers
   unfolding numbersAt
@@ -146,8 +132,8 @@ module _ (s : List ℕ) (o : Opening) (g : GoodOpening o) (f : 4096 ≤ length s
   pub written-none : (a : ℕ) → 10 ≤ a → a + 2 ≤ 16 → number 2 (written s o) a ≡ 0
   unfolding numbered clear
   written-none a p q =
-      number-same 2 _ numbered a a (λ j m. to-numbered (a + j) (omega arith))
-      ∙ number-puts-outside 2 2 (inOrder (o .numbers)) clear 0 a (inr (omega arith))
+      number-same 2 _ (numbered s o) a a (λ j m. to-numbered (a + j) (omega arith))
+      ∙ number-puts-outside 2 2 (inOrder (o .numbers)) (clear s) 0 a (inr (omega arith))
       ∙ number-cleared-inside s 0 4096 2 a (omega arith) (omega arith) (omega arith)
 
   -- ---- the names and the constants
@@ -155,17 +141,23 @@ module _ (s : List ℕ) (o : Opening) (g : GoodOpening o) (f : 4096 ≤ length s
   taxa-read : numbersAt (written s o) .taxa ≡ o .numbers .taxa
   taxa-read = ap (λ (x : Numbers). x .taxa) numbers-read
 
-  name-read : (i : ℕ) → i < length (o .names) → nameAt (written s o) i ≡ getD (o .names) i []
+  called-lies : (i : ℕ) → i < length (o .names) → Lies (called s o) (0 + i) (getD (o .names) i [])
   unfolding called
-  name-read i h =
+  called-lies i h =
       let r = g .ranges in
       let n = g .named .count in
       let m = numbered-length in
+      names-lie (o .names) (numbered s o) 0 i short (omega arith) h
+
+  name-read : (i : ℕ) → i < length (o .names) → nameAt (written s o) i ≡ getD (o .names) i []
+  name-read i h =
+      let r = g .ranges in
+      let n = g .named .count in
       let l = written-length in
-      let z : 0 + i ≡ i = omega arith in
       let w = short i in
-      let p : Lies called i (getD (o .names) i []) = rw z at (names-lie (o .names) numbered 0 i short (omega arith) h) in
-      lies-name (written s o) i _ (lies-kept called _ i _ w (λ j a b. to-called j (omega arith)) p) (omega arith)
+      let z : 0 + i ≡ i = omega arith in
+      let p : Lies (called s o) i (getD (o .names) i []) = rw z at (called-lies i h) in
+      lies-name (written s o) i _ (lies-kept (called s o) _ i _ w (λ j a b. to-called j (omega arith)) p) (omega arith)
 
   names-read : namesAt (written s o) ≡ o .names
   names-read =
@@ -183,8 +175,8 @@ module _ (s : List ℕ) (o : Opening) (g : GoodOpening o) (f : 4096 ≤ length s
       let n : length (firstAt (written s o)) ≡ length (o .first) = k ∙ taxa-read ∙ sym m in
       ext-getD 0 _ _ n (λ i h.
       first-at (written s o) i (omega arith)
-      ∙ number-puts-outside 8 2 (o .second) firsts 2256 (2128 + 2 * i) (inl (omega arith))
-      ∙ puts-at 2 (o .first) called 2128 i (omega arith) (λ j. omega (arith, first-below o g j)) (omega arith))
+      ∙ number-puts-outside 8 2 (o .second) (firsts s o) 2256 (2128 + 2 * i) (inl (omega arith))
+      ∙ puts-at 2 (o .first) (called s o) 2128 i (omega arith) (λ j. omega (arith, first-below o g j)) (omega arith))
 
   second-read : secondAt (written s o) ≡ o .second
   unfolding written firsts called numbered clear
@@ -196,7 +188,7 @@ module _ (s : List ℕ) (o : Opening) (g : GoodOpening o) (f : 4096 ≤ length s
       let n : length (secondAt (written s o)) ≡ length (o .second) = k ∙ taxa-read ∙ sym m in
       ext-getD 0 _ _ n (λ i h.
       second-at (written s o) i (omega arith)
-      ∙ puts-at 8 (o .second) firsts 2256 i (omega arith) (λ j. omega (arith, second-below o g j)) (omega arith))
+      ∙ puts-at 8 (o .second) (firsts s o) 2256 i (omega arith) (λ j. omega (arith, second-below o g j)) (omega arith))
 
   pub written-opening : openingAt (written s o) ≡ o
   unfolding openingAt
@@ -211,10 +203,10 @@ module _ (s : List ℕ) (o : Opening) (g : GoodOpening o) (f : 4096 ≤ length s
       let n = g .named .count in
       let a = g .constants .first-length in
       let b = g .constants .second-length in
-      puts-outside 8 (o .second) firsts 2256 i (inr (omega arith))
-      ∙ puts-outside 2 (o .first) called 2128 i (inr (omega arith))
-      ∙ names-outside (o .names) numbered 0 i short (inr (omega arith))
-      ∙ puts-outside 2 (inOrder (o .numbers)) clear 0 i (inr (omega arith))
+      puts-outside 8 (o .second) (firsts s o) 2256 i (inr (omega arith))
+      ∙ puts-outside 2 (o .first) (called s o) 2128 i (inr (omega arith))
+      ∙ names-outside (o .names) (numbered s o) 0 i short (inr (omega arith))
+      ∙ puts-outside 2 (inOrder (o .numbers)) (clear s) 0 i (inr (omega arith))
       ∙ cleared-outside s 0 4096 i (inr (omega arith))
 
   pub written-kept : drop 4096 (written s o) ≡ drop 4096 s
