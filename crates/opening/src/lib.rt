@@ -21,6 +21,7 @@ ghost use Rattle.opening.specs.Given.{numbersOf, openingOf};
 ghost use Rattle.opening.specs.Walk.{namesFrom, NameEnd};
 ghost use Rattle.opening.specs.NameList.{allNames, marks};
 ghost use Rattle.opening.specs.Writing.{puts, withName, withNames, inOrder};
+ghost use Rattle.opening.specs.HeadWriting.{written};
 
 // Whether the numbers of an opening are in their ranges.
 pub fn numbers_in_range(taxa: u32, lanes: u32, tree_room: u32, split_room: u32, places: u32) -> bool
@@ -267,6 +268,8 @@ pub fn write_head(
     requires { ⌜ inRange (numbersOf taxa lanes «tree_room» «split_room» places) ≡ true ⌝ }
     requires { ⌜ goodConstants (numbersOf taxa lanes «tree_room» «split_room» places) (now first) (now second) ≡ true ⌝ }
     requires { ⌜ goodNames taxa (namesIn (now list)) ≡ true ⌝ }
+    ensures { λ r. ⌜ now (s .exit) ≡ written (now (s .entry))
+        (openingOf (numbersOf taxa lanes «tree_room» «split_room» places) (now (list .entry)) (now (first .entry)) (now (second .entry))) ⌝ }
     ensures { λ r. ⌜ openingAt (now (s .exit))
         ≡ openingOf (numbersOf taxa lanes «tree_room» «split_room» places) (now (list .entry)) (now (first .entry)) (now (second .entry)) ⌝ }
     ensures { λ r. ⌜ number 2 (now (s .exit)) 10 ≡ 0 ⌝ }

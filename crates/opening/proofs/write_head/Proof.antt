@@ -39,10 +39,12 @@ returns c =
     let t = u .before .before .before .before in
     let r = t .before .before .before .before in
     let z = written-calls _ _ _ _ _ _ _ (r .clear-run .ensures) (t .write-numbers .ensures) (u .write-names .ensures) (v .write-first .ensures) (w .write-second .ensures) in
-    let n = written-none _ _ g (d .pre .0) in
-    rw z (
-      written-opening _ _ g (d .pre .0),
-      (n 10 (omega arith) (omega arith), (n 12 (omega arith) (omega arith), (written-kept _ _ g (d .pre .0), written-length _ _ g (d .pre .0)))),
+    let n = written-none _ _ g (d .pre .0) in (
+      z,
+      rw z (
+        written-opening _ _ g (d .pre .0),
+        (n 10 (omega arith) (omega arith), (n 12 (omega arith) (omega arith), (written-kept _ _ g (d .pre .0), written-length _ _ g (d .pre .0)))),
+      ),
     )
 
 pub write-head-spec : {M : Type 1} → statement M
