@@ -4,7 +4,7 @@ use crate::output;
 use crate::parse;
 
 // Takes standard input up to its end.
-pub fn take_all(
+pub(crate) fn take_all(
     line: &mut [u8],
     names: &mut [u8],
     first: &mut [u64],

@@ -9,7 +9,7 @@ ghost use lib.ListN.{length};
 ghost use Rattle.store.specs.WholeStore.{goodHead};
 
 // Reads the text that the first n bytes of a line are in hex, and writes the verdict on it. What does not fit is too long anyway.
-pub fn verdict(line: &[u8], n: usize, lent: &[u8]) {
+pub(crate) fn verdict(line: &[u8], n: usize, lent: &[u8]) {
     if is_dash(line, n) {
         answer(lent, b"");
         return;

@@ -3,7 +3,7 @@ use words::Number;
 ghost use Prim.Native.Nat.{_≤_};
 
 // Copies the first n bytes of a line, as far as they fit, and answers how many they are.
-pub fn copy(line: &[u8], n: usize, out: &mut [u8]) -> usize {
+pub(crate) fn copy(line: &[u8], n: usize, out: &mut [u8]) -> usize {
     let mut i = 0;
     while i < n {
         if line.len() <= i {
@@ -32,7 +32,7 @@ fn put64(out: &mut [u64], i: usize, x: u64) {
 }
 
 // The number that the first n bytes of a line are; what is none reads as 0, which is no number of places.
-pub fn number(line: &[u8], n: usize) -> u64 {
+pub(crate) fn number(line: &[u8], n: usize) -> u64 {
     if line.len() < n {
         return 0;
     }
@@ -44,7 +44,7 @@ pub fn number(line: &[u8], n: usize) -> u64 {
 }
 
 // The numbers of a line, with commas between, as far as they fit; answers how many there are, or 65,535 for a bad line.
-pub fn numbers(line: &[u8], n: usize, out: &mut [u64]) -> usize {
+pub(crate) fn numbers(line: &[u8], n: usize, out: &mut [u64]) -> usize {
     if line.len() < n {
         return 65535;
     }
@@ -84,7 +84,7 @@ fn comma(line: &[u8], from: usize, n: usize) -> usize
 }
 
 // The bytes that the first n bytes of a line are in hex, as far as they fit; answers how many there are, or 65,535 for a bad line.
-pub fn bytes(line: &[u8], n: usize, out: &mut [u8]) -> usize {
+pub(crate) fn bytes(line: &[u8], n: usize, out: &mut [u8]) -> usize {
     if n == 0 {
         return 65535;
     }
