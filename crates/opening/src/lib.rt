@@ -156,7 +156,7 @@ fn comes_again(list: &[u8], b: usize, e: usize) -> bool
 }
 
 // Whether the bytes of the list from a up to z are those from b up to e.
-fn same_names(list: &[u8], a: usize, z: usize, b: usize, e: usize) -> bool
+pub fn same_names(list: &[u8], a: usize, z: usize, b: usize, e: usize) -> bool
     requires { ⌜ (a ≤ z) × (z ≤ length (now list)) ⌝ }
     requires { ⌜ (b ≤ e) × (e ≤ length (now list)) ⌝ }
     ensures { λ r. ⌜ r ≡ sameBytes (slice a z (now (list .entry))) (slice b e (now (list .entry))) ⌝ }
@@ -177,7 +177,7 @@ fn same_names(list: &[u8], a: usize, z: usize, b: usize, e: usize) -> bool
 }
 
 // Whether the bytes of the list from b up to e are a name: 1 to 32 label bytes.
-fn is_name(list: &[u8], b: usize, e: usize) -> bool
+pub fn is_name(list: &[u8], b: usize, e: usize) -> bool
     requires { ⌜ b ≤ e ⌝ }
     requires { ⌜ e ≤ length (now list) ⌝ }
     ensures { λ r. ⌜ r ≡ isName (slice b e (now (list .entry))) ⌝ }

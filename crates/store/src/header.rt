@@ -4,9 +4,7 @@ ghost use mathlib.Core.Path.{_≡_};
 ghost use mathlib.Core.Bool.{true};
 ghost use Prim.Native.Nat.{_+_, _*_, _≤_, _<_};
 ghost use lib.ListN.{length, getD, drop};
-ghost use lib.Seq.{slice};
 ghost use Rattle.trees.specs.Plain.{every, sameBytes, inNames};
-ghost use Rattle.trees.specs.Text.{isLabelByte};
 ghost use Rattle.trees.specs.Names.{isName, different, goodNames};
 ghost use Rattle.trees.specs.Opening.{inRange, goodConstants};
 ghost use Rattle.trees.specs.Whole.{goodOpening};
@@ -132,65 +130,9 @@ fn is_name(s: &[u8], i: usize) -> bool
     requires { ⌜ i < 64 ⌝ }
     ensures { λ r. ⌜ r ≡ isName (nameAt (now (s .entry)) i) ⌝ }
 {
-    let n = name_length(s, i);
-    if n < 1 {
-        return false;
-    }
-    if 32 < n {
-        return false;
-    }
     let b = 17 + 33 * i;
-    all_label_bytes(s, b, b + n)
-}
-
-// Whether the bytes of s from b up to e are label bytes.
-fn all_label_bytes(s: &[u8], b: usize, e: usize) -> bool
-    requires { ⌜ b ≤ e ⌝ }
-    requires { ⌜ e ≤ length (now s) ⌝ }
-    ensures { λ r. ⌜ r ≡ every isLabelByte (slice b e (now (s .entry))) ⌝ }
-{
-    let mut i = b;
-    while i < e {
-        if !is_label_byte(s[i]) {
-            return false;
-        }
-        i += 1;
-    }
-    true
-}
-
-// Whether b is a label byte: 33 to 126, without the marks `( ) [ ] ' : ; ,`.
-fn is_label_byte(b: u8) -> bool
-    ensures { λ r. ⌜ r ≡ isLabelByte b ⌝ }
-{
-    if b < 33 {
-        return false;
-    }
-    if 126 < b {
-        return false;
-    }
-    if b == 40 {
-        return false;
-    }
-    if b == 41 {
-        return false;
-    }
-    if b == 91 {
-        return false;
-    }
-    if b == 93 {
-        return false;
-    }
-    if b == 39 {
-        return false;
-    }
-    if b == 58 {
-        return false;
-    }
-    if b == 59 {
-        return false;
-    }
-    b != 44
+    let n = name_length(s, i);
+    opening::is_name(s, b, b + n)
 }
 
 // Whether no name comes twice.
@@ -235,30 +177,11 @@ fn same_names(s: &[u8], i: usize, j: usize) -> bool
     requires { ⌜ j < 64 ⌝ }
     ensures { λ r. ⌜ r ≡ sameBytes (nameAt (now (s .entry)) i) (nameAt (now (s .entry)) j) ⌝ }
 {
-    let n = name_length(s, i);
-    if n != name_length(s, j) {
-        return false;
-    }
-    same_runs(s, 17 + 33 * i, 17 + 33 * j, n)
-}
-
-// Whether the n bytes of s from a are those from b.
-fn same_runs(s: &[u8], a: usize, b: usize, n: usize) -> bool
-    requires { ⌜ a + n ≤ length (now s) ⌝ }
-    requires { ⌜ b + n ≤ length (now s) ⌝ }
-    ensures { λ r. ⌜ r ≡ sameBytes (slice a (a + n) (now (s .entry))) (slice b (b + n) (now (s .entry))) ⌝ }
-{
-    let z = a + n;
-    let mut i = a;
-    let mut j = b;
-    while i < z {
-        if s[i] != s[j] {
-            return false;
-        }
-        i += 1;
-        j += 1;
-    }
-    true
+    let a = 17 + 33 * i;
+    let b = 17 + 33 * j;
+    let m = name_length(s, i);
+    let n = name_length(s, j);
+    opening::same_names(s, a, a + m, b, b + n)
 }
 
 // The length of the name of taxon i.

@@ -1,5 +1,7 @@
 // Whether the trees' lists, the counts and the lanes of lent bytes with a good head are in order: the
 // tests of `specs/WholeStore.antt`, exactly.
+use crate::places::counts_from;
+use crate::places::masks_from;
 use crate::places::splits_held;
 ghost use mathlib.Core.Path.{_≡_};
 ghost use mathlib.Core.Bool.{true};
@@ -11,7 +13,7 @@ ghost use Rattle.trees.specs.Mask.{agree};
 ghost use Rattle.trees.specs.Whole.{agreeInPairs};
 ghost use Rattle.fields.specs.Field.{number};
 ghost use Rattle.head.specs.Head.{numbersAt};
-ghost use Rattle.store.specs.Store.{treesHeldAt, splitsHeldAt, treeFrom, masksFrom, countsFrom, listAt, treeAt};
+ghost use Rattle.store.specs.Store.{treesHeldAt, splitsHeldAt, treeFrom, listAt, treeAt};
 ghost use Rattle.store.specs.WholeStore.{allBelow, goodHead, goodList, goodCount, goodLaneAt};
 ghost use Rattle.store.specs.ListTests.{risingBelow, Counted};
 
@@ -227,24 +229,6 @@ fn tree_from(s: &[u8], i: usize) -> usize
     ensures { λ r. ⌜ r + 128 ≤ length (now (s .entry)) ⌝ }
 {
     4096 + 4104 * head::lanes(s) as usize + 128 * i
-}
-
-// Where the masks begin, 8 bytes of which are lent for each split.
-fn masks_from(s: &[u8]) -> usize
-    requires { ⌜ goodHead (now s) ≡ true ⌝ }
-    ensures { λ r. ⌜ r ≡ masksFrom (now (s .entry)) ⌝ }
-    ensures { λ r. ⌜ r + 8 * splitsHeldAt (now (s .entry)) ≤ length (now (s .entry)) ⌝ }
-{
-    4096 + 4104 * head::lanes(s) as usize + 128 * head::tree_room(s) as usize
-}
-
-// Where the counts begin, 4 bytes of which are lent for each split.
-fn counts_from(s: &[u8]) -> usize
-    requires { ⌜ goodHead (now s) ≡ true ⌝ }
-    ensures { λ r. ⌜ r ≡ countsFrom (now (s .entry)) ⌝ }
-    ensures { λ r. ⌜ r + 4 * splitsHeldAt (now (s .entry)) ≤ length (now (s .entry)) ⌝ }
-{
-    masks_from(s) + 16 * head::split_room(s) as usize
 }
 
 // x in 32 bits, of which it takes 16.

@@ -5,6 +5,7 @@ use native.Mathlib.Omega.{arith}
 use lib.ListN.{length, take, length-set}
 use lib.Seq.{take-all}
 use Rattle.store.specs.Store.{treeAt}
+use Rattle.store.specs.RoomLaws.{good-head, masks-inside}
 use Rattle.store.specs.ListTestLaws.{tree-length, tree-mask, number-recorded, copied-more}
 use Rattle.store.proofs.lists.copy_masks.Statement.{statement}
 use Rattle.store.proofs.lists.copy_masks.Tie as tie
@@ -21,7 +22,7 @@ recorded c κs =
     let l = c .before .before .loop in
     let a = c .before .before .before .before .before .before .args in
     let k = number-recorded (a .s .now) (a .i) (l .j) _ _ (p .1 .1 .1 .1 .0) (omega arith) (omega arith) (c .number16 .ensures .0) in
-    omega arith
+    omega (arith, masks-inside _ (good-head _ (p .0)))
 
 loop-again : tie.Need-loop-again Inv-loop μ-loop
 loop-again c =
@@ -46,7 +47,7 @@ copy-masks-spec =
     μ-loop
     (λ c κs. (c .before .pre .0, c .before .pre .1 .0))
     (λ c. omega arith)
-    (λ c κs. c .before .before .pre .0)
+    (λ c κs. good-head _ (c .before .before .pre .0) .head)
     (λ c. (omega arith, omega arith, refl))
     (λ c. omega arith)
     (λ c. omega arith)

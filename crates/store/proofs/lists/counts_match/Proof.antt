@@ -7,7 +7,7 @@ use borrow.Author.Needs.{needs}
 use Rattle.store.specs.Store.{splitsHeldAt}
 use Rattle.store.specs.WholeStore.{allBelow, goodCount}
 use Rattle.store.specs.AllLaws.{all-none, all-more, all-fails}
-use Rattle.store.specs.RoomLaws.{good-head}
+use Rattle.store.specs.RoomLaws.{good-head, counts-inside}
 use Rattle.store.specs.CountLaws.{count-zero, count-wrong, count-right}
 use Rattle.store.proofs.lists.counts_match.Statement.{statement}
 use Rattle.store.proofs.lists.counts_match.Tie as tie
@@ -58,12 +58,12 @@ counts-match-spec =
     (tie.spec
     Inv-loop
     μ-loop
-    (λ c κs. c .before .pre .0)
+    (λ c κs. good-head _ (c .before .pre .0) .head)
     (λ c κs. good-head _ (c .before .before .pre .0) .head)
     loop-holds
     (λ c. omega arith)
     (λ c. omega arith)
-    (λ c κs. omega arith)
+    (λ c κs. omega (arith, counts-inside _ (good-head _ (c .before .before .before .before .before .pre .0))))
     returns
     (λ c. omega arith)
     (λ c. omega arith)
