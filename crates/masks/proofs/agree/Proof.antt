@@ -1,3 +1,4 @@
+-- `masks::agree` meets its contract. Assumes nothing.
 use borrow.Author.Tests.{eq-eqb, ne-eqb}
 use Rattle.masks.specs.MaskLaws.{agree-both}
 use Rattle.masks.proofs.agree.Statement.{statement}

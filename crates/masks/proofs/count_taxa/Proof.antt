@@ -1,3 +1,4 @@
+-- `masks::count_taxa` meets its contract. Assumes nothing.
 use mathlib.Core.Path.{refl}
 use lib.Count.{ones-le}
 use Rattle.masks.proofs.count_taxa.Statement.{statement}

@@ -1,3 +1,4 @@
+-- `masks::every_taxon` meets its contract. Assumes nothing.
 use borrow.Author.Needs.{needs}
 use lib.Pow.{pow-pos}
 use Rattle.trees.specs.Mask.{everyTaxon}

@@ -1,3 +1,4 @@
+-- `masks::has_taxon` meets its contract. Assumes nothing.
 use mathlib.Core.Path.{refl}
 use borrow.Author.Needs.{needs}
 use Rattle.trees.specs.Mask.{has}

@@ -1,3 +1,4 @@
+-- `masks::lowest_taxon` meets its contract. Assumes nothing.
 use mathlib.Core.Path.{sym}
 use native.Mathlib.Omega.{arith}
 use Rattle.masks.specs.MaskLaws.{trailing-lowest, trailing-lt, lowest-none}

@@ -1,3 +1,4 @@
+-- `masks::only_taxon` meets its contract. Assumes nothing.
 use borrow.Author.Needs.{needs}
 use Rattle.masks.specs.MaskLaws.{shift-one}
 use Rattle.masks.proofs.only_taxon.Statement.{statement}

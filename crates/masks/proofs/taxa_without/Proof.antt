@@ -1,3 +1,4 @@
+-- `masks::taxa_without` meets its contract. Assumes nothing.
 use Rattle.masks.specs.MaskLaws.{and-not}
 use Rattle.masks.proofs.taxa_without.Statement.{statement}
 use Rattle.masks.proofs.taxa_without.Tie as tie

@@ -1,3 +1,4 @@
+-- `newick::judge` meets its contract. Assumes nothing.
 use borrow.Author.Needs.{needs}
 use Rattle.newick.proofs.JudgeLaws.{few-taxa, prepared}
 use Rattle.newick.proofs.judge.Statement.{statement}

@@ -1,3 +1,4 @@
+-- `text::read_closing` meets its contract. Assumes nothing.
 use borrow.Author.Needs.{needs}
 use Rattle.text.specs.Read.{Seen, LengthRead}
 use native.Mathlib.Omega.{arith}

@@ -1,3 +1,4 @@
+-- `newick::gather::read_node` and `read_nodes` meet their contracts together: each calls the other. Assumes nothing.
 use Prim.Native.Nat.{ℕ, _+_, _-_, _*_, _<_}
 use native.Mathlib.Omega.{arith}
 use native.Mathlib.Nat.{pos-of-ne-zero}

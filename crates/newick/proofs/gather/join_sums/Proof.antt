@@ -1,3 +1,4 @@
+-- `newick::gather::join_sums` meets its contract. Assumes nothing.
 use native.Mathlib.Omega.{arith}
 use native.Mathlib.Nat.{mod-eq-of-lt, add-mod-right}
 use mathlib.Core.Path.{_≡_, sym, ap, _∙_}

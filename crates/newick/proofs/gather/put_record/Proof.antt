@@ -1,3 +1,4 @@
+-- `newick::gather::put_record` meets its contract. Assumes nothing.
 use borrow.Author.Needs.{needs}
 use Rattle.newick.proofs.SumLaws.{sets-three}
 use Rattle.newick.proofs.gather.put_record.Statement.{statement}

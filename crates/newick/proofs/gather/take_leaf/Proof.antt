@@ -1,3 +1,4 @@
+-- `newick::gather::take_leaf` meets its contract. Assumes nothing.
 use mathlib.Core.Path.{sym, _∙_}
 use borrow.Author.Needs.{needs}
 use Rattle.newick.proofs.LeafLaws.{leaf-unknown, leaf-unknown-later, leaf-later, leaf-again, leaf-new, prepared-taxa, found-here, found-64, first-constant-is, second-constant-is}
