@@ -15,7 +15,7 @@ use Rattle.trees.specs.Plain.{if_then_else_}
 use Rattle.trees.specs.Hash.{place}
 use Rattle.theorems.specs.ListLaws.{Mem}
 use Rattle.head.specs.Head.{numbersAt, firstAt}
-use Rattle.store.specs.Store.{maskAt, linkAt, startAt}
+use Rattle.layout.specs.Store.{maskAt, linkAt, startAt}
 
 abbrev pub placeIn : List ℕ → ℕ → ℕ
 placeIn s m = place (firstAt s) (numbersAt s .places) m

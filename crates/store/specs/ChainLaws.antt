@@ -22,7 +22,7 @@ use Rattle.trees.specs.Plain.{if_then_else_, member}
 use Rattle.trees.specs.Hash.{place}
 use Rattle.theorems.specs.ListLaws.{by-test, if-true, if-false, Mem, member-not, not-member}
 use Rattle.head.specs.Head.{numbersAt, openingAt}
-use Rattle.store.specs.Store.{splitsHeldAt, maskAt, masksAt, linkAt, startAt}
+use Rattle.layout.specs.Store.{splitsHeldAt, maskAt, masksAt, linkAt, startAt}
 use Rattle.store.specs.WholeStore.{highestBelow, wholeAt}
 use Rattle.store.specs.WholeFacts.{ChainsAt, whole-at-facts}
 use Rattle.store.specs.UpToLaws.{less-or-not}

@@ -21,7 +21,7 @@ use Rattle.trees.specs.Hash.{place}
 use Rattle.theorems.specs.ListLaws.{if-true, if-false}
 use Rattle.fields.specs.Field.{number}
 use Rattle.head.specs.Head.{numbersAt, firstAt}
-use Rattle.store.specs.Store.{splitsHeldAt, linksFrom, placesFrom, maskAt, linkAt, startAt}
+use Rattle.layout.specs.Store.{splitsHeldAt, linksFrom, placesFrom, maskAt, linkAt, startAt}
 use Rattle.store.specs.WholeStore.{allBelow, highestBelow, goodLink, goodStart, goodChains}
 use Rattle.store.specs.Splits.{placeAt, Highest}
 

@@ -20,7 +20,7 @@ use Rattle.trees.specs.Plain.{if_then_else_, member}
 use Rattle.theorems.specs.ListLaws.{Mem, member-not}
 use Rattle.theorems.specs.RisingLaws.{Rising}
 use Rattle.fields.specs.Field.{number}
-use Rattle.store.specs.Store.{treesHeldAt, splitsHeldAt, countsFrom, countAt, listAt}
+use Rattle.layout.specs.Store.{treesHeldAt, splitsHeldAt, countsFrom, countAt, listAt}
 use Rattle.store.specs.WholeStore.{listed, goodCount}
 use Rattle.store.specs.ListTests.{oneIf, CountedPart, Counted}
 use Rattle.store.specs.ListTestLaws.{mem-getD}

@@ -19,13 +19,13 @@ use Rattle.theorems.specs.OpeningLaws.{good-opening}
 use Rattle.fields.specs.Field.{number}
 use Rattle.head.specs.Head.{numbersAt, openingAt, firstAt, secondAt, upTo}
 use Rattle.head.specs.HeadLaws.{upTo-same, numbers-same, first-same, second-same, head-same}
-use Rattle.store.specs.Store.{treesHeldAt, splitsHeldAt, laneFrom, treeFrom, sizeAt, laneAt, maskAt, masksAt, listAt, treeAt, heldAt}
+use Rattle.layout.specs.Store.{treesHeldAt, splitsHeldAt, laneFrom, treeFrom, sizeAt, laneAt, maskAt, masksAt, listAt, treeAt, heldAt}
 use Rattle.store.specs.WholeStore.{listed, highestBelow, wholeAt}
 use Rattle.store.specs.WholeFacts.{HeadAt, SplitsAt, ListAt, CountAt, ChainsAt, WholeAt, whole-at-facts, facts-whole-at}
 use Rattle.store.specs.UpToLaws.{bool-same}
 use Rattle.store.specs.Chain.{placeIn}
 use Rattle.store.specs.ChainLaws.{highest-none, highest-step}
-use Rattle.store.specs.StoreLaws.{lane-from, masks-from, size-is, trees-held-is, splits-held-is, masks-is}
+use Rattle.layout.specs.StoreLaws.{lane-from, masks-from, size-is, trees-held-is, splits-held-is, masks-is}
 use Rattle.store.specs.PartFrameLaws.{SameBetween, number-frame, lane-length-frame, lane-frame, size-same, mask-frame, identifier-frame, count-frame, link-frame, start-frame, entries-frame, list-frame, tree-frame}
 
 -- ---- whole bytes

@@ -22,7 +22,7 @@ use Rattle.trees.specs.Hash.{sumOver, place}
 use Rattle.theorems.specs.OpeningLaws.{both, InRange, GoodOpening, good-opening, first-below}
 use Rattle.head.specs.Head.{numbersAt, firstAt, openingAt}
 use Rattle.head.specs.HeadLaws.{first-length}
-use Rattle.store.specs.Store.{treesHeldAt, splitsHeldAt, laneFrom, treeFrom, masksFrom, identifiersFrom, linksFrom, placesFrom, sizeAt}
+use Rattle.layout.specs.Store.{treesHeldAt, splitsHeldAt, laneFrom, treeFrom, masksFrom, identifiersFrom, linksFrom, placesFrom, sizeAt}
 use Rattle.store.specs.WholeStore.{goodHead}
 use Rattle.store.specs.SumLaws.{sumOver-most}
 

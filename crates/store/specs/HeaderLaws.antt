@@ -33,7 +33,7 @@ use Rattle.head.specs.Head.{upTo, numbersAt, nameAt, namesAt, firstAt, secondAt
 use Rattle.head.specs.HeadLaws.{upTo-length, upTo-at, names-length, first-length, second-length, name-slice}
 use Rattle.opening.specs.Given.{numbersOf}
 use Rattle.opening.specs.GivenLaws.{constants-below}
-use Rattle.store.specs.Store.{treesHeldAt, splitsHeldAt, sizeAt}
+use Rattle.layout.specs.Store.{treesHeldAt, splitsHeldAt, sizeAt}
 use Rattle.store.specs.WholeStore.{goodHead}
 
 -- ---- a list of numbers that are all below a bound

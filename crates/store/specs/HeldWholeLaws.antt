@@ -25,7 +25,7 @@ use Rattle.theorems.specs.HeldLaws.{Whole, facts-whole}
 use Rattle.fields.specs.Field.{number}
 use Rattle.head.specs.Head.{numbersAt, openingAt}
 use Rattle.head.specs.HeadLaws.{upTo-length}
-use Rattle.store.specs.Store.{treesHeldAt, laneFrom, maskAt, masksAt, listAt, treeAt, laneAt, heldAt}
+use Rattle.layout.specs.Store.{treesHeldAt, laneFrom, maskAt, masksAt, listAt, treeAt, laneAt, heldAt}
 use Rattle.store.specs.WholeStore.{wholeAt}
 use Rattle.store.specs.WholeFacts.{WholeAt, whole-at-facts}
 use Rattle.store.specs.UpToLaws.{upTo-mem, map-rising}

@@ -1,5 +1,4 @@
 -- The definitions that the contracts cite, the laws of what a store holds, and the laws of the tests' code.
-pub mod Store
 pub mod WholeStore
 pub mod AllLaws
 pub mod WholeFacts
@@ -8,7 +7,6 @@ pub mod RecordedAtLaws
 pub mod HeldWholeLaws
 pub mod Chain
 pub mod ChainLaws
-pub mod StoreLaws
 pub mod PartFrameLaws
 pub mod FrameLaws
 pub mod SumLaws

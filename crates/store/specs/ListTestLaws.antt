@@ -29,7 +29,7 @@ use Rattle.theorems.specs.ListLaws.{and-left, and-right, and-true, Mem, every-a
 use Rattle.theorems.specs.RisingLaws.{Rising, rising-true, true-rising}
 use Rattle.fields.specs.Field.{number}
 use Rattle.head.specs.HeadLaws.{upTo-length, upTo-at}
-use Rattle.store.specs.Store.{laneFrom, treeFrom, splitsHeldAt, masksFrom, maskAt, listAt, treeAt}
+use Rattle.layout.specs.Store.{laneFrom, treeFrom, splitsHeldAt, masksFrom, maskAt, listAt, treeAt}
 use Rattle.store.specs.WholeStore.{goodList, goodLaneAt}
 use Rattle.store.specs.ListTests.{numberIn, risingBelow}
 

@@ -13,7 +13,7 @@ use lib.Dec.{leb, ltb}
 use lib.ListN.{length, getD, take}
 use Rattle.trees.specs.Plain.{if_then_else_, member}
 use Rattle.fields.specs.Field.{number}
-use Rattle.store.specs.Store.{splitsHeldAt, treeFrom, listAt}
+use Rattle.layout.specs.Store.{splitsHeldAt, treeFrom, listAt}
 use Rattle.store.specs.WholeStore.{listed}
 
 unfoldable pub numberIn : List ℕ → ℕ → ℕ → ℕ

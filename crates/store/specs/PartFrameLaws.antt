@@ -24,8 +24,8 @@ use Rattle.fields.specs.Field.{number}
 use Rattle.fields.specs.FieldLaws.{number-same}
 use Rattle.head.specs.Head.{numbersAt}
 use Rattle.head.specs.HeadLaws.{upTo-same}
-use Rattle.store.specs.Store.{laneFrom, treeFrom, masksFrom, identifiersFrom, countsFrom, linksFrom, placesFrom, sizeAt, laneAt, maskAt, identifierAt, countAt, linkAt, startAt, listAt, treeAt}
-use Rattle.store.specs.StoreLaws.{entriesAt, entryAt, tree-from, masks-from, identifiers-from, counts-from, links-from, places-from, size-is, mask-is, identifier-is, count-is, link-is, start-is, list-is, tree-is, lane-is}
+use Rattle.layout.specs.Store.{laneFrom, treeFrom, masksFrom, identifiersFrom, countsFrom, linksFrom, placesFrom, sizeAt, laneAt, maskAt, identifierAt, countAt, linkAt, startAt, listAt, treeAt}
+use Rattle.layout.specs.StoreLaws.{entriesAt, entryAt, tree-from, masks-from, identifiers-from, counts-from, links-from, places-from, size-is, mask-is, identifier-is, count-is, link-is, start-is, list-is, tree-is, lane-is}
 
 abbrev pub SameBetween : List ℕ → List ℕ → ℕ → ℕ → Type 0
 SameBetween s t a b = (i : ℕ) → a ≤ i → i < b → getD s i 0 ≡ getD t i 0

@@ -23,7 +23,7 @@ use Rattle.theorems.specs.ListLaws.{Mem, member-mem, mem-member}
 use Rattle.theorems.specs.RisingLaws.{Rising, rising-true, rising-same, recorded-rising, recorded-mem, mem-recorded}
 use Rattle.head.specs.Head.{upTo}
 use Rattle.head.specs.HeadLaws.{upTo-length, upTo-at}
-use Rattle.store.specs.Store.{treesHeldAt, splitsHeldAt, maskAt, masksAt, countAt, listAt, treeAt, heldAt}
+use Rattle.layout.specs.Store.{treesHeldAt, splitsHeldAt, maskAt, masksAt, countAt, listAt, treeAt, heldAt}
 use Rattle.store.specs.WholeStore.{listed, wholeAt}
 use Rattle.store.specs.WholeFacts.{WholeAt, whole-at-facts}
 use Rattle.store.specs.UpToLaws.{less-or-not, bool-same, upTo-mem, mem-upTo, upTo-more, upTo-rises, map-mem, mem-map, count-append}

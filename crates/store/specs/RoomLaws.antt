@@ -15,7 +15,7 @@ use Rattle.trees.specs.Opening.{storeSize}
 use Rattle.trees.specs.Whole.{goodOpening}
 use Rattle.theorems.specs.OpeningLaws.{both, InRange, good-opening}
 use Rattle.head.specs.Head.{numbersAt, openingAt}
-use Rattle.store.specs.Store.{treesHeldAt, splitsHeldAt, laneFrom, treeFrom, masksFrom, countsFrom, sizeAt}
+use Rattle.layout.specs.Store.{treesHeldAt, splitsHeldAt, laneFrom, treeFrom, masksFrom, countsFrom, sizeAt}
 use Rattle.store.specs.WholeStore.{goodHead}
 
 pub record GoodHead (s : List ℕ) : Type 0 where

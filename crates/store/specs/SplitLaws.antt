@@ -27,7 +27,7 @@ use Rattle.theorems.specs.ProperLaws.{proper-two, proper-sub}
 use Rattle.theorems.specs.RisingLaws.{rising-true, true-rising}
 use Rattle.fields.specs.Field.{number}
 use Rattle.head.specs.Head.{upTo, numbersAt, secondAt}
-use Rattle.store.specs.Store.{splitsHeldAt, masksFrom, identifiersFrom, maskAt, masksAt, identifierAt}
+use Rattle.layout.specs.Store.{splitsHeldAt, masksFrom, identifiersFrom, maskAt, masksAt, identifierAt}
 use Rattle.store.specs.WholeStore.{allBelow, goodIdentifier, goodSplits}
 use Rattle.store.specs.Splits.{maskBefore, goodMask}
 use Rattle.store.specs.AllLaws.{all-at, all-intro}

@@ -13,7 +13,7 @@ use lib.ListN.{getD}
 use Rattle.trees.specs.Mask.{proper}
 use Rattle.trees.specs.Hash.{place}
 use Rattle.head.specs.Head.{numbersAt, firstAt}
-use Rattle.store.specs.Store.{maskAt}
+use Rattle.layout.specs.Store.{maskAt}
 use Rattle.store.specs.WholeStore.{highestBelow}
 
 unfoldable pub maskBefore : List ℕ → ℕ → ℕ

@@ -24,7 +24,7 @@ use Rattle.theorems.specs.ListLaws.{and-left, and-right, and-true, Mem, every-a
 use Rattle.theorems.specs.OpeningLaws.{both}
 use Rattle.fields.specs.Field.{number}
 use Rattle.head.specs.Head.{numbersAt, firstAt, secondAt, openingAt}
-use Rattle.store.specs.Store.{treesHeldAt, splitsHeldAt, treeFrom, laneFrom, sizeAt, maskAt, masksAt, identifierAt, countAt, linkAt, startAt, listAt, treeAt}
+use Rattle.layout.specs.Store.{treesHeldAt, splitsHeldAt, treeFrom, laneFrom, sizeAt, maskAt, masksAt, identifierAt, countAt, linkAt, startAt, listAt, treeAt}
 use Rattle.store.specs.AllLaws.{all-at, all-intro}
 use Rattle.store.specs.WholeStore.{allBelow, goodIdentifier, goodSplits, goodList, listed, goodCount, highestBelow, goodLink, goodStart, goodChains, goodLaneAt, goodHead, wholeAt}
 

@@ -19,7 +19,7 @@ use Rattle.trees.specs.Hash.{place, identifier}
 use Rattle.trees.specs.Whole.{rising, agreeInPairs, goodOpening}
 use Rattle.fields.specs.Field.{number}
 use Rattle.head.specs.Head.{numbersAt, firstAt, secondAt, openingAt, upTo}
-use Rattle.store.specs.Store.{treesHeldAt, splitsHeldAt, treeFrom, laneFrom, sizeAt, maskAt, masksAt, identifierAt, countAt, linkAt, startAt, listAt, treeAt}
+use Rattle.layout.specs.Store.{treesHeldAt, splitsHeldAt, treeFrom, laneFrom, sizeAt, maskAt, masksAt, identifierAt, countAt, linkAt, startAt, listAt, treeAt}
 
 unfoldable pub allBelow : (ℕ → Bool) → ℕ → Bool
 allBelow p zero = true

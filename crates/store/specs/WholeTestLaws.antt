@@ -4,7 +4,7 @@ use mathlib.Core.Bool.{Bool, true, false, _&&_}
 use Prim.Native.Nat.{ℕ}
 use mathlib.Core.List.{List}
 use Rattle.head.specs.Head.{numbersAt}
-use Rattle.store.specs.Store.{treesHeldAt, splitsHeldAt}
+use Rattle.layout.specs.Store.{treesHeldAt, splitsHeldAt}
 use Rattle.store.specs.WholeStore.{allBelow, goodHead, goodSplits, goodList, goodCount, goodChains, goodLaneAt, wholeAt}
 
 -- six tests, one after another

@@ -9,10 +9,8 @@ ghost use Rattle.trees.specs.Names.{isName, different, goodNames};
 ghost use Rattle.trees.specs.Opening.{inRange, goodConstants};
 ghost use Rattle.trees.specs.Whole.{goodOpening};
 ghost use Rattle.head.specs.Head.{numbersAt, nameAt, namesAt, firstAt, secondAt, openingAt};
-ghost use Rattle.store.specs.Store.{sizeAt};
+ghost use Rattle.layout.specs.Store.{sizeAt};
 ghost use Rattle.store.specs.WholeStore.{goodHead};
-use super::lists;
-use super::places;
 use masks::Taxon;
 
 // Whether the head is there and in order, the lent bytes reach its size, and its rooms hold.
@@ -28,10 +26,10 @@ pub fn head_good(s: &[u8]) -> bool
     if s.len() < store_size(s) {
         return false;
     }
-    if (head::tree_room(s) as usize) < lists::trees_held(s) {
+    if (head::tree_room(s) as usize) < layout::trees_held(s) {
         return false;
     }
-    places::splits_held(s) <= head::split_room(s) as usize
+    layout::splits_held(s) <= head::split_room(s) as usize
 }
 
 // Whether the opening that the head holds passes its checks.

@@ -6,7 +6,6 @@ ghost use Rattle.store.specs.WholeStore.{wholeAt};
 
 mod header;
 mod lists;
-mod places;
 mod splits;
 
 pub use header::head_good;

@@ -1,8 +1,6 @@
 // Whether the trees' lists, the counts and the lanes of lent bytes with a good head are in order: the
 // tests of `specs/WholeStore.antt`, exactly.
-use crate::places::counts_from;
-use crate::places::masks_from;
-use crate::places::splits_held;
+use layout::Tree;
 ghost use mathlib.Core.Path.{_≡_};
 ghost use mathlib.Core.Bool.{true};
 ghost use Prim.Native.Nat.{_+_, _*_, _≤_, _<_};
@@ -13,7 +11,7 @@ ghost use Rattle.trees.specs.Mask.{agree};
 ghost use Rattle.trees.specs.Whole.{agreeInPairs};
 ghost use Rattle.fields.specs.Field.{number};
 ghost use Rattle.head.specs.Head.{numbersAt};
-ghost use Rattle.store.specs.Store.{treesHeldAt, splitsHeldAt, treeFrom, listAt, treeAt};
+ghost use Rattle.layout.specs.Store.{treesHeldAt, splitsHeldAt, treeFrom, listAt, treeAt};
 ghost use Rattle.store.specs.WholeStore.{allBelow, goodHead, goodList, goodCount, goodLaneAt};
 ghost use Rattle.store.specs.ListTests.{risingBelow, Counted};
 
@@ -22,7 +20,7 @@ pub(crate) fn lists_good(s: &[u8]) -> bool
     requires { ⌜ goodHead (now s) ≡ true ⌝ }
     ensures { λ r. ⌜ r ≡ allBelow (goodList (now (s .entry))) (treesHeldAt (now (s .entry))) ⌝ }
 {
-    let trees = trees_held(s);
+    let trees = layout::trees_held(s);
     let mut i = 0;
     while i < trees {
         if !list_good(s, i) {
@@ -39,7 +37,7 @@ pub(crate) fn list_good(s: &[u8], i: usize) -> bool
     requires { ⌜ i < treesHeldAt (now s) ⌝ }
     ensures { λ r. ⌜ r ≡ goodList (now (s .entry)) i ⌝ }
 {
-    let n = number16(s, tree_from(s, i));
+    let n = layout::number16(s, tree_from(s, i));
     if 61 < n {
         return false;
     }
@@ -60,11 +58,11 @@ fn numbers_rise(s: &[u8], i: usize, n: usize) -> bool
     ensures { λ r. ⌜ r ≡ risingBelow (splitsHeldAt (now (s .entry))) 0 (listAt (now (s .entry)) i) ⌝ }
 {
     let from = tree_from(s, i) + 2;
-    let splits = splits_held(s);
+    let splits = layout::splits_held(s);
     let mut low = 0;
     let mut j = 0;
     while j < n {
-        let k = number16(s, from + 2 * j);
+        let k = layout::number16(s, from + 2 * j);
         if k < low {
             return false;
         }
@@ -89,10 +87,10 @@ fn copy_masks(s: &[u8], i: usize, n: usize, masks: &mut [u64; 64])
     ensures { λ r. ⌜ length (now (masks .exit)) ≡ 64 ⌝ }
 {
     let from = tree_from(s, i) + 2;
-    let first = masks_from(s);
+    let first = layout::masks_from(s);
     let mut j = 0;
     while j < n {
-        let k = number16(s, from + 2 * j);
+        let k = layout::number16(s, from + 2 * j);
         masks[j] = fields::get64(s, first + 8 * k);
         j += 1;
     }
@@ -149,7 +147,7 @@ fn count_lists(s: &[u8], counts: &mut [u16; 4096])
     requires { ⌜ Counted (now s) 0 (now counts) ⌝ }
     ensures { λ r. ⌜ Counted (now (s .entry)) (treesHeldAt (now (s .entry))) (now (counts .exit)) ⌝ }
 {
-    let trees = trees_held(s);
+    let trees = layout::trees_held(s);
     let mut t = 0;
     while t < trees {
         count_list(s, t, counts);
@@ -166,10 +164,10 @@ fn count_list(s: &[u8], i: usize, counts: &mut [u16; 4096])
     ensures { λ r. ⌜ Counted (now (s .entry)) (i + 1) (now (counts .exit)) ⌝ }
 {
     let from = tree_from(s, i);
-    let n = number16(s, from);
+    let n = layout::number16(s, from);
     let mut j = 0;
     while j < n {
-        let k = number16(s, from + 2 + 2 * j);
+        let k = layout::number16(s, from + 2 + 2 * j);
         counts[k] = counts[k] + 1;
         j += 1;
     }
@@ -181,8 +179,8 @@ fn counts_match(s: &[u8], counts: &[u16; 4096]) -> bool
     requires { ⌜ Counted (now s) (treesHeldAt (now s)) (now counts) ⌝ }
     ensures { λ r. ⌜ r ≡ allBelow (goodCount (now (s .entry))) (splitsHeldAt (now (s .entry))) ⌝ }
 {
-    let first = counts_from(s);
-    let splits = splits_held(s);
+    let first = layout::counts_from(s);
+    let splits = layout::splits_held(s);
     let mut k = 0;
     while k < splits {
         let count = fields::get32(s, first + 4 * k);
@@ -205,20 +203,12 @@ pub(crate) fn lanes_good(s: &[u8]) -> bool
     let lanes = head::lanes(s) as usize;
     let mut l = 0;
     while l < lanes {
-        if 4097 < number16(s, 4096 + 4104 * l) {
+        if 4097 < layout::number16(s, 4096 + 4104 * l) {
             return false;
         }
         l += 1;
     }
     true
-}
-
-// How many trees there are.
-pub(crate) fn trees_held(s: &[u8]) -> usize
-    requires { ⌜ 4096 ≤ length (now s) ⌝ }
-    ensures { λ r. ⌜ r ≡ treesHeldAt (now (s .entry)) ⌝ }
-{
-    number16(s, 10)
 }
 
 // Where tree i begins, 128 bytes of which are lent.
@@ -228,7 +218,7 @@ fn tree_from(s: &[u8], i: usize) -> usize
     ensures { λ r. ⌜ r ≡ treeFrom (now (s .entry)) i ⌝ }
     ensures { λ r. ⌜ r + 128 ≤ length (now (s .entry)) ⌝ }
 {
-    4096 + 4104 * head::lanes(s) as usize + 128 * i
+    layout::tree_from(s, Tree(i))
 }
 
 // x in 32 bits, of which it takes 16.
@@ -236,13 +226,4 @@ fn wide16(x: u16) -> u32
     ensures { λ r. ⌜ r ≡ x ⌝ }
 {
     x as u32
-}
-
-// The number in the 2 bytes of s from at.
-fn number16(s: &[u8], at: usize) -> usize
-    requires { ⌜ at + 2 ≤ length (now s) ⌝ }
-    ensures { λ r. ⌜ r ≡ number 2 (now (s .entry)) at ⌝ }
-    ensures { λ r. ⌜ r < 65536 ⌝ }
-{
-    fields::get16(s, at) as usize
 }

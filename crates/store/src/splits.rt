@@ -8,14 +8,9 @@ ghost use Prim.Native.Nat.{_<_, _^_};
 ghost use lib.ListN.{getD};
 ghost use Rattle.trees.specs.Hash.{place, identifier};
 ghost use Rattle.head.specs.Head.{numbersAt, firstAt, secondAt};
-ghost use Rattle.store.specs.Store.{splitsHeldAt};
+ghost use Rattle.layout.specs.Store.{splitsHeldAt};
 ghost use Rattle.store.specs.WholeStore.{allBelow, goodHead, goodIdentifier, goodSplits, goodStart, goodChains};
 ghost use Rattle.store.specs.Splits.{goodMask, Highest};
-use crate::places::identifiers_from;
-use crate::places::links_from;
-use crate::places::masks_from;
-use crate::places::places_from;
-use crate::places::splits_held;
 use masks::Taxon;
 
 // The place of the split m: the sum of the first constants over its taxa, modulo the places.
@@ -78,8 +73,8 @@ fn masks_good(s: &[u8]) -> bool
     ensures { λ r. ⌜ r ≡ allBelow (goodMask (now (s .entry))) (splitsHeldAt (now (s .entry))) ⌝ }
 {
     let n = head::taxa(s);
-    let from = masks_from(s);
-    let held = splits_held(s);
+    let from = layout::masks_from(s);
+    let held = layout::splits_held(s);
     let mut last = 0u64;
     let mut k = 0;
     while k < held {
@@ -101,9 +96,9 @@ fn identifiers_good(s: &[u8]) -> bool
     requires { ⌜ goodHead (now s) ≡ true ⌝ }
     ensures { λ r. ⌜ r ≡ allBelow (goodIdentifier (now (s .entry))) (splitsHeldAt (now (s .entry))) ⌝ }
 {
-    let from = masks_from(s);
-    let to = identifiers_from(s);
-    let held = splits_held(s);
+    let from = layout::masks_from(s);
+    let to = layout::identifiers_from(s);
+    let held = layout::splits_held(s);
     let mut k = 0;
     while k < held {
         let m = fields::get64(s, from + 8 * k);
@@ -121,9 +116,9 @@ pub(crate) fn chains_good(s: &[u8]) -> bool
     requires { ⌜ goodSplits (now s) ≡ true ⌝ }
     ensures { λ r. ⌜ r ≡ goodChains (now (s .entry)) ⌝ }
 {
-    let from = masks_from(s);
-    let to = links_from(s);
-    let held = splits_held(s);
+    let from = layout::masks_from(s);
+    let to = layout::links_from(s);
+    let held = layout::splits_held(s);
     let mut highest = [0u16; 8192];
     let mut k = 0;
     while k < held {
@@ -143,7 +138,7 @@ fn starts_good(s: &[u8], highest: &[u16; 8192]) -> bool
     requires { ⌜ Highest (now s) (splitsHeldAt (now s)) (now highest) ⌝ }
     ensures { λ r. ⌜ r ≡ allBelow (goodStart (now (s .entry))) (numbersAt (now (s .entry)) .places) ⌝ }
 {
-    let from = places_from(s);
+    let from = layout::places_from(s);
     let n = head::places(s) as usize;
     let mut p = 0;
     while p < n {

@@ -2,7 +2,7 @@
 use mathlib.Core.Path.{ap, _∙_}
 use borrow.Author.Needs.{needs}
 use Rattle.trees.specs.Opening.{inRange, storeSize}
-use Rattle.store.specs.Store.{sizeAt}
+use Rattle.layout.specs.Store.{sizeAt}
 use Rattle.store.specs.HeaderLaws.{numbers-read}
 use Rattle.store.proofs.header.store_size.Statement.{statement}
 use Rattle.store.proofs.header.store_size.Tie as tie

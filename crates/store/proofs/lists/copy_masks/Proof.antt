@@ -4,7 +4,7 @@ use mathlib.Core.Path.{_≡_, refl, _∙_}
 use native.Mathlib.Omega.{arith}
 use lib.ListN.{length, take, length-set}
 use lib.Seq.{take-all}
-use Rattle.store.specs.Store.{treeAt}
+use Rattle.layout.specs.Store.{treeAt}
 use Rattle.store.specs.RoomLaws.{good-head, masks-inside}
 use Rattle.store.specs.ListTestLaws.{tree-length, tree-mask, number-recorded, copied-more}
 use Rattle.store.proofs.lists.copy_masks.Statement.{statement}

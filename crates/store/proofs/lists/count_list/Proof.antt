@@ -5,7 +5,7 @@ use mathlib.Core.Bool.{true}
 use mathlib.Core.List.{List}
 use native.Mathlib.Omega.{arith}
 use Rattle.fields.specs.Field.{number}
-use Rattle.store.specs.Store.{splitsHeldAt, treeFrom}
+use Rattle.layout.specs.Store.{splitsHeldAt, treeFrom}
 use Rattle.store.specs.WholeStore.{goodHead, goodList}
 use Rattle.store.specs.RoomLaws.{good-head}
 use Rattle.store.specs.ListTests.{CountedPart}

@@ -2,7 +2,7 @@
 use Prim.Native.Nat.{_≤_, _-_}
 use mathlib.Core.Path.{_≡_}
 use native.Mathlib.Omega.{arith}
-use Rattle.store.specs.Store.{treesHeldAt}
+use Rattle.layout.specs.Store.{treesHeldAt}
 use Rattle.store.specs.WholeStore.{goodList}
 use Rattle.store.specs.AllLaws.{all-at}
 use Rattle.store.specs.RoomLaws.{good-head}

@@ -4,7 +4,7 @@ use mathlib.Core.Path.{_≡_, sym}
 use mathlib.Core.Bool.{true}
 use native.Mathlib.Omega.{arith}
 use borrow.Author.Needs.{needs}
-use Rattle.store.specs.Store.{splitsHeldAt}
+use Rattle.layout.specs.Store.{splitsHeldAt}
 use Rattle.store.specs.WholeStore.{allBelow, goodCount}
 use Rattle.store.specs.AllLaws.{all-none, all-more, all-fails}
 use Rattle.store.specs.RoomLaws.{good-head, counts-inside}

@@ -4,7 +4,7 @@ use mathlib.Core.Path.{_≡_, sym}
 use mathlib.Core.Bool.{true}
 use native.Mathlib.Omega.{arith}
 use Rattle.head.specs.Head.{numbersAt}
-use Rattle.store.specs.Store.{laneFrom}
+use Rattle.layout.specs.Store.{laneFrom}
 use Rattle.store.specs.WholeStore.{allBelow, goodLaneAt}
 use Rattle.store.specs.AllLaws.{all-none, all-more, all-fails}
 use Rattle.store.specs.RoomLaws.{good-head, lane-inside}

@@ -4,7 +4,7 @@ use mathlib.Core.Path.{_≡_, sym}
 use mathlib.Core.Bool.{true}
 use native.Mathlib.Omega.{arith}
 use Rattle.opening.specs.GivenLaws.{failed, passed}
-use Rattle.store.specs.Store.{treesHeldAt}
+use Rattle.layout.specs.Store.{treesHeldAt}
 use Rattle.store.specs.WholeStore.{allBelow, goodList}
 use Rattle.store.specs.AllLaws.{all-none, all-more, all-fails}
 use Rattle.store.specs.RoomLaws.{good-head}

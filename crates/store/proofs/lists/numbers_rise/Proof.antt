@@ -3,7 +3,7 @@ use Prim.Native.Nat.{_≤_, _-_}
 use mathlib.Core.Path.{_≡_, refl, sym, _∙_}
 use native.Mathlib.Omega.{arith}
 use lib.ListN.{drop}
-use Rattle.store.specs.Store.{listAt}
+use Rattle.layout.specs.Store.{listAt}
 use Rattle.store.specs.RoomLaws.{good-head}
 use Rattle.store.specs.ListTests.{risingBelow}
 use Rattle.store.specs.ListTestLaws.{list-length, list-number, numbers-more, numbers-falls, numbers-high, numbers-end}

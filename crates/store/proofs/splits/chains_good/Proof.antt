@@ -5,7 +5,7 @@ use mathlib.Core.Path.{_≡_, refl, sym, _∙_}
 use mathlib.Core.Bool.{true, false}
 use native.Mathlib.Omega.{arith}
 use lib.ListN.{length, length-set}
-use Rattle.store.specs.Store.{splitsHeldAt}
+use Rattle.layout.specs.Store.{splitsHeldAt}
 use Rattle.store.specs.WholeStore.{allBelow, goodLink}
 use Rattle.store.specs.AllLaws.{all-none, all-more, all-fails}
 use Rattle.store.specs.GoodHeadLaws.{good-head, mask-fits, link-fits, place-small}

@@ -3,7 +3,7 @@ use Prim.Native.Nat.{_≤_, _-_}
 use mathlib.Core.Path.{_≡_, sym}
 use mathlib.Core.Bool.{true}
 use native.Mathlib.Omega.{arith}
-use Rattle.store.specs.Store.{splitsHeldAt}
+use Rattle.layout.specs.Store.{splitsHeldAt}
 use Rattle.store.specs.WholeStore.{allBelow, goodIdentifier}
 use Rattle.store.specs.AllLaws.{all-none, all-more, all-fails}
 use Rattle.store.specs.GoodHeadLaws.{good-head, mask-fits, identifier-fits}

@@ -2,12 +2,14 @@
 --
 --   treesHeldAt, splitsHeldAt      how many trees and splits there are
 --   laneFrom, treeFrom             where lane l and tree i begin
---   masksFrom, identifiersFrom, countsFrom, linksFrom, placesFrom     where the splits' lists and the places begin
+--   masksFrom, identifiersFrom, countsFrom, linksFrom, orderFrom, placesFrom     where the splits' lists and the places begin
 --   sizeAt s                       the store's size, by its numbers
 --   laneAt s l                     lane l
---   maskAt, identifierAt, countAt, linkAt     the fields of split k
---   startAt s p                    where the chain of place p starts: a split's number and one more, or 0
---   listAt s i                     the split numbers of tree i
+--   maskAt, identifierAt, countAt, linkAt     the fields of the split in row k
+--   startAt s p                    where the chain of place p starts: a split's row and one more, or 0
+--   orderAt s k                    the row of the split with number k
+--   masksAt s                      the recorded masks, by the splits' numbers
+--   listAt s i                     the rows of the splits of tree i
 --   treeAt s i                     its splits
 --   heldAt s                       what the store holds
 use Prim.Native.Nat.{ℕ, _+_, _*_}
@@ -36,12 +38,12 @@ splitsHeldAt s = number 2 s 12
 unfoldable pub laneFrom : ℕ → ℕ
 laneFrom l = 4096 + 4104 * l
 
--- 128 bytes a tree: how many splits it has in 2 bytes, then 2 bytes for each split's number
+-- 128 bytes a tree: how many splits it has in 2 bytes, then 2 bytes for each split's row
 unfoldable pub treeFrom : List ℕ → ℕ → ℕ
 unfolding laneFrom numbersAt
 treeFrom s i = laneFrom (numbersAt s .lanes) + 128 * i
 
--- 24 bytes a split, each field in a list of its own: 8 the mask, 8 the identifier, 4 the count, 2 the link, 2 that are not used
+-- 24 bytes a split, each field in a list of its own: 8 the mask, 8 the identifier, 4 the count, 2 the link, 2 for the order by mask
 unfoldable pub masksFrom : List ℕ → ℕ
 unfolding treeFrom numbersAt
 masksFrom s = treeFrom s (numbersAt s .treeRoom)
@@ -57,6 +59,10 @@ countsFrom s = masksFrom s + 16 * numbersAt s .splitRoom
 unfoldable pub linksFrom : List ℕ → ℕ
 unfolding masksFrom numbersAt
 linksFrom s = masksFrom s + 20 * numbersAt s .splitRoom
+
+unfoldable pub orderFrom : List ℕ → ℕ
+unfolding masksFrom numbersAt
+orderFrom s = masksFrom s + 22 * numbersAt s .splitRoom
 
 -- 2 bytes a place
 unfoldable pub placesFrom : List ℕ → ℕ
@@ -76,7 +82,7 @@ laneAt s l =
     if eqb (number 2 s (laneFrom l)) 4097 then overrun
     else holding (take (number 2 s (laneFrom l)) (drop (laneFrom l + 8) s))
 
--- ---- splits
+-- ---- splits: each has a row, in order of recording, and its number, in order of mask
 
 unfoldable pub maskAt : List ℕ → ℕ → ℕ
 unfolding masksFrom number
@@ -90,7 +96,7 @@ unfoldable pub countAt : List ℕ → ℕ → ℕ
 unfolding countsFrom number
 countAt s k = number 4 s (countsFrom s + 4 * k)
 
--- the next lower split of the same place, and one more; 0 for none
+-- the next lower row of the same place, and one more; 0 for none
 unfoldable pub linkAt : List ℕ → ℕ → ℕ
 unfolding linksFrom number
 linkAt s k = number 2 s (linksFrom s + 2 * k)
@@ -98,6 +104,10 @@ linkAt s k = number 2 s (linksFrom s + 2 * k)
 unfoldable pub startAt : List ℕ → ℕ → ℕ
 unfolding placesFrom number
 startAt s p = number 2 s (placesFrom s + 2 * p)
+
+unfoldable pub orderAt : List ℕ → ℕ → ℕ
+unfolding orderFrom number
+orderAt s k = number 2 s (orderFrom s + 2 * k)
 
 unfoldable pub masksAt : List ℕ → List ℕ
 unfolding upTo maskAt splitsHeldAt

@@ -1,9 +1,9 @@
--- `store::places::counts_from` meets its contract: the definition. Assumes nothing.
+-- `layout::counts_from` meets its contract: the definition. Assumes nothing.
 use native.Mathlib.Omega.{arith}
 use borrow.Author.Needs.{needs}
-use Rattle.store.specs.Store.{countsFrom}
-use Rattle.store.proofs.places.counts_from.Statement.{statement}
-use Rattle.store.proofs.places.counts_from.Tie as tie
+use Rattle.layout.specs.Store.{countsFrom}
+use Rattle.layout.proofs.counts_from.Statement.{statement}
+use Rattle.layout.proofs.counts_from.Tie as tie
 
 returns : tie.Need-returns
 unfolding countsFrom

@@ -1,9 +1,9 @@
--- `store::places::masks_from` meets its contract: the definition. Assumes nothing.
+-- `layout::masks_from` meets its contract: the definition. Assumes nothing.
 use native.Mathlib.Omega.{arith}
 use borrow.Author.Needs.{needs}
-use Rattle.store.specs.Store.{laneFrom, treeFrom, masksFrom}
-use Rattle.store.proofs.places.masks_from.Statement.{statement}
-use Rattle.store.proofs.places.masks_from.Tie as tie
+use Rattle.layout.specs.Store.{laneFrom, treeFrom, masksFrom}
+use Rattle.layout.proofs.masks_from.Statement.{statement}
+use Rattle.layout.proofs.masks_from.Tie as tie
 
 returns : tie.Need-returns
 unfolding masksFrom treeFrom laneFrom

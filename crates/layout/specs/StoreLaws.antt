@@ -1,7 +1,7 @@
 -- Where everything in a store lies, by the opening's numbers. Assumes nothing.
 --
---   lane-from, tree-from, masks-from, identifiers-from, counts-from, links-from, places-from, size-is     where things begin and end
---   trees-held-is, splits-held-is, mask-is, identifier-is, count-is, link-is, start-is     each field is a number at its place
+--   lane-from, tree-from, masks-from, identifiers-from, counts-from, links-from, order-from, places-from, size-is     where things begin and end
+--   trees-held-is, splits-held-is, mask-is, identifier-is, count-is, link-is, start-is, order-is     each field is a number at its place
 --   entriesAt, entryAt, list-is, tree-is     a tree's list
 --   masks-is, lane-is               the masks, and a lane
 use Prim.Native.Nat.{ℕ, _+_, _*_}
@@ -13,7 +13,7 @@ use Rattle.trees.specs.Plain.{if_then_else_}
 use Rattle.trees.specs.Held.{holding, overrun}
 use Rattle.fields.specs.Field.{number}
 use Rattle.head.specs.Head.{numbersAt, upTo}
-use Rattle.store.specs.Store.{treesHeldAt, splitsHeldAt, laneFrom, treeFrom, masksFrom, identifiersFrom, countsFrom, linksFrom, placesFrom, sizeAt, laneAt, maskAt, identifierAt, countAt, linkAt, startAt, masksAt, listAt, treeAt}
+use Rattle.layout.specs.Store.{treesHeldAt, splitsHeldAt, laneFrom, treeFrom, masksFrom, identifiersFrom, countsFrom, linksFrom, orderFrom, placesFrom, sizeAt, laneAt, maskAt, identifierAt, countAt, linkAt, startAt, orderAt, masksAt, listAt, treeAt}
 
 pub lane-from : (l : ℕ) → laneFrom l ≡ 4096 + 4104 * l
 unfolding laneFrom
@@ -48,6 +48,10 @@ module _ (s : List ℕ) where
   pub links-from : linksFrom s ≡ masksFrom s + 20 * numbersAt s .splitRoom
   unfolding linksFrom
   links-from = refl
+
+  pub order-from : orderFrom s ≡ masksFrom s + 22 * numbersAt s .splitRoom
+  unfolding orderFrom
+  order-from = refl
 
   pub places-from : placesFrom s ≡ masksFrom s + 24 * numbersAt s .splitRoom
   unfolding placesFrom
@@ -86,6 +90,10 @@ module _ (s : List ℕ) where
   pub start-is : (p : ℕ) → startAt s p ≡ number 2 s (placesFrom s + 2 * p)
   unfolding startAt
   start-is p = refl
+
+  pub order-is : (k : ℕ) → orderAt s k ≡ number 2 s (orderFrom s + 2 * k)
+  unfolding orderAt
+  order-is k = refl
 
   pub masks-is : masksAt s ≡ upTo (maskAt s) (splitsHeldAt s)
   unfolding masksAt

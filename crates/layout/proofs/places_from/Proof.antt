@@ -1,9 +1,9 @@
--- `store::places::places_from` meets its contract: the definition. Assumes nothing.
+-- `layout::places_from` meets its contract: the definition. Assumes nothing.
 use native.Mathlib.Omega.{arith}
 use borrow.Author.Needs.{needs}
-use Rattle.store.specs.Store.{placesFrom}
-use Rattle.store.proofs.places.places_from.Statement.{statement}
-use Rattle.store.proofs.places.places_from.Tie as tie
+use Rattle.layout.specs.Store.{placesFrom}
+use Rattle.layout.proofs.places_from.Statement.{statement}
+use Rattle.layout.proofs.places_from.Tie as tie
 
 returns : tie.Need-returns
 unfolding placesFrom

@@ -1,9 +1,9 @@
--- `store::places::identifiers_from` meets its contract: the definition. Assumes nothing.
+-- `layout::identifiers_from` meets its contract: the definition. Assumes nothing.
 use native.Mathlib.Omega.{arith}
 use borrow.Author.Needs.{needs}
-use Rattle.store.specs.Store.{identifiersFrom}
-use Rattle.store.proofs.places.identifiers_from.Statement.{statement}
-use Rattle.store.proofs.places.identifiers_from.Tie as tie
+use Rattle.layout.specs.Store.{identifiersFrom}
+use Rattle.layout.proofs.identifiers_from.Statement.{statement}
+use Rattle.layout.proofs.identifiers_from.Tie as tie
 
 returns : tie.Need-returns
 unfolding identifiersFrom

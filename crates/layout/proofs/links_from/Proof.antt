@@ -1,9 +1,9 @@
--- `store::places::links_from` meets its contract: the definition. Assumes nothing.
+-- `layout::links_from` meets its contract: the definition. Assumes nothing.
 use native.Mathlib.Omega.{arith}
 use borrow.Author.Needs.{needs}
-use Rattle.store.specs.Store.{linksFrom}
-use Rattle.store.proofs.places.links_from.Statement.{statement}
-use Rattle.store.proofs.places.links_from.Tie as tie
+use Rattle.layout.specs.Store.{linksFrom}
+use Rattle.layout.proofs.links_from.Statement.{statement}
+use Rattle.layout.proofs.links_from.Tie as tie
 
 returns : tie.Need-returns
 unfolding linksFrom

@@ -1,0 +1,3 @@
+-- Every byte of a store, and the laws of where things lie.
+pub mod Store
+pub mod StoreLaws

@@ -1,0 +1,108 @@
+// Where everything in a store lies, by the numbers of its head. Each of those numbers is below
+// 65,536, so that no sum of them is near a word's end.
+//
+// Its contracts cite `specs/Store.antt`, which has every byte.
+ghost use mathlib.Core.Path.{_≡_};
+ghost use Prim.Native.Nat.{_+_, _≤_, _<_, _^_};
+ghost use lib.ListN.{length};
+ghost use Rattle.fields.specs.Field.{number};
+ghost use Rattle.layout.specs.Store.{treesHeldAt, splitsHeldAt, treeFrom, masksFrom, identifiersFrom, countsFrom, linksFrom, orderFrom, placesFrom};
+
+// The number of a lane, from 0.
+pub struct Lane(pub usize);
+
+// The number of an accepted tree, from 0, in order of acceptance.
+pub struct Tree(pub usize);
+
+// The number of a recorded split: its place, from 0, in the list by rising mask.
+pub struct Split(pub usize);
+
+// How many trees there are.
+pub fn trees_held(s: &[u8]) -> usize
+    requires { ⌜ 4096 ≤ length (now s) ⌝ }
+    ensures { λ r. ⌜ r ≡ treesHeldAt (now (s .entry)) ⌝ }
+{
+    number16(s, 10)
+}
+
+// How many splits there are.
+pub fn splits_held(s: &[u8]) -> usize
+    requires { ⌜ 4096 ≤ length (now s) ⌝ }
+    ensures { λ r. ⌜ r ≡ splitsHeldAt (now (s .entry)) ⌝ }
+    ensures { λ r. ⌜ r < 65536 ⌝ }
+{
+    number16(s, 12)
+}
+
+// Where tree i begins.
+pub fn tree_from(s: &[u8], i: Tree) -> usize
+    requires { ⌜ 4096 ≤ length (now s) ⌝ }
+    requires { ⌜ i .0 < 65536 ⌝ }
+    ensures { λ r. ⌜ r ≡ treeFrom (now (s .entry)) (i .0) ⌝ }
+    ensures { λ r. ⌜ r < 2 ^ 29 ⌝ }
+{
+    4096 + 4104 * head::lanes(s) as usize + 128 * i.0
+}
+
+// Where the masks begin: behind the head, the lanes and the trees.
+pub fn masks_from(s: &[u8]) -> usize
+    requires { ⌜ 4096 ≤ length (now s) ⌝ }
+    ensures { λ r. ⌜ r ≡ masksFrom (now (s .entry)) ⌝ }
+    ensures { λ r. ⌜ r < 2 ^ 29 ⌝ }
+{
+    4096 + 4104 * head::lanes(s) as usize + 128 * head::tree_room(s) as usize
+}
+
+// Where the identifiers begin.
+pub fn identifiers_from(s: &[u8]) -> usize
+    requires { ⌜ 4096 ≤ length (now s) ⌝ }
+    ensures { λ r. ⌜ r ≡ identifiersFrom (now (s .entry)) ⌝ }
+    ensures { λ r. ⌜ r < 2 ^ 30 ⌝ }
+{
+    masks_from(s) + 8 * head::split_room(s) as usize
+}
+
+// Where the counts begin.
+pub fn counts_from(s: &[u8]) -> usize
+    requires { ⌜ 4096 ≤ length (now s) ⌝ }
+    ensures { λ r. ⌜ r ≡ countsFrom (now (s .entry)) ⌝ }
+    ensures { λ r. ⌜ r < 2 ^ 30 ⌝ }
+{
+    masks_from(s) + 16 * head::split_room(s) as usize
+}
+
+// Where the links begin.
+pub fn links_from(s: &[u8]) -> usize
+    requires { ⌜ 4096 ≤ length (now s) ⌝ }
+    ensures { λ r. ⌜ r ≡ linksFrom (now (s .entry)) ⌝ }
+    ensures { λ r. ⌜ r < 2 ^ 30 ⌝ }
+{
+    masks_from(s) + 20 * head::split_room(s) as usize
+}
+
+// Where the rows begin in order of mask.
+pub fn order_from(s: &[u8]) -> usize
+    requires { ⌜ 4096 ≤ length (now s) ⌝ }
+    ensures { λ r. ⌜ r ≡ orderFrom (now (s .entry)) ⌝ }
+    ensures { λ r. ⌜ r < 2 ^ 30 ⌝ }
+{
+    masks_from(s) + 22 * head::split_room(s) as usize
+}
+
+// Where the places begin.
+pub fn places_from(s: &[u8]) -> usize
+    requires { ⌜ 4096 ≤ length (now s) ⌝ }
+    ensures { λ r. ⌜ r ≡ placesFrom (now (s .entry)) ⌝ }
+    ensures { λ r. ⌜ r < 2 ^ 30 ⌝ }
+{
+    masks_from(s) + 24 * head::split_room(s) as usize
+}
+
+// The number in the 2 bytes of s from at.
+pub fn number16(s: &[u8], at: usize) -> usize
+    requires { ⌜ at + 2 ≤ length (now s) ⌝ }
+    ensures { λ r. ⌜ r ≡ number 2 (now (s .entry)) at ⌝ }
+    ensures { λ r. ⌜ r < 65536 ⌝ }
+{
+    fields::get16(s, at) as usize
+}
