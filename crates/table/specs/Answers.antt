@@ -1,0 +1,58 @@
+-- The answers of the calls, as document 01 has them: each enum case with its number and values.
+--
+--   refusalNumber r                                   the number of a refusal in the table of document 01
+--   finishGiven, numberGiven, splitGiven, progressGiven     an answer of the code, as the definitions of crate trees have it
+use Prim.Native.Nat.{ℕ}
+use Rattle.trees.specs.Plain.{Answer, refused, gives}
+use Rattle.trees.specs.Held.{moreWanted, accepted}
+use Rattle.trees.specs.Held as held
+use Rattle.table.specs.declared.Refusal.{Refusal}
+use Rattle.table.specs.declared.Refusal.the-variants as why
+use Rattle.table.specs.declared.Finish.{Finish}
+use Rattle.table.specs.declared.Finish.the-variants as finish
+use Rattle.table.specs.declared.Number.{Number}
+use Rattle.table.specs.declared.Number.the-variants as number
+use Rattle.table.specs.declared.Recorded.{Recorded}
+use Rattle.table.specs.declared.Recorded.the-variants as recorded
+use Rattle.table.specs.declared.Progress.{Progress}
+use Rattle.table.specs.declared.Progress.the-variants as progress
+
+-- "Refusal numbers"
+unfoldable pub refusalNumber : Refusal → ℕ
+refusalNumber why.NotWhole = 1
+refusalNumber why.OutOfRange = 2
+refusalNumber why.BadNames = 3
+refusalNumber why.TooShort = 4
+refusalNumber why.NoLane = 5
+refusalNumber why.TooLong = 6
+refusalNumber why.BadForm = 7
+refusalNumber why.UnknownLeaf = 8
+refusalNumber why.RepeatedLeaf = 9
+refusalNumber why.MissingTaxon = 10
+refusalNumber why.NoTreeRoom = 11
+refusalNumber why.NoSplitRoom = 12
+refusalNumber why.NoSuchNumber = 13
+refusalNumber why.NoTrees = 14
+
+unfoldable pub finishGiven : Finish → Answer (Unit {0})
+unfolding refusalNumber
+finishGiven (finish.Refused r) = refused (refusalNumber r)
+finishGiven finish.Done = gives tt
+
+unfoldable pub numberGiven : Number → Answer ℕ
+unfolding refusalNumber
+numberGiven (number.Refused r) = refused (refusalNumber r)
+numberGiven (number.Gives n) = gives n
+
+-- a split's mask and its count
+unfoldable pub splitGiven : Recorded → Answer (ℕ × ℕ)
+unfolding refusalNumber
+splitGiven (recorded.Refused r) = refused (refusalNumber r)
+splitGiven (recorded.Gives m c) = gives (m, c)
+
+-- "one of: more wanted; accepted, with the tree's number; refused, with a number"
+unfoldable pub progressGiven : Progress → Answer held.Progress
+unfolding refusalNumber
+progressGiven (progress.Refused r) = refused (refusalNumber r)
+progressGiven progress.MoreWanted = gives moreWanted
+progressGiven (progress.Accepted t) = gives (accepted (t .0))

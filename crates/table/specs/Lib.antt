@@ -1,0 +1,3 @@
+-- The answers of the calls, and what the calls promise of lent memory.
+pub mod Answers
+pub mod Promises
