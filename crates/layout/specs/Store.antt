@@ -7,7 +7,7 @@
 --   laneAt s l                     lane l
 --   maskAt, identifierAt, countAt, linkAt     the fields of the split in row k
 --   startAt s p                    where the chain of place p starts: a split's row and one more, or 0
---   orderAt s k                    the row of the split with number k
+--   orderAt s k, splitAt s k       the row and the mask of the split with number k
 --   masksAt s                      the recorded masks, by the splits' numbers
 --   listAt s i                     the rows of the splits of tree i
 --   treeAt s i                     its splits
@@ -109,9 +109,14 @@ unfoldable pub orderAt : List ℕ → ℕ → ℕ
 unfolding orderFrom number
 orderAt s k = number 2 s (orderFrom s + 2 * k)
 
+-- "A recorded split's number is its place, from 0, in the list by rising mask"
+unfoldable pub splitAt : List ℕ → ℕ → ℕ
+unfolding maskAt orderAt
+splitAt s k = maskAt s (orderAt s k)
+
 unfoldable pub masksAt : List ℕ → List ℕ
-unfolding upTo maskAt splitsHeldAt
-masksAt s = upTo (maskAt s) (splitsHeldAt s)
+unfolding upTo splitAt splitsHeldAt
+masksAt s = upTo (splitAt s) (splitsHeldAt s)
 
 -- ---- trees
 

@@ -1,7 +1,7 @@
 -- Where everything in a store lies, by the opening's numbers. Assumes nothing.
 --
 --   lane-from, tree-from, masks-from, identifiers-from, counts-from, links-from, order-from, places-from, size-is     where things begin and end
---   trees-held-is, splits-held-is, mask-is, identifier-is, count-is, link-is, start-is, order-is     each field is a number at its place
+--   trees-held-is, splits-held-is, mask-is, identifier-is, count-is, link-is, start-is, order-is, split-is     each field is a number at its place
 --   entriesAt, entryAt, list-is, tree-is     a tree's list
 --   masks-is, lane-is               the masks, and a lane
 use Prim.Native.Nat.{ℕ, _+_, _*_}
@@ -13,7 +13,7 @@ use Rattle.trees.specs.Plain.{if_then_else_}
 use Rattle.trees.specs.Held.{holding, overrun}
 use Rattle.fields.specs.Field.{number}
 use Rattle.head.specs.Head.{numbersAt, upTo}
-use Rattle.layout.specs.Store.{treesHeldAt, splitsHeldAt, laneFrom, treeFrom, masksFrom, identifiersFrom, countsFrom, linksFrom, orderFrom, placesFrom, sizeAt, laneAt, maskAt, identifierAt, countAt, linkAt, startAt, orderAt, masksAt, listAt, treeAt}
+use Rattle.layout.specs.Store.{treesHeldAt, splitsHeldAt, laneFrom, treeFrom, masksFrom, identifiersFrom, countsFrom, linksFrom, orderFrom, placesFrom, sizeAt, laneAt, maskAt, identifierAt, countAt, linkAt, startAt, orderAt, splitAt, masksAt, listAt, treeAt}
 
 pub lane-from : (l : ℕ) → laneFrom l ≡ 4096 + 4104 * l
 unfolding laneFrom
@@ -95,7 +95,11 @@ module _ (s : List ℕ) where
   unfolding orderAt
   order-is k = refl
 
-  pub masks-is : masksAt s ≡ upTo (maskAt s) (splitsHeldAt s)
+  pub split-is : (k : ℕ) → splitAt s k ≡ maskAt s (orderAt s k)
+  unfolding splitAt
+  split-is k = refl
+
+  pub masks-is : masksAt s ≡ upTo (splitAt s) (splitsHeldAt s)
   unfolding masksAt
   masks-is = refl
 

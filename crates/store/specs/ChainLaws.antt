@@ -26,7 +26,7 @@ use Rattle.layout.specs.Store.{splitsHeldAt, maskAt, masksAt, linkAt, startAt}
 use Rattle.store.specs.WholeStore.{highestBelow, wholeAt}
 use Rattle.store.specs.WholeFacts.{ChainsAt, whole-at-facts}
 use Rattle.store.specs.UpToLaws.{less-or-not}
-use Rattle.store.specs.RecordedAtLaws.{masks-mem, mem-masks, mask-same}
+use Rattle.store.specs.OrderLaws.{masks-mem, mem-masks, mask-same}
 use Rattle.store.specs.HeldWholeLaws.{opening-facts}
 use Rattle.store.specs.Chain.{placeIn, metFrom, met, ofPlace, Falling, lookFrom, lookAt, look}
 
@@ -218,15 +218,15 @@ module _ (s : List ℕ) (m : ℕ) (whole : wholeAt s ≡ true) where
     where
       go : (o : Option ℕ) → Found s m (splitsHeldAt s) o → (k < splitsHeldAt s) × (maskAt s k ≡ m) → o ≡ some k
       go none f h = absurd (f k (h .0) (h .1))
-      go (some j) f h = ap {B = Option ℕ} some (mask-same s whole j k (f .0) (h .0) (f .1 ∙ sym (h .1)))
+      go (some j) f h = ap {B = Option ℕ} some (mask-same s (whole-at-facts s whole .splits) j k (f .0) (h .0) (f .1 ∙ sym (h .1)))
 
   pub look-nothing : (look s m ≡ none) ↔ (member m (masksAt s) ≡ false)
   look-nothing = (
     λ e. let f : Found s m (splitsHeldAt s) none = subst (Found s m (splitsHeldAt s)) e look-result in
-        member-not m (masksAt s) (λ h. let k = masks-mem s m h in f (k .0) (k .1) (sym (k .2))),
+        member-not m (masksAt s) (λ h. let k = masks-mem s (whole-at-facts s whole .splits) m h in f (k .0) (k .1) (sym (k .2))),
     λ e. go (look s m) look-result (not-member m (masksAt s) e),
   )
     where
       go : (o : Option ℕ) → Found s m (splitsHeldAt s) o → (Mem m (masksAt s) → ⊥) → o ≡ none
       go none f h = refl
-      go (some k) f h = absurd (h (subst (λ (x : ℕ). Mem x (masksAt s)) (f .1) (mem-masks s k (f .0))))
+      go (some k) f h = absurd (h (subst (λ (x : ℕ). Mem x (masksAt s)) (f .1) (mem-masks s (whole-at-facts s whole .splits) k (f .0))))

@@ -7,7 +7,7 @@
 use mathlib.Core.Path.{_≡_, refl, sym, ap, _∙_}
 use mathlib.Core.Logic.{_⊎_, inl, inr}
 use mathlib.Core.Bool.{Bool, true, false, _||_, and-false, or-false, or-assoc}
-use mathlib.Core.List.{List, [], _∷_, _++_}
+use mathlib.Core.List.{List, [], _∷_, _++_, map}
 use Prim.Native.Nat.{ℕ, zero, suc, _+_, _*_, _≤_, _<_}
 use native.Mathlib.Nat.{add-zero}
 use native.Mathlib.Numerals.{add-one}
@@ -20,10 +20,12 @@ use Rattle.trees.specs.Plain.{if_then_else_, member}
 use Rattle.theorems.specs.ListLaws.{Mem, member-not}
 use Rattle.theorems.specs.RisingLaws.{Rising}
 use Rattle.fields.specs.Field.{number}
-use Rattle.layout.specs.Store.{treesHeldAt, splitsHeldAt, countsFrom, countAt, listAt}
+use Rattle.layout.specs.Store.{treesHeldAt, splitsHeldAt, countsFrom, maskAt, countAt, listAt, treeAt}
+use Rattle.layout.specs.StoreLaws.{tree-is}
 use Rattle.store.specs.WholeStore.{listed, goodCount}
 use Rattle.store.specs.ListTests.{oneIf, CountedPart, Counted}
 use Rattle.store.specs.ListTestLaws.{mem-getD}
+use Rattle.store.specs.UpToLaws.{mem-map}
 
 -- ---- one tree more
 
@@ -52,11 +54,12 @@ unfolding member
 member-last k x [] = or-false (eqb k x)
 member-last k x (y ∷ l) = ap (λ (b : Bool). eqb k y || b) (member-last k x l) ∙ sym (or-assoc (eqb k y) (member k l) (eqb k x))
 
-front-below : (l : List ℕ) (j y : ℕ) → Rising l → j < length l → Mem y (take j l) → y < getD l j 0
-front-below [] j y r h m = absurd (omega arith)
-front-below (x ∷ l) zero y r h m = absurd m
-front-below (x ∷ l) (suc j) y r h (inl e) = rw e (r .0 _ (mem-getD l j (omega arith)))
-front-below (x ∷ l) (suc j) y r h (inr m) = front-below l j y (r .1) (omega arith) m
+-- where the values of f rise, each is above those before
+front-below : (f : ℕ → ℕ) (l : List ℕ) (j y : ℕ) → Rising (map f l) → j < length l → Mem y (take j l) → f y < f (getD l j 0)
+front-below f [] j y r h m = absurd (omega arith)
+front-below f (x ∷ l) zero y r h m = absurd m
+front-below f (x ∷ l) (suc j) y r h (inl e) = rw e (r .0 _ (mem-map f l _ (mem-getD l j (omega arith))))
+front-below f (x ∷ l) (suc j) y r h (inr m) = front-below f l j y (r .1) (omega arith) m
 
 module _ (l : List ℕ) (j k : ℕ) (h : j < length l) where
   front-member : member k (take (j + 1) l) ≡ (member k (take j l) || eqb k (getD l j 0))
@@ -65,10 +68,10 @@ module _ (l : List ℕ) (j k : ℕ) (h : j < length l) where
   front-other : (k ≡ getD l j 0 → ⊥) → oneIf (member k (take (j + 1) l)) ≡ oneIf (member k (take j l))
   front-other n = ap oneIf (front-member ∙ rw (ne-eqb _ _ n) (or-false (member k (take j l))))
 
-  front-here : Rising l → k ≡ getD l j 0 → oneIf (member k (take (j + 1) l)) ≡ oneIf (member k (take j l)) + 1
+  front-here : (f : ℕ → ℕ) → Rising (map f l) → k ≡ getD l j 0 → oneIf (member k (take (j + 1) l)) ≡ oneIf (member k (take j l)) + 1
   unfolding oneIf
-  front-here r e =
-      let n : member k (take j l) ≡ false = member-not k (take j l) (λ m. omega (arith, front-below l j k r h m)) in
+  front-here f r e =
+      let n : member k (take j l) ≡ false = member-not k (take j l) (λ m. omega (arith, front-below f l j k r h m, ap f e)) in
       rw (front-member, n, eq-eqb k (getD l j 0) e)
 
 -- ---- the counts of a part
@@ -95,7 +98,7 @@ module _ (s : List ℕ) (t : ℕ) where
   pub part-most : (j : ℕ) (c : List ℕ) → CountedPart s t j c → (x : ℕ) → x < splitsHeldAt s → getD c x 0 ≤ t + 1
   part-most j c p x h = omega (arith, p .entries x h, one-most (member x (take j (listAt s t))), listed-most s x t)
 
-  module _ (j : ℕ) (c : List ℕ) (p : CountedPart s t j c) (r : Rising (listAt s t)) (h : j < length (listAt s t)) where
+  module _ (j : ℕ) (c : List ℕ) (p : CountedPart s t j c) (r : Rising (treeAt s t)) (h : j < length (listAt s t)) where
     pub part-more : (x : ℕ) → getD (listAt s t) j 0 ≡ x → x < 4096 → CountedPart s t (j + 1) (set c x (getD c x 0 + 1))
     part-more x e f = record { size = length-set c x _ ∙ p .size; entries = λ k l. go k l (same-or-other k x) }
       where
@@ -103,7 +106,7 @@ module _ (s : List ℕ) (t : ℕ) where
             → getD (set c x (getD c x 0 + 1)) k 0 ≡ listed s k t + oneIf (member k (take (j + 1) (listAt s t)))
         go k l (inl q) =
             let z = p .size in
-            let m = front-here (listAt s t) j k h r (q ∙ sym e) in
+            let m = front-here (listAt s t) j k h (maskAt s) (rw (← tree-is s t) r) (q ∙ sym e) in
             let w = p .entries k l in
             let u : getD c k 0 ≡ getD c x 0 = ap (λ (i : ℕ). getD c i 0) q in
             let v : getD c x 0 + 1 ≡ listed s k t + oneIf (member k (take (j + 1) (listAt s t))) = omega arith in

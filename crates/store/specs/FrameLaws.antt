@@ -19,14 +19,14 @@ use Rattle.theorems.specs.OpeningLaws.{good-opening}
 use Rattle.fields.specs.Field.{number}
 use Rattle.head.specs.Head.{numbersAt, openingAt, firstAt, secondAt, upTo}
 use Rattle.head.specs.HeadLaws.{upTo-same, numbers-same, first-same, second-same, head-same}
-use Rattle.layout.specs.Store.{treesHeldAt, splitsHeldAt, laneFrom, treeFrom, sizeAt, laneAt, maskAt, masksAt, listAt, treeAt, heldAt}
+use Rattle.layout.specs.Store.{treesHeldAt, splitsHeldAt, laneFrom, treeFrom, sizeAt, laneAt, maskAt, orderAt, splitAt, masksAt, listAt, treeAt, heldAt}
 use Rattle.store.specs.WholeStore.{listed, highestBelow, wholeAt}
 use Rattle.store.specs.WholeFacts.{HeadAt, SplitsAt, ListAt, CountAt, ChainsAt, WholeAt, whole-at-facts, facts-whole-at}
 use Rattle.store.specs.UpToLaws.{bool-same}
 use Rattle.store.specs.Chain.{placeIn}
 use Rattle.store.specs.ChainLaws.{highest-none, highest-step}
-use Rattle.layout.specs.StoreLaws.{lane-from, masks-from, size-is, trees-held-is, splits-held-is, masks-is}
-use Rattle.store.specs.PartFrameLaws.{SameBetween, number-frame, lane-length-frame, lane-frame, size-same, mask-frame, identifier-frame, count-frame, link-frame, start-frame, entries-frame, list-frame, tree-frame}
+use Rattle.layout.specs.StoreLaws.{lane-from, masks-from, size-is, trees-held-is, splits-held-is, split-is, masks-is}
+use Rattle.store.specs.PartFrameLaws.{SameBetween, number-frame, lane-length-frame, lane-frame, size-same, mask-frame, identifier-frame, count-frame, link-frame, order-frame, start-frame, entries-frame, list-frame, tree-frame}
 
 -- ---- whole bytes
 
@@ -66,8 +66,14 @@ module _ (s t : List ℕ) (h : (i : ℕ) → i < 4096 → getD s i 0 ≡ getD t 
     mask-kept : (k : ℕ) → k < splitsHeldAt s → maskAt s k ≡ maskAt t k
     mask-kept k l = mask-frame s t numbers b k (split-fits k l)
 
+    order-kept : (k : ℕ) → k < splitsHeldAt s → orderAt s k ≡ orderAt t k
+    order-kept k l = order-frame s t numbers b k (split-fits k l)
+
+    split-kept : (k : ℕ) → k < splitsHeldAt s → splitAt s k ≡ splitAt t k
+    split-kept k l = split-is s k ∙ mask-kept (orderAt s k) (w .splits .rows-below k l) ∙ ap (maskAt t) (order-kept k l) ∙ sym (split-is t k)
+
     masks-frame : masksAt s ≡ masksAt t
-    masks-frame = masks-is s ∙ upTo-same (maskAt s) (maskAt t) (splitsHeldAt s) mask-kept ∙ rw (splits-held-frame, ← masks-is t)
+    masks-frame = masks-is s ∙ upTo-same (splitAt s) (splitAt t) (splitsHeldAt s) split-kept ∙ rw (splits-held-frame, ← masks-is t)
 
     list-kept : (i : ℕ) → i < treesHeldAt s → listAt s i ≡ listAt t i
     list-kept i l = list-frame s t numbers b i (tree-fits i l) (w .lists i l .few)
@@ -94,6 +100,10 @@ module _ (s t : List ℕ) (h : (i : ℕ) → i < 4096 → getD s i 0 ≡ getD t 
     splits-frame : SplitsAt t
     splits-frame =
         record {
+          rows-below =
+              λ k l.
+              let q : k < splitsHeldAt s = rw splits-held-frame l in
+              rw (← order-kept k q, ← splits-held-frame) (w .splits .rows-below k q);
           masks-proper = rw (← masks-frame, ← numbers) (w .splits .masks-proper);
           masks-rising = rw (← masks-frame) (w .splits .masks-rising);
           identifiers =
@@ -107,8 +117,8 @@ module _ (s t : List ℕ) (h : (i : ℕ) → i < 4096 → getD s i 0 ≡ getD t 
         let f = w .lists i l in
         record {
           few = rw (← entries-frame s t numbers b i (tree-fits i l)) (f .few);
-          numbers-rising = rw (← list-kept i l) (f .numbers-rising);
           numbers-below = λ k q. rw (← splits-held-frame) (f .numbers-below k (rw (list-kept i l) q));
+          tree-rising = rw (← tree-kept i l) (f .tree-rising);
           agreeing = rw (← tree-kept i l) (f .agreeing);
         }
 

@@ -3,7 +3,7 @@
 --   GoodHead s       the test's parts as facts
 --   good-head        the test gives them
 --   places-end       the places end the store
---   mask-fits, identifier-fits, link-fits, start-fits     the fields of a split and of a place end inside the store
+--   mask-fits, identifier-fits, order-fits, link-fits, start-fits     the fields of a split and of a place end inside the store
 --   first-most       the constants of the first list are at most 8,191
 --   sum-most         so their sums are below 2^20
 --   place-below, place-small     a place is below their number, and below 8,192
@@ -22,7 +22,7 @@ use Rattle.trees.specs.Hash.{sumOver, place}
 use Rattle.theorems.specs.OpeningLaws.{both, InRange, GoodOpening, good-opening, first-below}
 use Rattle.head.specs.Head.{numbersAt, firstAt, openingAt}
 use Rattle.head.specs.HeadLaws.{first-length}
-use Rattle.layout.specs.Store.{treesHeldAt, splitsHeldAt, laneFrom, treeFrom, masksFrom, identifiersFrom, linksFrom, placesFrom, sizeAt}
+use Rattle.layout.specs.Store.{treesHeldAt, splitsHeldAt, laneFrom, treeFrom, masksFrom, identifiersFrom, linksFrom, orderFrom, placesFrom, sizeAt}
 use Rattle.store.specs.WholeStore.{goodHead}
 use Rattle.store.specs.SumLaws.{sumOver-most}
 
@@ -81,6 +81,10 @@ module _ (s : List ℕ) where
     pub identifier-fits : identifiersFrom s + 8 * k + 8 ≤ length s
     unfolding placesFrom identifiersFrom
     identifier-fits = omega (arith, g .end, g .splits-fit)
+
+    pub order-fits : orderFrom s + 2 * k + 2 ≤ length s
+    unfolding placesFrom orderFrom
+    order-fits = omega (arith, g .end, g .splits-fit)
 
     pub link-fits : linksFrom s + 2 * k + 2 ≤ length s
     unfolding placesFrom linksFrom

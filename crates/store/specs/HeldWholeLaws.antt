@@ -18,18 +18,19 @@ use Rattle.trees.specs.Plain.{every}
 use Rattle.trees.specs.Mask.{proper}
 use Rattle.trees.specs.Held.{Lane, mostText}
 use Rattle.trees.specs.Whole.{goodTree, goodLane, whole}
-use Rattle.theorems.specs.ListLaws.{by-test, and-true, Mem, every-at, every-intro}
-use Rattle.theorems.specs.RisingLaws.{Rising, rising-true, true-rising}
+use Rattle.theorems.specs.ListLaws.{by-test, and-true, Mem, every-intro}
+use Rattle.theorems.specs.RisingLaws.{Rising, rising-true}
 use Rattle.theorems.specs.OpeningLaws.{GoodOpening, good-opening}
 use Rattle.theorems.specs.HeldLaws.{Whole, facts-whole}
 use Rattle.fields.specs.Field.{number}
 use Rattle.head.specs.Head.{numbersAt, openingAt}
 use Rattle.head.specs.HeadLaws.{upTo-length}
-use Rattle.layout.specs.Store.{treesHeldAt, laneFrom, maskAt, masksAt, listAt, treeAt, laneAt, heldAt}
+use Rattle.layout.specs.Store.{treesHeldAt, laneFrom, treeAt, laneAt, heldAt}
 use Rattle.store.specs.WholeStore.{wholeAt}
 use Rattle.store.specs.WholeFacts.{WholeAt, whole-at-facts}
-use Rattle.store.specs.UpToLaws.{upTo-mem, map-rising}
-use Rattle.store.specs.RecordedAtLaws.{trees-length, trees-mem, mem-masks, tree-mem, mask-rises, recorded-length}
+use Rattle.store.specs.UpToLaws.{upTo-mem}
+use Rattle.store.specs.OrderLaws.{mask-proper}
+use Rattle.store.specs.RecordedAtLaws.{trees-length, trees-mem, tree-mem, recorded-length}
 
 -- ---- what any bytes are read as
 
@@ -64,19 +65,14 @@ module _ (s : List ℕ) (w : wholeAt s ≡ true) where
       every-intro (proper (numbersAt s .taxa)) (treeAt s i)
       (λ m q.
       let k = tree-mem s i m q in
-      rw (k .2)
-      (every-at (proper (numbersAt s .taxa)) (masksAt s) (facts .splits .masks-proper) (maskAt s (k .0)) (mem-masks s (k .0) (facts .lists i h .numbers-below (k .0) (k .1)))))
+      rw (k .2) (mask-proper s (facts .splits) (k .0) (facts .lists i h .numbers-below (k .0) (k .1))))
 
-  -- its numbers rise, and so do the masks
   pub tree-rises : (i : ℕ) → i < treesHeldAt s → Rising (treeAt s i)
-  unfolding treeAt
-  tree-rises i h =
-      map-rising (maskAt s) (listAt s i) (rising-true (listAt s i) (facts .lists i h .numbers-rising))
-      (λ a b p q l. mask-rises s w a b l (facts .lists i h .numbers-below b q))
+  tree-rises i h = rising-true (treeAt s i) (facts .lists i h .tree-rising)
 
   pub tree-good : (i : ℕ) → i < treesHeldAt s → goodTree (numbersAt s .taxa) (treeAt s i) ≡ true
   unfolding goodTree
-  tree-good i h = and-true (tree-proper i h) (and-true (true-rising (treeAt s i) (tree-rises i h)) (facts .lists i h .agreeing))
+  tree-good i h = and-true (tree-proper i h) (and-true (facts .lists i h .tree-rising) (facts .lists i h .agreeing))
 
   pub lane-good : (l : ℕ) → l < numbersAt s .lanes → goodLane (laneAt s l) ≡ true
   unfolding laneAt goodLane

@@ -3,6 +3,8 @@ pub mod WholeStore
 pub mod AllLaws
 pub mod WholeFacts
 pub mod UpToLaws
+pub mod PigeonLaws
+pub mod OrderLaws
 pub mod RecordedAtLaws
 pub mod HeldWholeLaws
 pub mod Chain

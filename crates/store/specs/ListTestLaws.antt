@@ -2,36 +2,38 @@
 --
 --   list-length, list-at, tree-length, tree-at     a tree's list and splits, one by one
 --   mem-getD                                       what stands in a list is a member
---   rising-below                                   numbers that rise from each to the next rise
---   numbers-more, numbers-falls, numbers-high, numbers-end     one turn of the loop over the numbers
+--   rows-more, rows-high, rows-end                 one turn of the loop over the rows
+--   front-rises, front-falls                       the first masks of a list rise exactly when neighbours do
 --   every-more, every-not, every-end               one turn of the loop over the masks behind one
 --   pairs-more, pairs-not, pairs-end               one turn of the loop over the masks
 --   list-number, number-recorded, tree-mask        what the code reads
 --   copied-more                                    one turn of the loop that copies the masks
 --   lane-long, lane-short                          a lane
---   list-long, list-unsorted, list-rest            a list's test, in the order of the code
---   list-few, list-numbers                         a list that passes
+--   list-long, list-foreign, list-falls, list-rest a list's test, in the order of the code
+--   list-few, list-numbers, list-rises             a list that passes
 use mathlib.Core.Path.{_≡_, refl, sym, ap, _∙_}
 use mathlib.Core.Logic.{inl, inr}
-use mathlib.Core.Bool.{Bool, true, false, _&&_, and-false, and-assoc}
+use mathlib.Core.Bool.{Bool, true, false, _&&_}
 use mathlib.Core.List.{List, [], _∷_, map}
 use Prim.Native.Nat.{ℕ, zero, suc, _+_, _*_, _≤_, _<_}
 use native.Mathlib.Numerals.{add-one}
 use native.Mathlib.Omega.{arith}
 use lib.Dec.{leb, ltb}
 use lib.ListN.{length, getD, set, take, drop, drop-of-length-le}
-use lib.Seq.{slice, slice-cons, slice-empty, drop-cons, take-suc, take-suc-set}
+use lib.Seq.{slice, slice-cons, slice-empty, drop-cons, take-suc, take-suc-set, length-take-le, getD-take, ext-getD}
 use borrow.Author.Tests.{le-leb, lt-leb, lt-ltb, le-ltb, leb-true, ltb-true}
 use Rattle.trees.specs.Plain.{every}
 use Rattle.trees.specs.Mask.{agree}
 use Rattle.trees.specs.Whole.{rising, agreeInPairs}
-use Rattle.theorems.specs.ListLaws.{and-left, and-right, and-true, Mem, every-at}
+use Rattle.theorems.specs.ListLaws.{and-left, and-right, Mem, every-at}
 use Rattle.theorems.specs.RisingLaws.{Rising, rising-true, true-rising}
 use Rattle.fields.specs.Field.{number}
+use Rattle.head.specs.Head.{upTo}
 use Rattle.head.specs.HeadLaws.{upTo-length, upTo-at}
 use Rattle.layout.specs.Store.{laneFrom, treeFrom, splitsHeldAt, masksFrom, maskAt, listAt, treeAt}
 use Rattle.store.specs.WholeStore.{goodList, goodLaneAt}
-use Rattle.store.specs.ListTests.{numberIn, risingBelow}
+use Rattle.store.specs.ListTests.{numberIn, allRows}
+use Rattle.store.specs.NeighbourLaws.{rise-neighbours, neighbours-rise}
 
 -- ---- one by one
 
@@ -65,70 +67,46 @@ mem-getD [] j h = absurd (omega arith)
 mem-getD (x ∷ l) zero h = inl refl
 mem-getD (x ∷ l) (suc j) h = inr (mem-getD l j (omega arith))
 
--- ---- two tests that say the same
+-- ---- one turn of the loop over the rows
 
-same-test : (a b : Bool) → (a ≡ true → b ≡ true) → (b ≡ true → a ≡ true) → a ≡ b
-same-test true b f g = sym (f refl)
-same-test false true f g = g refl
-same-test false false f g = refl
+module _ (k : ℕ) (l : List ℕ) (j : ℕ) where
+  rows-cons : j < length l → allRows k (drop j l) ≡ (ltb (getD l j 0) k && allRows k (drop (j + 1) l))
+  unfolding allRows every
+  rows-cons h = rw (drop-cons l j 0 h, add-one j)
 
--- ---- numbers that rise from each to the next
+  pub rows-more : (x : ℕ) → j < length l → getD l j 0 ≡ x → x < k → allRows k (drop j l) ≡ allRows k (drop (j + 1) l)
+  rows-more x h q b = rows-cons h ∙ rw (q, lt-ltb x k b)
 
-module _ (k : ℕ) where
-  numbers-low : (low : ℕ) (l : List ℕ) → risingBelow k low l ≡ true → (y : ℕ) → Mem y l → low ≤ y
-  unfolding risingBelow
-  numbers-low low (x ∷ l) e y (inl q) = rw q (leb-true low x (and-left (leb low x) _ e))
-  numbers-low low (x ∷ l) e y (inr h) =
-      let a = leb-true low x (and-left (leb low x) _ e) in
-      let b = numbers-low (suc x) l (and-right (ltb x k) _ (and-right (leb low x) _ e)) y h in
-      omega arith
+  pub rows-high : (x : ℕ) → j < length l → getD l j 0 ≡ x → k ≤ x → allRows k (drop j l) ≡ false
+  rows-high x h q b = rows-cons h ∙ rw (q, le-ltb x k b)
 
-  numbers-below : (low : ℕ) (l : List ℕ) → risingBelow k low l ≡ true → every (λ x. ltb x k) l ≡ true
-  unfolding risingBelow every
-  numbers-below low [] e = refl
-  numbers-below low (x ∷ l) e =
-      let b = and-right (leb low x) _ e in
-      and-true (and-left (ltb x k) _ b) (numbers-below (suc x) l (and-right (ltb x k) _ b))
+  pub rows-end : length l ≤ j → allRows k (drop j l) ≡ true
+  unfolding allRows every
+  rows-end h = rw (drop-of-length-le l h)
 
-  pub numbers-rise : (low : ℕ) (l : List ℕ) → risingBelow k low l ≡ true → Rising l
-  unfolding risingBelow
-  numbers-rise low [] e = tt
-  numbers-rise low (x ∷ l) e =
-      let b = and-right (ltb x k) _ (and-right (leb low x) _ e) in
-      (numbers-low (suc x) l b, numbers-rise (suc x) l b)
+-- ---- the loop over neighbouring masks
 
-  rise-numbers : (low : ℕ) (l : List ℕ) → ((y : ℕ) → Mem y l → low ≤ y) → Rising l → every (λ x. ltb x k) l ≡ true → risingBelow k low l ≡ true
-  unfolding risingBelow every
-  rise-numbers low [] f r e = refl
-  rise-numbers low (x ∷ l) f r e =
-      and-true (le-leb low x (f x (inl refl)))
-      (and-true (and-left (ltb x k) _ e) (rise-numbers (suc x) l (r .0) (r .1) (and-right (ltb x k) _ e)))
+front-from : (l : List ℕ) (n : ℕ) → n ≤ length l → take n l ≡ upTo (λ i. getD l i 0) n
+front-from l n h =
+    let u : length (take n l) ≡ n = length-take-le n l h in
+    let v = upTo-length (λ i. getD l i 0) n in
+    ext-getD 0 _ _ (u ∙ sym v) (λ i q.
+    let k : i < n = omega arith in
+    rw (getD-take n l, upTo-at (λ i. getD l i 0) n i 0 k))
 
-  pub rising-below : (l : List ℕ) → risingBelow k 0 l ≡ (rising l && every (λ x. ltb x k) l)
-  rising-below l =
-      same-test _ _
-      (λ e. and-true (true-rising l (numbers-rise 0 l e)) (numbers-below 0 l e))
-      (λ e. rise-numbers 0 l (λ y h. omega arith) (rising-true l (and-left (rising l) _ e)) (and-right (rising l) _ e))
+module _ (l : List ℕ) (n : ℕ) (h : n ≤ length l) where
+  pub front-rises : (j : ℕ) → n ≤ j → ((i : ℕ) → suc i < j → getD l i 0 < getD l (suc i) 0) → rising (take n l) ≡ true
+  unfolding upTo
+  front-rises j a f = true-rising (take n l) (rw (front-from l n h) (neighbours-rise (λ i. getD l i 0) n (λ i q. f i (omega arith)) 0 n (omega arith)))
 
-  -- ---- one turn of the loop over the numbers
-
-  module _ (l : List ℕ) (low j x : ℕ) (h : j < length l) (q : getD l j 0 ≡ x) where
-    numbers-cons : risingBelow k low (drop j l) ≡ (leb low x && (ltb x k && risingBelow k (x + 1) (drop (j + 1) l)))
-    unfolding risingBelow
-    numbers-cons = rw (drop-cons l j 0 h, q, add-one x, add-one j)
-
-    pub numbers-more : low ≤ x → x < k → risingBelow k low (drop j l) ≡ risingBelow k (x + 1) (drop (j + 1) l)
-    numbers-more a b = numbers-cons ∙ rw (le-leb low x a, lt-ltb x k b)
-
-    pub numbers-falls : x < low → risingBelow k low (drop j l) ≡ false
-    numbers-falls a = numbers-cons ∙ rw (lt-leb low x a)
-
-    pub numbers-high : k ≤ x → risingBelow k low (drop j l) ≡ false
-    numbers-high b = numbers-cons ∙ rw (le-ltb x k b) (and-false (leb low x))
-
-  pub numbers-end : (l : List ℕ) (low j : ℕ) → length l ≤ j → risingBelow k low (drop j l) ≡ true
-  unfolding risingBelow
-  numbers-end l low j h = rw (drop-of-length-le l h)
+  pub front-falls : (i : ℕ) → suc i < n → getD l (suc i) 0 ≤ getD l i 0 → rising (take n l) ≡ false
+  unfolding upTo
+  front-falls i a q = go (rising (take n l)) refl
+    where
+      go : (b : Bool) → rising (take n l) ≡ b → b ≡ false
+      go false e = refl
+      go true e =
+          absurd (omega (arith, rise-neighbours (λ j. getD l j 0) 0 n (rw (← front-from l n h) (rising-true (take n l) e)) i (omega arith) (omega arith)))
 
 -- ---- one turn of the loops over the masks
 
@@ -173,13 +151,13 @@ unfolding numberIn
 list-number s i j from x h e q = list-at s i j h ∙ rw (← e) (sym q)
 
 -- it is a recorded split's
-pub number-recorded : (s : List ℕ) (i j from x : ℕ) → risingBelow (splitsHeldAt s) 0 (listAt s i) ≡ true
+pub number-recorded : (s : List ℕ) (i j from x : ℕ) → allRows (splitsHeldAt s) (listAt s i) ≡ true
     → j < number 2 s (treeFrom s i) → from ≡ treeFrom s i + 2 → x ≡ number 2 s (from + 2 * j) → x < splitsHeldAt s
+unfolding allRows
 number-recorded s i j from x r h e q =
     let n = list-length s i in
-    let b = numbers-below (splitsHeldAt s) 0 (listAt s i) r in
     let m = mem-getD (listAt s i) j (omega arith) in
-    rw (← list-number s i j from x h e q) (ltb-true _ _ (every-at (λ k. ltb k (splitsHeldAt s)) (listAt s i) b _ m))
+    rw (← list-number s i j from x h e q) (ltb-true _ _ (every-at (λ k. ltb k (splitsHeldAt s)) (listAt s i) r _ m))
 
 -- and the mask of that split is the tree's mask j
 pub tree-mask : (s : List ℕ) (i j from x first m : ℕ) → j < number 2 s (treeFrom s i) → from ≡ treeFrom s i + 2
@@ -210,22 +188,31 @@ module _ (s : List ℕ) (i : ℕ) where
   unfolding goodList
   list-long h = rw (lt-leb _ _ h)
 
-  list-parts : number 2 s (treeFrom s i) ≤ 61 → goodList s i ≡ (risingBelow (splitsHeldAt s) 0 (listAt s i) && agreeInPairs (treeAt s i))
-  unfolding goodList
-  list-parts h =
-      rw (le-leb _ _ h, rising-below (splitsHeldAt s) (listAt s i))
-      (sym (and-assoc (rising (listAt s i)) (every (λ k. ltb k (splitsHeldAt s)) (listAt s i)) (agreeInPairs (treeAt s i))))
+  list-parts : number 2 s (treeFrom s i) ≤ 61
+      → goodList s i ≡ (allRows (splitsHeldAt s) (listAt s i) && (rising (treeAt s i) && agreeInPairs (treeAt s i)))
+  unfolding goodList allRows
+  list-parts h = rw (le-leb _ _ h)
 
-  pub list-unsorted : number 2 s (treeFrom s i) ≤ 61 → risingBelow (splitsHeldAt s) 0 (listAt s i) ≡ false → goodList s i ≡ false
-  list-unsorted h e = list-parts h ∙ rw e
+  pub list-foreign : number 2 s (treeFrom s i) ≤ 61 → allRows (splitsHeldAt s) (listAt s i) ≡ false → goodList s i ≡ false
+  list-foreign h e = list-parts h ∙ rw e
 
-  pub list-rest : number 2 s (treeFrom s i) ≤ 61 → risingBelow (splitsHeldAt s) 0 (listAt s i) ≡ true → goodList s i ≡ agreeInPairs (treeAt s i)
-  list-rest h e = list-parts h ∙ rw e
+  module _ (h : number 2 s (treeFrom s i) ≤ 61) (e : allRows (splitsHeldAt s) (listAt s i) ≡ true) where
+    pub list-falls : rising (treeAt s i) ≡ false → goodList s i ≡ false
+    list-falls f = list-parts h ∙ rw (e, f)
+
+    pub list-rest : rising (treeAt s i) ≡ true → goodList s i ≡ agreeInPairs (treeAt s i)
+    list-rest f = list-parts h ∙ rw (e, f)
 
   -- a list that passes
   pub list-few : goodList s i ≡ true → number 2 s (treeFrom s i) ≤ 61
   unfolding goodList
   list-few e = leb-true _ _ (and-left (leb (number 2 s (treeFrom s i)) 61) _ e)
 
-  pub list-numbers : goodList s i ≡ true → risingBelow (splitsHeldAt s) 0 (listAt s i) ≡ true
-  list-numbers e = and-left _ (agreeInPairs (treeAt s i)) (sym (list-parts (list-few e)) ∙ e)
+  passes : goodList s i ≡ true → (allRows (splitsHeldAt s) (listAt s i) && (rising (treeAt s i) && agreeInPairs (treeAt s i))) ≡ true
+  passes e = sym (list-parts (list-few e)) ∙ e
+
+  pub list-numbers : goodList s i ≡ true → allRows (splitsHeldAt s) (listAt s i) ≡ true
+  list-numbers e = and-left _ _ (passes e)
+
+  pub list-rises : goodList s i ≡ true → Rising (treeAt s i)
+  list-rises e = rising-true (treeAt s i) (and-left _ _ (and-right (allRows (splitsHeldAt s) (listAt s i)) _ (passes e)))

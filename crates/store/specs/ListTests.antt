@@ -1,17 +1,17 @@
 -- The trees' lists and the counts, as the code tests them.
 --
 --   numberIn s i j         number j of the list of tree i
---   risingBelow k low l    each number of l is at least low, greater than the one before, and below k
+--   allRows k l            each number of l is below k
 --   oneIf b                1 where the test b passes, 0 where it fails
 --   CountedPart s t j c    c has, for each split, how many of the first t trees and the first j numbers of the next list it
 --   Counted s t c          c has, for each split, how many of the first t trees list it
-use Prim.Native.Nat.{ℕ, suc, _+_, _*_, _<_}
+use Prim.Native.Nat.{ℕ, _+_, _*_, _<_}
 use mathlib.Core.Path.{_≡_}
-use mathlib.Core.Bool.{Bool, true, _&&_}
-use mathlib.Core.List.{List, [], _∷_}
-use lib.Dec.{leb, ltb}
+use mathlib.Core.Bool.{Bool}
+use mathlib.Core.List.{List}
+use lib.Dec.{ltb}
 use lib.ListN.{length, getD, take}
-use Rattle.trees.specs.Plain.{if_then_else_, member}
+use Rattle.trees.specs.Plain.{if_then_else_, every, member}
 use Rattle.fields.specs.Field.{number}
 use Rattle.layout.specs.Store.{splitsHeldAt, treeFrom, listAt}
 use Rattle.store.specs.WholeStore.{listed}
@@ -20,9 +20,9 @@ unfoldable pub numberIn : List ℕ → ℕ → ℕ → ℕ
 unfolding number treeFrom
 numberIn s i j = number 2 s (treeFrom s i + 2 + 2 * j)
 
-unfoldable pub risingBelow : ℕ → ℕ → List ℕ → Bool
-risingBelow k low [] = true
-risingBelow k low (x ∷ l) = leb low x && (ltb x k && risingBelow k (suc x) l)
+unfoldable pub allRows : ℕ → List ℕ → Bool
+unfolding every
+allRows k l = every (λ x. ltb x k) l
 
 -- ---- the counts, in a list of 4,096
 

@@ -4,7 +4,7 @@
 --   number-frame            a number, where its bytes are equal
 --   lane-length-frame, lane-frame     a lane, where its own bytes are equal
 --   tree-from-same, masks-from-same, size-same     where things begin, where the numbers are equal
---   mask-frame, identifier-frame, count-frame, link-frame, start-frame     a field, where the bytes behind the lanes are equal too
+--   mask-frame, identifier-frame, count-frame, link-frame, order-frame, start-frame     a field, where the bytes behind the lanes are equal too
 --   entries-frame, list-frame, tree-frame     a tree, where they are
 use Prim.Native.Nat.{ℕ, _+_, _*_, _≤_, _<_}
 use native.Mathlib.Nat.{add-zero, add-assoc}
@@ -24,8 +24,8 @@ use Rattle.fields.specs.Field.{number}
 use Rattle.fields.specs.FieldLaws.{number-same}
 use Rattle.head.specs.Head.{numbersAt}
 use Rattle.head.specs.HeadLaws.{upTo-same}
-use Rattle.layout.specs.Store.{laneFrom, treeFrom, masksFrom, identifiersFrom, countsFrom, linksFrom, placesFrom, sizeAt, laneAt, maskAt, identifierAt, countAt, linkAt, startAt, listAt, treeAt}
-use Rattle.layout.specs.StoreLaws.{entriesAt, entryAt, tree-from, masks-from, identifiers-from, counts-from, links-from, places-from, size-is, mask-is, identifier-is, count-is, link-is, start-is, list-is, tree-is, lane-is}
+use Rattle.layout.specs.Store.{laneFrom, treeFrom, masksFrom, identifiersFrom, countsFrom, linksFrom, orderFrom, placesFrom, sizeAt, laneAt, maskAt, identifierAt, countAt, linkAt, startAt, orderAt, listAt, treeAt}
+use Rattle.layout.specs.StoreLaws.{entriesAt, entryAt, tree-from, masks-from, identifiers-from, counts-from, links-from, order-from, places-from, size-is, mask-is, identifier-is, count-is, link-is, start-is, order-is, list-is, tree-is, lane-is}
 
 abbrev pub SameBetween : List ℕ → List ℕ → ℕ → ℕ → Type 0
 SameBetween s t a b = (i : ℕ) → a ≤ i → i < b → getD s i 0 ≡ getD t i 0
@@ -106,6 +106,12 @@ module _ (s t : List ℕ) (n : numbersAt s ≡ numbersAt t) where
         let b = links-from s in
         let e : linksFrom s ≡ linksFrom t = rw (links-from s, links-from t, n, masks-from-same) in
         link-is s k ∙ field 2 (linksFrom s + 2 * k) (linksFrom t + 2 * k) (rw e) (omega arith) (omega arith) ∙ sym (link-is t k)
+
+    pub order-frame : (k : ℕ) → k < numbersAt s .splitRoom → orderAt s k ≡ orderAt t k
+    order-frame k h =
+        let b = order-from s in
+        let e : orderFrom s ≡ orderFrom t = rw (order-from s, order-from t, n, masks-from-same) in
+        order-is s k ∙ field 2 (orderFrom s + 2 * k) (orderFrom t + 2 * k) (rw e) (omega arith) (omega arith) ∙ sym (order-is t k)
 
     pub start-frame : (p : ℕ) → p < numbersAt s .places → startAt s p ≡ startAt t p
     start-frame p h =

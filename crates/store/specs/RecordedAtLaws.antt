@@ -1,11 +1,9 @@
 -- The recorded splits of a whole store are its masks, and its counts are theirs. Assumes nothing.
 --
 --   held-trees, trees-length, tree-at, trees-mem, mem-trees     the trees that any bytes are read as
---   masks-length, mask-at, masks-mem, mem-masks                 the masks
 --   tree-mem, mem-tree                 the splits of a tree, by their numbers
 --   listed-some                        a split that is listed is listed by a tree
 -- of whole bytes:
---   masks-rise, mask-rises, mask-same  the masks are all different
 --   member-at                          a tree has a split exactly when it lists the split's number
 --   count-at                           the count of a split is the one that is stored
 --   recorded-at                        the recorded splits are the masks
@@ -23,10 +21,11 @@ use Rattle.theorems.specs.ListLaws.{Mem, member-mem, mem-member}
 use Rattle.theorems.specs.RisingLaws.{Rising, rising-true, rising-same, recorded-rising, recorded-mem, mem-recorded}
 use Rattle.head.specs.Head.{upTo}
 use Rattle.head.specs.HeadLaws.{upTo-length, upTo-at}
-use Rattle.layout.specs.Store.{treesHeldAt, splitsHeldAt, maskAt, masksAt, countAt, listAt, treeAt, heldAt}
+use Rattle.layout.specs.Store.{treesHeldAt, splitsHeldAt, maskAt, splitAt, masksAt, countAt, listAt, treeAt, heldAt}
 use Rattle.store.specs.WholeStore.{listed, wholeAt}
-use Rattle.store.specs.WholeFacts.{WholeAt, whole-at-facts}
-use Rattle.store.specs.UpToLaws.{less-or-not, bool-same, upTo-mem, mem-upTo, upTo-more, upTo-rises, map-mem, mem-map, count-append}
+use Rattle.store.specs.WholeFacts.{SplitsAt, WholeAt, whole-at-facts}
+use Rattle.store.specs.OrderLaws.{masks-length, number-mask, masks-rise, masks-mem, mem-masks, mask-same}
+use Rattle.store.specs.UpToLaws.{bool-same, upTo-mem, mem-upTo, upTo-more, map-mem, mem-map, count-append}
 
 -- ---- what any bytes are read as
 
@@ -50,22 +49,6 @@ module _ (s : List ℕ) where
   pub mem-trees : (i : ℕ) → i < treesHeldAt s → Mem (treeAt s i) (heldAt s .trees)
   unfolding heldAt
   mem-trees i h = mem-upTo (treeAt s) (treesHeldAt s) i h
-
-  pub masks-length : length (masksAt s) ≡ splitsHeldAt s
-  unfolding masksAt
-  masks-length = upTo-length (maskAt s) (splitsHeldAt s)
-
-  pub mask-at : (k : ℕ) → k < splitsHeldAt s → getD (masksAt s) k 0 ≡ maskAt s k
-  unfolding masksAt
-  mask-at k h = upTo-at (maskAt s) (splitsHeldAt s) k 0 h
-
-  pub masks-mem : (m : ℕ) → Mem m (masksAt s) → (k : ℕ) × (k < splitsHeldAt s) × (m ≡ maskAt s k)
-  unfolding masksAt
-  masks-mem m h = upTo-mem (maskAt s) (splitsHeldAt s) m h
-
-  pub mem-masks : (k : ℕ) → k < splitsHeldAt s → Mem (maskAt s k) (masksAt s)
-  unfolding masksAt
-  mem-masks k h = mem-upTo (maskAt s) (splitsHeldAt s) k h
 
   pub tree-mem : (i m : ℕ) → Mem m (treeAt s i) → (k : ℕ) × Mem k (listAt s i) × (m ≡ maskAt s k)
   unfolding treeAt
@@ -92,28 +75,15 @@ module _ (s : List ℕ) (whole : wholeAt s ≡ true) where
   facts : WholeAt s
   facts = whole-at-facts s whole
 
-  pub masks-rise : Rising (masksAt s)
-  masks-rise = rising-true (masksAt s) (facts .splits .masks-rising)
-
-  -- "all different"
-  pub mask-rises : (i j : ℕ) → i < j → j < splitsHeldAt s → maskAt s i < maskAt s j
-  unfolding masksAt
-  mask-rises i j a b = upTo-rises (maskAt s) (splitsHeldAt s) masks-rise i j a b
-
-  pub mask-same : (i j : ℕ) → i < splitsHeldAt s → j < splitsHeldAt s → maskAt s i ≡ maskAt s j → i ≡ j
-  mask-same i j a b e = go (less-or-not i j) (less-or-not j i)
-    where
-      go : (i < j) ⊎ (j ≤ i) → (j < i) ⊎ (i ≤ j) → i ≡ j
-      go (inl l) r = absurd (omega (arith, mask-rises i j l b))
-      go (inr l) (inl r) = absurd (omega (arith, mask-rises j i r a))
-      go (inr l) (inr r) = omega arith
+  splits : SplitsAt s
+  splits = facts .splits
 
   pub member-at : (k i : ℕ) → k < splitsHeldAt s → i < treesHeldAt s → member (maskAt s k) (treeAt s i) ≡ member k (listAt s i)
   member-at k i a b =
       bool-same _ _
       (λ e.
       let r = tree-mem s i (maskAt s k) (member-mem _ _ e) in
-      let q : k ≡ r .0 = mask-same k (r .0) a (facts .lists i b .numbers-below (r .0) (r .1)) (r .2) in
+      let q : k ≡ r .0 = mask-same s splits k (r .0) a (facts .lists i b .numbers-below (r .0) (r .1)) (r .2) in
       mem-member k (listAt s i) (rw q (r .1)))
       (λ e. mem-member (maskAt s k) (treeAt s i) (mem-tree s i k (member-mem k (listAt s i) e)))
 
@@ -132,14 +102,14 @@ module _ (s : List ℕ) (whole : wholeAt s ≡ true) where
 
   pub recorded-at : recorded (heldAt s .trees) ≡ masksAt s
   recorded-at =
-      rising-same (recorded (heldAt s .trees)) (masksAt s) (recorded-rising (heldAt s .trees)) masks-rise
+      rising-same (recorded (heldAt s .trees)) (masksAt s) (recorded-rising (heldAt s .trees)) (masks-rise s splits)
       (λ y h.
       let r = recorded-mem (heldAt s .trees) y h in
       let i = trees-mem s (r .0) (r .1) in
       let k = tree-mem s (i .0) y (subst (Mem y) (i .2) (r .2)) in
-      rw (k .2) (mem-masks s (k .0) (facts .lists (i .0) (i .1) .numbers-below (k .0) (k .1))))
+      rw (k .2) (mem-masks s splits (k .0) (facts .lists (i .0) (i .1) .numbers-below (k .0) (k .1))))
       (λ y h.
-      let k = masks-mem s y h in
+      let k = masks-mem s splits y h in
       let c = facts .counts (k .0) (k .1) in
       let i = listed-some s (k .0) (treesHeldAt s) (omega (arith, c .some-tree, c .counted)) in
       rw (k .2) (mem-recorded (heldAt s .trees) (treeAt s (i .0)) (maskAt s (k .0)) (mem-trees s (i .0) (i .1)) (mem-tree s (i .0) (k .0) (i .2))))
@@ -148,5 +118,5 @@ module _ (s : List ℕ) (whole : wholeAt s ≡ true) where
   pub recorded-length : length (recorded (heldAt s .trees)) ≡ splitsHeldAt s
   recorded-length = ap length recorded-at ∙ masks-length s
 
-  pub recorded-mask : (k : ℕ) → k < splitsHeldAt s → getD (recorded (heldAt s .trees)) k 0 ≡ maskAt s k
-  recorded-mask k h = rw recorded-at (mask-at s k h)
+  pub recorded-mask : (k : ℕ) → k < splitsHeldAt s → getD (recorded (heldAt s .trees)) k 0 ≡ splitAt s k
+  recorded-mask k h = rw recorded-at (number-mask s k h)

@@ -2,36 +2,39 @@
 --
 --   proper-some, proper-below     a proper mask is not 0, and has only taxa below n
 --   before-none, before-more      the mask before, as a loop makes it
---   mask-read, identifier-read    the fields of split k, as they are read
---   mask-good, mask-improper, mask-below     the test of the mask of split k, by its parts
---   identifier-good, identifier-bad          the test of its identifier
---   masks-tests                   every mask is good exactly where all are proper and rise
+--   mask-read, identifier-read, row-read, split-read     what is read
+--   order-bad, mask-improper, mask-below, mask-good      the test of split number k, by its parts
+--   identifier-good, identifier-bad          the test of an identifier
 --   good-splits                   the test of the splits is these tests and those of the identifiers
---   masks-below, masks-rise       in a store whose splits are good each mask has only taxa of the store, and is above those before
-use Prim.Native.Nat.{ℕ, zero, suc, _+_, _-_, _*_, _^_, _<_}
+--   masks-below                   in a store whose splits are good each mask has only taxa of the store
+use Prim.Native.Nat.{ℕ, zero, suc, _+_, _*_, _^_, _≤_, _<_}
 use native.Mathlib.Numerals.{add-one}
 use native.Mathlib.Omega.{arith}
-use mathlib.Core.Path.{_≡_, refl, ap, sym, _∙_}
-use mathlib.Core.Bool.{Bool, true, false, _&&_, and-assoc}
+use mathlib.Core.Path.{_≡_, refl, sym, _∙_}
+use mathlib.Core.Bool.{true, false, _&&_}
 use mathlib.Core.List.{List}
 use lib.Dec.{ltb}
 use lib.Count.{ones, onesIn}
-use borrow.Author.Tests.{ltb-true, lt-ltb, eq-eqb, ne-eqb}
+use borrow.Author.Tests.{ltb-true, lt-ltb, le-ltb, eq-eqb, ne-eqb}
 use Rattle.trees.specs.Plain.{every}
 use Rattle.trees.specs.Mask.{proper}
 use Rattle.trees.specs.Hash.{identifier}
 use Rattle.trees.specs.Whole.{rising}
 use Rattle.theorems.specs.ListLaws.{and-left, and-right, and-true, every-at, every-intro}
+use Rattle.theorems.specs.OpeningLaws.{both}
 use Rattle.theorems.specs.MaskLaws.{sub-below}
 use Rattle.theorems.specs.ProperLaws.{proper-two, proper-sub}
 use Rattle.theorems.specs.RisingLaws.{rising-true, true-rising}
 use Rattle.fields.specs.Field.{number}
 use Rattle.head.specs.Head.{upTo, numbersAt, secondAt}
-use Rattle.layout.specs.Store.{splitsHeldAt, masksFrom, identifiersFrom, maskAt, masksAt, identifierAt}
-use Rattle.store.specs.WholeStore.{allBelow, goodIdentifier, goodSplits}
+use Rattle.layout.specs.Store.{splitsHeldAt, masksFrom, identifiersFrom, orderFrom, maskAt, orderAt, splitAt, masksAt, identifierAt}
+use Rattle.store.specs.WholeStore.{allBelow, goodOrder, goodIdentifier, goodSplits}
+use Rattle.store.specs.WholeFacts.{splits-facts}
+use Rattle.store.specs.UpToLaws.{bool-same}
+use Rattle.store.specs.OrderLaws.{mask-proper as row-proper}
 use Rattle.store.specs.Splits.{maskBefore, goodMask}
 use Rattle.store.specs.AllLaws.{all-at, all-intro}
-use Rattle.store.specs.NeighbourLaws.{mem-from, from-mem, rise-neighbours, later-above, neighbours-rise}
+use Rattle.store.specs.NeighbourLaws.{mem-from, from-mem, rise-neighbours, neighbours-rise}
 
 -- ---- a proper mask
 
@@ -49,7 +52,7 @@ pub before-none : (s : List ℕ) → maskBefore s 0 ≡ 0
 unfolding maskBefore
 before-none s = refl
 
-pub before-more : (s : List ℕ) (k : ℕ) → maskBefore s (k + 1) ≡ maskAt s k
+pub before-more : (s : List ℕ) (k : ℕ) → maskBefore s (k + 1) ≡ splitAt s k
 unfolding maskBefore
 before-more s k = rw (add-one k)
 
@@ -62,19 +65,37 @@ module _ (s : List ℕ) (k at m : ℕ) where
   unfolding identifierAt
   identifier-read e q = q ∙ rw e
 
-module _ (s : List ℕ) (k n m : ℕ) (e : n ≡ numbersAt s .taxa) (q : m ≡ maskAt s k) where
-  pub mask-improper : proper n m ≡ false → goodMask s k ≡ false
-  unfolding goodMask
-  mask-improper f = rw (← e, ← q, f)
+  pub row-read : at ≡ orderFrom s → m ≡ number 2 s (at + 2 * k) → m ≡ orderAt s k
+  unfolding orderAt
+  row-read e q = q ∙ rw e
 
-  module _ (f : proper n m ≡ true) (last : ℕ) (b : last ≡ maskBefore s k) where
-    pub mask-below : ltb last m ≡ false → goodMask s k ≡ false
-    unfolding goodMask
-    mask-below l = rw (← e, ← q, ← b, f, l)
+-- the mask that is read in the row of number k
+pub split-read : (s : List ℕ) (k row m : ℕ) → row ≡ orderAt s k → m ≡ maskAt s row → m ≡ splitAt s k
+unfolding splitAt
+split-read s k row m e q = q ∙ rw e
 
-    pub mask-good : ltb last m ≡ true → goodMask s k ≡ true
+module _ (s : List ℕ) (k row : ℕ) (r : row ≡ orderAt s k) where
+  pub order-bad : splitsHeldAt s ≤ row → goodMask s k ≡ false
+  unfolding goodMask goodOrder
+  order-bad h = rw (← r, le-ltb row (splitsHeldAt s) h)
+
+  module _ (h : row < splitsHeldAt s) (n m : ℕ) (e : n ≡ numbersAt s .taxa) (q : m ≡ splitAt s k) where
+    ordered : goodOrder s k ≡ true
+    unfolding goodOrder
+    ordered = rw (← r) (lt-ltb row (splitsHeldAt s) h)
+
+    pub mask-improper : proper n m ≡ false → goodMask s k ≡ false
     unfolding goodMask
-    mask-good l = rw (← e, ← q, ← b, f, l)
+    mask-improper f = rw (ordered, ← e, ← q, f)
+
+    module _ (f : proper n m ≡ true) (last : ℕ) (b : last ≡ maskBefore s k) where
+      pub mask-below : ltb last m ≡ false → goodMask s k ≡ false
+      unfolding goodMask
+      mask-below l = rw (ordered, ← e, ← q, ← b, f, l)
+
+      pub mask-good : ltb last m ≡ true → goodMask s k ≡ true
+      unfolding goodMask
+      mask-good l = rw (ordered, ← e, ← q, ← b, f, l)
 
 module _ (s : List ℕ) (k m x y : ℕ) (q : m ≡ maskAt s k) (i : x ≡ identifierAt s k) (j : y ≡ identifier (secondAt s) m) where
   pub identifier-good : x ≡ y → goodIdentifier s k ≡ true
@@ -85,70 +106,70 @@ module _ (s : List ℕ) (k m x y : ℕ) (q : m ≡ maskAt s k) (i : x ≡ identi
   unfolding goodIdentifier
   identifier-bad f = ne-eqb _ _ (λ e. f (i ∙ e ∙ sym (j ∙ rw q)))
 
-same-bool : (p q : Bool) → (p ≡ true → q ≡ true) → (q ≡ true → p ≡ true) → p ≡ q
-same-bool true q f g = sym (f refl)
-same-bool false true f g = g refl
-same-bool false false f g = refl
-
 module _ (s : List ℕ) where
-  each-proper : every (proper (numbersAt s .taxa)) (masksAt s) ≡ true → (i : ℕ) → i < splitsHeldAt s → proper (numbersAt s .taxa) (maskAt s i) ≡ true
+  each-proper : every (proper (numbersAt s .taxa)) (masksAt s) ≡ true → (i : ℕ) → i < splitsHeldAt s → proper (numbersAt s .taxa) (splitAt s i) ≡ true
   unfolding masksAt upTo
-  each-proper e i l = every-at _ _ e (maskAt s i) (from-mem (maskAt s) 0 (splitsHeldAt s) i (omega arith) (omega arith))
+  each-proper e i l = every-at _ _ e (splitAt s i) (from-mem (splitAt s) 0 (splitsHeldAt s) i (omega arith) (omega arith))
 
-  neighbours : rising (masksAt s) ≡ true → (i : ℕ) → suc i < splitsHeldAt s → maskAt s i < maskAt s (suc i)
+  neighbours : rising (masksAt s) ≡ true → (i : ℕ) → suc i < splitsHeldAt s → splitAt s i < splitAt s (suc i)
   unfolding masksAt upTo
-  neighbours h i l = rise-neighbours (maskAt s) 0 (splitsHeldAt s) (rising-true _ h) i (omega arith) (omega arith)
+  neighbours h i l = rise-neighbours (splitAt s) 0 (splitsHeldAt s) (rising-true _ h) i (omega arith) (omega arith)
 
   each-above : every (proper (numbersAt s .taxa)) (masksAt s) ≡ true → rising (masksAt s) ≡ true
-      → (i : ℕ) → i < splitsHeldAt s → maskBefore s i < maskAt s i
+      → (i : ℕ) → i < splitsHeldAt s → maskBefore s i < splitAt s i
   unfolding maskBefore
   each-above e h zero l = proper-some _ _ (each-proper e 0 l)
   each-above e h (suc i) l = neighbours h i l
 
-  mask-proper : (i : ℕ) → goodMask s i ≡ true → proper (numbersAt s .taxa) (maskAt s i) ≡ true
+  mask-ordered : (i : ℕ) → goodMask s i ≡ true → goodOrder s i ≡ true
   unfolding goodMask
-  mask-proper i e = and-left _ _ e
+  mask-ordered i e = and-left _ _ e
 
-  mask-above : (i : ℕ) → goodMask s (suc i) ≡ true → maskAt s i < maskAt s (suc i)
+  mask-proper : (i : ℕ) → goodMask s i ≡ true → proper (numbersAt s .taxa) (splitAt s i) ≡ true
+  unfolding goodMask
+  mask-proper i e = and-left _ _ (and-right (goodOrder s i) _ e)
+
+  mask-above : (i : ℕ) → goodMask s (suc i) ≡ true → splitAt s i < splitAt s (suc i)
   unfolding goodMask maskBefore
-  mask-above i e = ltb-true _ _ (and-right (proper (numbersAt s .taxa) (maskAt s (suc i))) _ e)
+  mask-above i e = ltb-true _ _ (and-right (proper (numbersAt s .taxa) (splitAt s (suc i))) _ (and-right (goodOrder s (suc i)) _ e))
 
-  masks-all : every (proper (numbersAt s .taxa)) (masksAt s) ≡ true → rising (masksAt s) ≡ true → allBelow (goodMask s) (splitsHeldAt s) ≡ true
+  masks-all : allBelow (goodOrder s) (splitsHeldAt s) ≡ true → every (proper (numbersAt s .taxa)) (masksAt s) ≡ true → rising (masksAt s) ≡ true
+      → allBelow (goodMask s) (splitsHeldAt s) ≡ true
   unfolding goodMask
-  masks-all e h = all-intro _ _ (λ i l. and-true (each-proper e i l) (lt-ltb _ _ (each-above e h i l)))
+  masks-all o e h = all-intro _ _ (λ i l. and-true (all-at (goodOrder s) _ o i l) (and-true (each-proper e i l) (lt-ltb _ _ (each-above e h i l))))
+
+  all-ordered : allBelow (goodMask s) (splitsHeldAt s) ≡ true → allBelow (goodOrder s) (splitsHeldAt s) ≡ true
+  all-ordered h = all-intro (goodOrder s) _ (λ i l. mask-ordered i (all-at _ _ h i l))
 
   all-proper : allBelow (goodMask s) (splitsHeldAt s) ≡ true → every (proper (numbersAt s .taxa)) (masksAt s) ≡ true
   unfolding masksAt upTo
   all-proper h =
       every-intro _ _ (λ y k.
-      let r = mem-from (maskAt s) 0 (splitsHeldAt s) y k in
+      let r = mem-from (splitAt s) 0 (splitsHeldAt s) y k in
       rw (r .3) (mask-proper (r .0) (all-at _ _ h (r .0) (omega arith))))
 
   all-rising : allBelow (goodMask s) (splitsHeldAt s) ≡ true → rising (masksAt s) ≡ true
   unfolding masksAt upTo
   all-rising h =
       true-rising _
-      (neighbours-rise (maskAt s) (splitsHeldAt s) (λ i l. mask-above i (all-at _ _ h (suc i) l)) 0 (splitsHeldAt s) (omega arith))
+      (neighbours-rise (splitAt s) (splitsHeldAt s) (λ i l. mask-above i (all-at _ _ h (suc i) l)) 0 (splitsHeldAt s) (omega arith))
 
-  pub masks-tests : (every (proper (numbersAt s .taxa)) (masksAt s) && rising (masksAt s)) ≡ allBelow (goodMask s) (splitsHeldAt s)
-  masks-tests =
-      same-bool _ _
-      (λ e. masks-all (and-left _ _ e) (and-right (every (proper (numbersAt s .taxa)) (masksAt s)) _ e))
-      (λ h. and-true (all-proper h) (all-rising h))
+  good-apart : goodSplits s ≡ true → (allBelow (goodMask s) (splitsHeldAt s) && allBelow (goodIdentifier s) (splitsHeldAt s)) ≡ true
+  unfolding goodSplits
+  good-apart e =
+      let o = both (allBelow (goodOrder s) (splitsHeldAt s)) _ e in
+      let p = both (every (proper (numbersAt s .taxa)) (masksAt s)) _ (o .1) in
+      let r = both (rising (masksAt s)) (allBelow (goodIdentifier s) (splitsHeldAt s)) (p .1) in
+      and-true (masks-all (o .0) (p .0) (r .0)) (r .1)
+
+  good-together : (allBelow (goodMask s) (splitsHeldAt s) && allBelow (goodIdentifier s) (splitsHeldAt s)) ≡ true → goodSplits s ≡ true
+  unfolding goodSplits
+  good-together e =
+      let h = both (allBelow (goodMask s) (splitsHeldAt s)) (allBelow (goodIdentifier s) (splitsHeldAt s)) e in
+      and-true (all-ordered (h .0)) (and-true (all-proper (h .0)) (and-true (all-rising (h .0)) (h .1)))
 
   pub good-splits : goodSplits s ≡ (allBelow (goodMask s) (splitsHeldAt s) && allBelow (goodIdentifier s) (splitsHeldAt s))
-  unfolding goodSplits
-  good-splits =
-      sym (and-assoc (every (proper (numbersAt s .taxa)) (masksAt s)) (rising (masksAt s)) (allBelow (goodIdentifier s) (splitsHeldAt s)))
-      ∙ ap (λ (b : Bool). b && allBelow (goodIdentifier s) (splitsHeldAt s)) masks-tests
-
-  good-rising : goodSplits s ≡ true → rising (masksAt s) ≡ true
-  unfolding goodSplits
-  good-rising e = and-left _ _ (and-right (every (proper (numbersAt s .taxa)) (masksAt s)) _ e)
-
-  pub masks-rise : goodSplits s ≡ true → (i j : ℕ) → i < j → j < splitsHeldAt s → maskAt s i < maskAt s j
-  masks-rise e i j h l = later-above (maskAt s) (splitsHeldAt s) (neighbours (good-rising e)) (j - suc i) i j (omega arith) l
+  good-splits = bool-same _ _ good-apart good-together
 
   pub masks-below : goodSplits s ≡ true → (i : ℕ) → i < splitsHeldAt s → maskAt s i < 2 ^ numbersAt s .taxa
-  unfolding goodSplits
-  masks-below e i l = proper-below _ _ (each-proper (and-left _ _ e) i l)
+  masks-below e i l = proper-below _ _ (row-proper s (splits-facts s e) i l)

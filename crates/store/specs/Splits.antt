@@ -1,9 +1,9 @@
 -- What the loops over the splits test, a split at a time. Assumes nothing.
 --
---   maskBefore s k     the mask before split k; 0 before the first
---   goodMask s k       the mask of split k is proper, and above the one before
---   placeAt s k        the place of split k
---   Highest s k h      h has for each place the highest of its splits below k, and one more
+--   maskBefore s k     the mask before split number k; 0 before the first
+--   goodMask s k       split number k has a row, and its mask is proper and above the one before
+--   placeAt s k        the place of the split in row k
+--   Highest s k h      h has for each place the highest of its rows below k, and one more
 use Prim.Native.Nat.{ℕ, zero, suc, _<_}
 use mathlib.Core.Path.{_≡_}
 use mathlib.Core.Bool.{Bool, _&&_}
@@ -13,17 +13,17 @@ use lib.ListN.{getD}
 use Rattle.trees.specs.Mask.{proper}
 use Rattle.trees.specs.Hash.{place}
 use Rattle.head.specs.Head.{numbersAt, firstAt}
-use Rattle.layout.specs.Store.{maskAt}
-use Rattle.store.specs.WholeStore.{highestBelow}
+use Rattle.layout.specs.Store.{maskAt, splitAt}
+use Rattle.store.specs.WholeStore.{goodOrder, highestBelow}
 
 unfoldable pub maskBefore : List ℕ → ℕ → ℕ
-unfolding maskAt
+unfolding splitAt
 maskBefore s zero = 0
-maskBefore s (suc k) = maskAt s k
+maskBefore s (suc k) = splitAt s k
 
 unfoldable pub goodMask : List ℕ → ℕ → Bool
-unfolding proper numbersAt maskAt maskBefore
-goodMask s k = proper (numbersAt s .taxa) (maskAt s k) && ltb (maskBefore s k) (maskAt s k)
+unfolding goodOrder proper numbersAt splitAt maskBefore
+goodMask s k = goodOrder s k && (proper (numbersAt s .taxa) (splitAt s k) && ltb (maskBefore s k) (splitAt s k))
 
 unfoldable pub placeAt : List ℕ → ℕ → ℕ
 unfolding place firstAt numbersAt maskAt

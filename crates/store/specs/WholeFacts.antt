@@ -1,7 +1,7 @@
 -- What the test of whole bytes says, as facts, both ways. Assumes nothing.
 --
 --   HeadAt s                        the head is in order, the lent bytes reach the size, rooms hold
---   SplitsAt s                      the splits are proper, rising, and have their identifiers
+--   SplitsAt s                      the splits have rows, are proper, rising, and have their identifiers
 --   ListAt s i                      the list of tree i is in order
 --   CountAt s k                     the count of split k is right
 --   ChainsAt s                      every link and every start is right
@@ -24,9 +24,9 @@ use Rattle.theorems.specs.ListLaws.{and-left, and-right, and-true, Mem, every-a
 use Rattle.theorems.specs.OpeningLaws.{both}
 use Rattle.fields.specs.Field.{number}
 use Rattle.head.specs.Head.{numbersAt, firstAt, secondAt, openingAt}
-use Rattle.layout.specs.Store.{treesHeldAt, splitsHeldAt, treeFrom, laneFrom, sizeAt, maskAt, masksAt, identifierAt, countAt, linkAt, startAt, listAt, treeAt}
+use Rattle.layout.specs.Store.{treesHeldAt, splitsHeldAt, treeFrom, laneFrom, sizeAt, maskAt, masksAt, identifierAt, countAt, linkAt, startAt, orderAt, listAt, treeAt}
 use Rattle.store.specs.AllLaws.{all-at, all-intro}
-use Rattle.store.specs.WholeStore.{allBelow, goodIdentifier, goodSplits, goodList, listed, goodCount, highestBelow, goodLink, goodStart, goodChains, goodLaneAt, goodHead, wholeAt}
+use Rattle.store.specs.WholeStore.{allBelow, goodOrder, goodIdentifier, goodSplits, goodList, listed, goodCount, highestBelow, goodLink, goodStart, goodChains, goodLaneAt, goodHead, wholeAt}
 
 -- ---- the head
 
@@ -61,45 +61,49 @@ facts-head s h =
 -- ---- splits
 
 pub record SplitsAt (s : List ℕ) : Type 0 where
+  pub rows-below : (k : ℕ) → k < splitsHeldAt s → orderAt s k < splitsHeldAt s
   pub masks-proper : every (proper (numbersAt s .taxa)) (masksAt s) ≡ true
   pub masks-rising : rising (masksAt s) ≡ true
   pub identifiers : (k : ℕ) → k < splitsHeldAt s → identifierAt s k ≡ identifier (secondAt s) (maskAt s k)
 
 pub splits-facts : (s : List ℕ) → goodSplits s ≡ true → SplitsAt s
-unfolding goodSplits goodIdentifier
+unfolding goodSplits goodOrder goodIdentifier
 splits-facts s e =
-    let a = both (every (proper (numbersAt s .taxa)) (masksAt s)) _ e in
+    let o = both (allBelow (goodOrder s) (splitsHeldAt s)) _ e in
+    let a = both (every (proper (numbersAt s .taxa)) (masksAt s)) _ (o .1) in
     let b = both (rising (masksAt s)) (allBelow (goodIdentifier s) (splitsHeldAt s)) (a .1) in
     record {
+      rows-below = λ k h. ltb-true _ _ (all-at (goodOrder s) (splitsHeldAt s) (o .0) k h);
       masks-proper = a .0;
       masks-rising = b .0;
       identifiers = λ k h. eqb-true _ _ (all-at (goodIdentifier s) (splitsHeldAt s) (b .1) k h);
     }
 
 pub facts-splits : (s : List ℕ) → SplitsAt s → goodSplits s ≡ true
-unfolding goodSplits goodIdentifier
+unfolding goodSplits goodOrder goodIdentifier
 facts-splits s f =
-    and-true (f .masks-proper)
-    (and-true (f .masks-rising) (all-intro (goodIdentifier s) (splitsHeldAt s) (λ k h. eq-eqb _ _ (f .identifiers k h))))
+    and-true (all-intro (goodOrder s) (splitsHeldAt s) (λ k h. lt-ltb _ _ (f .rows-below k h)))
+    (and-true (f .masks-proper)
+    (and-true (f .masks-rising) (all-intro (goodIdentifier s) (splitsHeldAt s) (λ k h. eq-eqb _ _ (f .identifiers k h)))))
 
 -- ---- trees
 
 pub record ListAt (s : List ℕ) (i : ℕ) : Type 0 where
   pub few : number 2 s (treeFrom s i) ≤ 61
-  pub numbers-rising : rising (listAt s i) ≡ true
   pub numbers-below : (k : ℕ) → Mem k (listAt s i) → k < splitsHeldAt s
+  pub tree-rising : rising (treeAt s i) ≡ true
   pub agreeing : agreeInPairs (treeAt s i) ≡ true
 
 pub list-facts : (s : List ℕ) (i : ℕ) → goodList s i ≡ true → ListAt s i
 unfolding goodList
 list-facts s i e =
     let a = both (leb (number 2 s (treeFrom s i)) 61) _ e in
-    let b = both (rising (listAt s i)) _ (a .1) in
-    let c = both (every (λ k. ltb k (splitsHeldAt s)) (listAt s i)) (agreeInPairs (treeAt s i)) (b .1) in
+    let b = both (every (λ k. ltb k (splitsHeldAt s)) (listAt s i)) _ (a .1) in
+    let c = both (rising (treeAt s i)) (agreeInPairs (treeAt s i)) (b .1) in
     record {
       few = leb-true _ _ (a .0);
-      numbers-rising = b .0;
-      numbers-below = λ k h. ltb-true _ _ (every-at (λ j. ltb j (splitsHeldAt s)) (listAt s i) (c .0) k h);
+      numbers-below = λ k h. ltb-true _ _ (every-at (λ j. ltb j (splitsHeldAt s)) (listAt s i) (b .0) k h);
+      tree-rising = c .0;
       agreeing = c .1;
     }
 
@@ -107,8 +111,8 @@ pub facts-list : (s : List ℕ) (i : ℕ) → ListAt s i → goodList s i ≡ tr
 unfolding goodList
 facts-list s i f =
     and-true (le-leb _ _ (f .few))
-    (and-true (f .numbers-rising)
-    (and-true (every-intro (λ k. ltb k (splitsHeldAt s)) (listAt s i) (λ k h. lt-ltb _ _ (f .numbers-below k h))) (f .agreeing)))
+    (and-true (every-intro (λ k. ltb k (splitsHeldAt s)) (listAt s i) (λ k h. lt-ltb _ _ (f .numbers-below k h)))
+    (and-true (f .tree-rising) (f .agreeing)))
 
 pub record CountAt (s : List ℕ) (k : ℕ) : Type 0 where
   pub some-tree : 1 ≤ countAt s k

@@ -4,8 +4,8 @@
 --   goodSplits         "recorded masks are proper for n and all different"; "its identifier right where one is stored"
 --   goodList           "each tree lists recorded splits, rising and agreeing in pairs"
 --   goodCounts         "each count is the number of trees listing that split, at least 1"
---   goodChains         "every split is met exactly once along its hash place": a place's chain starts at its highest split, and each
---                      split's link leads to the next lower one of the place
+--   goodChains         "every split is met exactly once along its hash place": a place's chain starts at its highest row, and each
+--                      row's link leads to the next lower one of the place
 --   goodLanes          "each lane's length is in range"
 --   wholeAt s          the lent bytes s are a whole collection
 use Prim.Native.Nat.{ℕ, zero, suc}
@@ -19,7 +19,7 @@ use Rattle.trees.specs.Hash.{place, identifier}
 use Rattle.trees.specs.Whole.{rising, agreeInPairs, goodOpening}
 use Rattle.fields.specs.Field.{number}
 use Rattle.head.specs.Head.{numbersAt, firstAt, secondAt, openingAt, upTo}
-use Rattle.layout.specs.Store.{treesHeldAt, splitsHeldAt, treeFrom, laneFrom, sizeAt, maskAt, masksAt, identifierAt, countAt, linkAt, startAt, listAt, treeAt}
+use Rattle.layout.specs.Store.{treesHeldAt, splitsHeldAt, treeFrom, laneFrom, sizeAt, maskAt, masksAt, identifierAt, countAt, linkAt, startAt, orderAt, listAt, treeAt}
 
 unfoldable pub allBelow : (ℕ → Bool) → ℕ → Bool
 allBelow p zero = true
@@ -31,23 +31,32 @@ unfoldable pub goodIdentifier : List ℕ → ℕ → Bool
 unfolding identifierAt identifier secondAt maskAt
 goodIdentifier s k = eqb (identifierAt s k) (identifier (secondAt s) (maskAt s k))
 
+-- the split with number k has one of the rows
+unfoldable pub goodOrder : List ℕ → ℕ → Bool
+unfolding orderAt splitsHeldAt
+goodOrder s k = ltb (orderAt s k) (splitsHeldAt s)
+
 -- rising masks are all different
 unfoldable pub goodSplits : List ℕ → Bool
-unfolding every proper masksAt rising allBelow goodIdentifier splitsHeldAt numbersAt
-goodSplits s = every (proper (numbersAt s .taxa)) (masksAt s) && (rising (masksAt s) && allBelow (goodIdentifier s) (splitsHeldAt s))
+unfolding allBelow goodOrder every proper masksAt rising goodIdentifier splitsHeldAt numbersAt
+goodSplits s =
+    allBelow (goodOrder s) (splitsHeldAt s)
+    && (every (proper (numbersAt s .taxa)) (masksAt s)
+    && (rising (masksAt s)
+    && allBelow (goodIdentifier s) (splitsHeldAt s)))
 
 -- ---- trees
 
 -- a tree has at most 61 splits, which fit its place
 unfoldable pub goodList : List ℕ → ℕ → Bool
-unfolding number treeFrom rising every listAt splitsHeldAt agreeInPairs treeAt
+unfolding number treeFrom every listAt splitsHeldAt rising treeAt agreeInPairs
 goodList s i =
     leb (number 2 s (treeFrom s i)) 61
-    && (rising (listAt s i)
     && (every (λ k. ltb k (splitsHeldAt s)) (listAt s i)
+    && (rising (treeAt s i)
     && agreeInPairs (treeAt s i)))
 
--- how many of the first t trees list the split k
+-- how many of the first t trees list the split in row k
 unfoldable pub listed : List ℕ → ℕ → ℕ → ℕ
 unfolding member listAt
 listed s k zero = 0
@@ -59,7 +68,7 @@ goodCount s k = leb 1 (countAt s k) && eqb (countAt s k) (listed s k (treesHeldA
 
 -- ---- chains
 
--- the highest of the splits below k that have the place p, and one more; 0 for none
+-- the highest of the rows below k that have the place p, and one more; 0 for none
 unfoldable pub highestBelow : List ℕ → ℕ → ℕ → ℕ
 unfolding place firstAt numbersAt maskAt
 highestBelow s p zero = 0

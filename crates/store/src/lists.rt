@@ -8,12 +8,12 @@ ghost use lib.ListN.{length, take};
 ghost use lib.Seq.{slice};
 ghost use Rattle.trees.specs.Plain.{every};
 ghost use Rattle.trees.specs.Mask.{agree};
-ghost use Rattle.trees.specs.Whole.{agreeInPairs};
+ghost use Rattle.trees.specs.Whole.{rising, agreeInPairs};
 ghost use Rattle.fields.specs.Field.{number};
 ghost use Rattle.head.specs.Head.{numbersAt};
 ghost use Rattle.layout.specs.Store.{treesHeldAt, splitsHeldAt, treeFrom, listAt, treeAt};
 ghost use Rattle.store.specs.WholeStore.{allBelow, goodHead, goodList, goodCount, goodLaneAt};
-ghost use Rattle.store.specs.ListTests.{risingBelow, Counted};
+ghost use Rattle.store.specs.ListTests.{allRows, Counted};
 
 // Whether every tree's list is in order.
 pub(crate) fn lists_good(s: &[u8]) -> bool
@@ -31,7 +31,7 @@ pub(crate) fn lists_good(s: &[u8]) -> bool
     true
 }
 
-// Whether tree i lists at most 61 recorded splits, rising and agreeing in pairs.
+// Whether tree i lists at most 61 recorded splits, whose masks rise and agree in pairs.
 pub(crate) fn list_good(s: &[u8], i: usize) -> bool
     requires { ⌜ goodHead (now s) ≡ true ⌝ }
     requires { ⌜ i < treesHeldAt (now s) ⌝ }
@@ -41,35 +41,48 @@ pub(crate) fn list_good(s: &[u8], i: usize) -> bool
     if 61 < n {
         return false;
     }
-    if !numbers_rise(s, i, n) {
+    if !rows_below(s, i, n) {
         return false;
     }
     let mut masks = [0; 64];
     copy_masks(s, i, n, &mut masks);
+    if !masks_rise(&masks, n) {
+        return false;
+    }
     pairs_agree(&masks, n)
 }
 
-// Whether the n numbers of tree i rise and are below the number of splits.
-fn numbers_rise(s: &[u8], i: usize, n: usize) -> bool
+// Whether the n rows of tree i are those of recorded splits.
+fn rows_below(s: &[u8], i: usize, n: usize) -> bool
     requires { ⌜ goodHead (now s) ≡ true ⌝ }
     requires { ⌜ i < treesHeldAt (now s) ⌝ }
     requires { ⌜ n ≡ number 2 (now s) (treeFrom (now s) i) ⌝ }
     requires { ⌜ n ≤ 61 ⌝ }
-    ensures { λ r. ⌜ r ≡ risingBelow (splitsHeldAt (now (s .entry))) 0 (listAt (now (s .entry)) i) ⌝ }
+    ensures { λ r. ⌜ r ≡ allRows (splitsHeldAt (now (s .entry))) (listAt (now (s .entry)) i) ⌝ }
 {
     let from = tree_from(s, i) + 2;
     let splits = layout::splits_held(s);
-    let mut low = 0;
     let mut j = 0;
     while j < n {
-        let k = layout::number16(s, from + 2 * j);
-        if k < low {
+        if splits <= layout::number16(s, from + 2 * j) {
             return false;
         }
-        if splits <= k {
+        j += 1;
+    }
+    true
+}
+
+// Whether the first n masks rise from each to the next.
+fn masks_rise(masks: &[u64; 64], n: usize) -> bool
+    requires { ⌜ length (now masks) ≡ 64 ⌝ }
+    requires { ⌜ n ≤ 64 ⌝ }
+    ensures { λ r. ⌜ r ≡ rising (take n (now (masks .entry))) ⌝ }
+{
+    let mut j = 1;
+    while j < n {
+        if masks[j] <= masks[j - 1] {
             return false;
         }
-        low = k + 1;
         j += 1;
     }
     true
@@ -81,7 +94,7 @@ fn copy_masks(s: &[u8], i: usize, n: usize, masks: &mut [u64; 64])
     requires { ⌜ i < treesHeldAt (now s) ⌝ }
     requires { ⌜ n ≡ number 2 (now s) (treeFrom (now s) i) ⌝ }
     requires { ⌜ n ≤ 61 ⌝ }
-    requires { ⌜ risingBelow (splitsHeldAt (now s)) 0 (listAt (now s) i) ≡ true ⌝ }
+    requires { ⌜ allRows (splitsHeldAt (now s)) (listAt (now s) i) ≡ true ⌝ }
     requires { ⌜ length (now masks) ≡ 64 ⌝ }
     ensures { λ r. ⌜ take n (now (masks .exit)) ≡ treeAt (now (s .entry)) i ⌝ }
     ensures { λ r. ⌜ length (now (masks .exit)) ≡ 64 ⌝ }

@@ -67,18 +67,24 @@ pub(crate) fn splits_good(s: &[u8]) -> bool
     identifiers_good(s)
 }
 
-// Whether each mask is proper and above the one before; a proper mask is above 0, before the first.
+// Whether each number has a row, and its mask is proper and above the one before; a proper mask is
+// above 0, before the first.
 fn masks_good(s: &[u8]) -> bool
     requires { ⌜ goodHead (now s) ≡ true ⌝ }
     ensures { λ r. ⌜ r ≡ allBelow (goodMask (now (s .entry))) (splitsHeldAt (now (s .entry))) ⌝ }
 {
     let n = head::taxa(s);
     let from = layout::masks_from(s);
+    let order = layout::order_from(s);
     let held = layout::splits_held(s);
     let mut last = 0u64;
     let mut k = 0;
     while k < held {
-        let m = fields::get64(s, from + 8 * k);
+        let row = layout::number16(s, order + 2 * k);
+        if held <= row {
+            return false;
+        }
+        let m = fields::get64(s, from + 8 * row);
         if !masks::is_proper(m, n) {
             return false;
         }

@@ -9,7 +9,7 @@ use Rattle.layout.specs.Store.{splitsHeldAt, treeFrom}
 use Rattle.store.specs.WholeStore.{goodHead, goodList}
 use Rattle.store.specs.RoomLaws.{good-head}
 use Rattle.store.specs.ListTests.{CountedPart}
-use Rattle.store.specs.ListTestLaws.{list-length, list-few, list-numbers, list-number, number-recorded, numbers-rise}
+use Rattle.store.specs.ListTestLaws.{list-length, list-few, list-numbers, list-rises, list-number, number-recorded}
 use Rattle.store.specs.CountLaws.{part-none, part-more, part-all, part-most}
 use Rattle.store.proofs.lists.count_list.Statement.{statement}
 use Rattle.store.proofs.lists.count_list.Tie as tie
@@ -73,7 +73,7 @@ loop-again c =
       omega arith,
       l .inv .1,
       l .inv .2,
-      part-more s i (l .j) _ (l .inv .3) (numbers-rise _ 0 _ (list-numbers s i (p .1 .1 .0))) (omega arith) _ x (r .1),
+      part-more s i (l .j) _ (l .inv .3) (list-rises s i (p .1 .1 .0)) (omega arith) _ x (r .1),
     )
 
 returns : tie.Need-returns Inv-loop μ-loop
