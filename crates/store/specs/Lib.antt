@@ -5,6 +5,7 @@ pub mod WholeFacts
 pub mod UpToLaws
 pub mod PigeonLaws
 pub mod OrderLaws
+pub mod Sound
 pub mod RecordedAtLaws
 pub mod HeldWholeLaws
 pub mod Chain

@@ -1,3 +1,4 @@
 -- The answers of the calls, and what the calls promise of lent memory.
 pub mod Answers
 pub mod Promises
+pub mod Asked
