@@ -2,7 +2,7 @@
 --
 --   thirds-clusters    the mask of a record is a cluster
 --   clusters-thirds    a cluster is the mask of a record, or that of one leaf
---   leaf-never, root-never     a leaf and the root are no splits
+--   root-never         the root is no split
 --   records-splits     so the splits that count are those of the tree
 use Prim.Native.Nat.{ℕ, _<_}
 use native.Mathlib.Omega.{arith}
@@ -10,24 +10,19 @@ use mathlib.Core.Path.{_≡_, refl, ap, sym, _∙_, subst}
 use mathlib.Core.Logic.{_⊎_, inl, inr, ⊎-map}
 use mathlib.Core.Bool.{true}
 use mathlib.Core.List.{List, [], _∷_, _++_}
-use mathlib.Core.Option.{Option, none, some}
-use lib.Count.{ones}
 use lib.ListN.{length}
 use Rattle.trees.specs.Mask.{everyTaxon, side, proper}
 use Rattle.trees.specs.Text.{Symbol}
 use Rattle.trees.specs.Tree.{Nodes, nil, leaf, inner, children}
 use Rattle.trees.specs.Grammar.{IsNode, is-leaf, is-inner}
-use Rattle.trees.specs.Names.{taxonOf}
-use Rattle.trees.specs.Splits.{bitOf, taxon, taxa, clusters, counted, splitsOf}
+use Rattle.trees.specs.Splits.{taxon, taxa, clusters, counted, splitsOf}
 use Rattle.trees.specs.Opening.{Opening}
 use Rattle.theorems.specs.ListLaws.{Mem, mem-left, mem-right, mem-cases}
-use Rattle.theorems.specs.BitLaws.{off-zero}
-use Rattle.theorems.specs.MaskLaws.{every-on, side-even, side-odd}
-use Rattle.theorems.specs.OnesLaws.{ones-zero, ones-bit}
-use Rattle.theorems.specs.ProperLaws.{proper-two, one-taxon}
+use Rattle.theorems.specs.MaskLaws.{every-on, side-odd}
 use Rattle.theorems.specs.RisingLaws.{rising-same}
 use Rattle.theorems.specs.OpeningLaws.{GoodOpening}
-use Rattle.theorems.specs.SplitLaws.{Distinct, taxon-sub, counted-mem, mem-counted, counted-rising}
+use Rattle.theorems.specs.FewLaws.{nothing-never, leaf-never}
+use Rattle.theorems.specs.SplitLaws.{Distinct, counted-mem, mem-counted, counted-rising}
 use Rattle.newick.specs.Gather.{placeSum, identifierSum, records}
 use Rattle.newick.specs.Splits.{thirds, Records}
 use Rattle.newick.proofs.GotLaws.{inner-taxa}
@@ -83,17 +78,6 @@ module _ (o : Opening) (g : GoodOpening o) where
       go (inr (inr k)) p q = ⊎-map (λ y. mem-right x (thirds (records o c)) (taxa ns c ∷ thirds (records o r)) (inr y)) (λ y. y) (q k)
 
 -- ---- what never counts
-
-nothing-never : (n m : ℕ) → side n m ≡ 0 → proper n (side n m) ≡ true → ⊥
-nothing-never n m e p = omega (arith, proper-two n (side n m) p, ap ones e, ones-zero)
-
-leaf-never : (ns : List (List ℕ)) (w : List ℕ) → proper (length ns) (side (length ns) (taxon ns w)) ≡ true → ⊥
-unfolding taxon
-leaf-never ns w p = go (taxonOf ns w) refl
-  where
-    go : (o : Option ℕ) → taxonOf ns w ≡ o → ⊥
-    go none e = nothing-never (length ns) (taxon ns w) (ap (λ x. side (length ns) (bitOf x)) e ∙ side-even (length ns) 0 (off-zero 0)) p
-    go (some i) e = one-taxon (length ns) (taxon ns w) (taxon-sub ns w) (ap (λ x. ones (bitOf x)) e ∙ ones-bit i) p
 
 root-never : (n : ℕ) → 0 < n → proper n (side n (everyTaxon n)) ≡ true → ⊥
 root-never n h p = nothing-never n (everyTaxon n) (side-odd n (everyTaxon n) (every-on n 0 h) ∙ omega arith) p

@@ -13,7 +13,7 @@ use mathlib.Core.List.{List, [], _∷_, append-nil}
 use mathlib.Core.Option.{Option, none, some}
 use lib.Dec.{eqb}
 use lib.ListN.{length}
-use borrow.Author.Tests.{eqb-true, ne-eqb}
+use borrow.Author.Tests.{ne-eqb}
 use Rattle.trees.specs.Plain.{if_then_else_}
 use Rattle.trees.specs.Mask.{has, everyTaxon}
 use Rattle.trees.specs.Tree.{Nodes, leaves}
@@ -22,6 +22,7 @@ use Rattle.trees.specs.Splits.{taxa}
 use Rattle.trees.specs.Verdict.{leafFault}
 use Rattle.theorems.specs.ListLaws.{if-false}
 use Rattle.theorems.specs.MaskLaws.{has-on, has-off}
+use Rattle.theorems.specs.FewLaws.{none-missing}
 use Rattle.theorems.specs.VerdictLaws.{leaf-unknown, leaf-again, leaf-new, leaves-distinct}
 use Rattle.newick.specs.Gather.{Leaves, leafBy, leafStep, leavesAfter}
 
@@ -59,13 +60,6 @@ fault-is ns seen [] = refl
 fault-is ns seen (w ∷ ws) = first-leaf ns seen w ws (taxonOf ns w) refl (λ i. fault-is ns (seen + 2 ^ i) ws)
 
 -- ---- no fault
-
-pub none-missing : (seen n : ℕ) → _≡_ {A = ℕ} (if eqb seen (everyTaxon n) then 0 else 10) 0 → seen ≡ everyTaxon n
-none-missing seen n = go (eqb seen (everyTaxon n)) refl
-  where
-    go : (b : Bool) → eqb seen (everyTaxon n) ≡ b → _≡_ {A = ℕ} (if b then 0 else 10) 0 → seen ≡ everyTaxon n
-    go true e q = eqb-true seen (everyTaxon n) e
-    go false e q = absurd (omega arith)
 
 pub all-seen : (ns : List (List ℕ)) (t : Nodes) → leafFault ns 0 (leaves t) ≡ 0 → taxa ns t ≡ everyTaxon (length ns)
 unfolding leafFault

@@ -27,7 +27,8 @@ use Rattle.newick.specs.declared.gather.Got.the-variants.{Taken, Wrong}
 use Rattle.newick.specs.declared.gather.Gots.{Gots}
 use Rattle.newick.specs.declared.gather.Gots.the-variants.{All, Odd}
 use Rattle.newick.proofs.NodeLaws.{tag, leaf-reads, children-read, nodes-fault, nodes-more, nodes-one}
-use Rattle.newick.proofs.SumLaws.{width-beside, taxa-beside, place-beside, identifier-beside, records-beside, after-beside, sets-append}
+use Rattle.theorems.specs.FewLaws.{width-beside}
+use Rattle.newick.proofs.SumLaws.{taxa-beside, place-beside, identifier-beside, records-beside, after-beside, sets-append}
 
 -- ---- a leaf's sums
 

@@ -12,16 +12,11 @@ use lib.Seq.{sets}
 use Rattle.trees.specs.Tree.{Nodes, nil, leaf, inner, beside, width, leaves}
 use Rattle.trees.specs.Splits.{taxon, taxa}
 use Rattle.trees.specs.Opening.{Opening}
+use Rattle.theorems.specs.FewLaws.{leaves-beside}
 use Rattle.theorems.specs.BitLaws.{ext, Sub, on?, or-on, on-or-l, on-or-r}
 use Rattle.newick.specs.Gather.{leafSum, placeSum, identifierSum, records, Leaves, leafStep, leavesAfter}
 
 -- ---- nodes beside each other
-
-pub width-beside : (t k : Nodes) → width (beside t k) ≡ width t + width k
-unfolding width beside
-width-beside nil k = omega arith
-width-beside (leaf w r) k = omega (arith, width-beside r k)
-width-beside (inner c r) k = omega (arith, width-beside r k)
 
 or-assoc : (a b c : ℕ) → bitOr (bitOr a b) c ≡ bitOr a (bitOr b c)
 or-assoc a b c = ext (bitOr (bitOr a b) c) (bitOr a (bitOr b c)) right left
@@ -62,12 +57,6 @@ records-beside o (leaf w r) k = records-beside o r k
 records-beside o (inner c r) k =
     ap (λ l. records o c ++ (taxa (o .names) c ∷ placeSum o c ∷ identifierSum o c ∷ l)) (records-beside o r k)
     ∙ sym (append-assoc (records o c) (taxa (o .names) c ∷ placeSum o c ∷ identifierSum o c ∷ records o r) (records o k))
-
-pub leaves-beside : (t k : Nodes) → leaves (beside t k) ≡ leaves t ++ leaves k
-unfolding leaves beside
-leaves-beside nil k = refl
-leaves-beside (leaf w r) k = ap (λ l. w ∷ l) (leaves-beside r k)
-leaves-beside (inner c r) k = ap (λ l. leaves c ++ l) (leaves-beside r k) ∙ sym (append-assoc (leaves c) (leaves r) (leaves k))
 
 after-append : (ns : List (List ℕ)) (l : Leaves) (vs ws : List (List ℕ)) → leavesAfter ns l (vs ++ ws) ≡ leavesAfter ns (leavesAfter ns l vs) ws
 unfolding leavesAfter

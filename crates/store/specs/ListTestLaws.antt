@@ -184,19 +184,19 @@ lane-short s l h = le-leb _ _ h
 -- ---- a list's test, in the order of the code
 
 module _ (s : List ℕ) (i : ℕ) where
-  pub list-long : 61 < number 2 s (treeFrom s i) → goodList s i ≡ false
+  pub list-long : 62 < number 2 s (treeFrom s i) → goodList s i ≡ false
   unfolding goodList
   list-long h = rw (lt-leb _ _ h)
 
-  list-parts : number 2 s (treeFrom s i) ≤ 61
+  list-parts : number 2 s (treeFrom s i) ≤ 62
       → goodList s i ≡ (allRows (splitsHeldAt s) (listAt s i) && (rising (treeAt s i) && agreeInPairs (treeAt s i)))
   unfolding goodList allRows
   list-parts h = rw (le-leb _ _ h)
 
-  pub list-foreign : number 2 s (treeFrom s i) ≤ 61 → allRows (splitsHeldAt s) (listAt s i) ≡ false → goodList s i ≡ false
+  pub list-foreign : number 2 s (treeFrom s i) ≤ 62 → allRows (splitsHeldAt s) (listAt s i) ≡ false → goodList s i ≡ false
   list-foreign h e = list-parts h ∙ rw e
 
-  module _ (h : number 2 s (treeFrom s i) ≤ 61) (e : allRows (splitsHeldAt s) (listAt s i) ≡ true) where
+  module _ (h : number 2 s (treeFrom s i) ≤ 62) (e : allRows (splitsHeldAt s) (listAt s i) ≡ true) where
     pub list-falls : rising (treeAt s i) ≡ false → goodList s i ≡ false
     list-falls f = list-parts h ∙ rw (e, f)
 
@@ -204,9 +204,9 @@ module _ (s : List ℕ) (i : ℕ) where
     list-rest f = list-parts h ∙ rw (e, f)
 
   -- a list that passes
-  pub list-few : goodList s i ≡ true → number 2 s (treeFrom s i) ≤ 61
+  pub list-few : goodList s i ≡ true → number 2 s (treeFrom s i) ≤ 62
   unfolding goodList
-  list-few e = leb-true _ _ (and-left (leb (number 2 s (treeFrom s i)) 61) _ e)
+  list-few e = leb-true _ _ (and-left (leb (number 2 s (treeFrom s i)) 62) _ e)
 
   passes : goodList s i ≡ true → (allRows (splitsHeldAt s) (listAt s i) && (rising (treeAt s i) && agreeInPairs (treeAt s i))) ≡ true
   passes e = sym (list-parts (list-few e)) ∙ e

@@ -135,10 +135,10 @@ module _ (s t : List ℕ) (n : numbersAt s ≡ numbersAt t) where
     entry-frame : (i j : ℕ) → i < numbersAt s .treeRoom → j < 63 → entryAt s i j ≡ entryAt t i j
     entry-frame i j h l = rw (add-assoc (treeFrom s i), add-assoc (treeFrom t i)) (entry i 2 (2 + 2 * j) h (omega arith))
 
-    pub list-frame : (i : ℕ) → i < numbersAt s .treeRoom → entriesAt s i ≤ 61 → listAt s i ≡ listAt t i
+    pub list-frame : (i : ℕ) → i < numbersAt s .treeRoom → entriesAt s i ≤ 62 → listAt s i ≡ listAt t i
     list-frame i h l =
         list-is s i ∙ upTo-same (entryAt s i) (entryAt t i) (entriesAt s i) (λ j q. entry-frame i j h (omega arith)) ∙ rw (entries-frame i h, ← list-is t i)
 
-    pub tree-frame : (i : ℕ) → i < numbersAt s .treeRoom → entriesAt s i ≤ 61 → ((k : ℕ) → Mem k (listAt s i) → k < numbersAt s .splitRoom) → treeAt s i ≡ treeAt t i
+    pub tree-frame : (i : ℕ) → i < numbersAt s .treeRoom → entriesAt s i ≤ 62 → ((k : ℕ) → Mem k (listAt s i) → k < numbersAt s .splitRoom) → treeAt s i ≡ treeAt t i
     tree-frame i h l f =
         tree-is s i ∙ map-same (maskAt s) (maskAt t) (listAt s i) (λ k q. mask-frame k (f k q)) ∙ rw (list-frame i h l, ← tree-is t i)

@@ -89,7 +89,7 @@ facts-splits s f =
 -- ---- trees
 
 pub record ListAt (s : List ℕ) (i : ℕ) : Type 0 where
-  pub few : number 2 s (treeFrom s i) ≤ 61
+  pub few : number 2 s (treeFrom s i) ≤ 62
   pub numbers-below : (k : ℕ) → Mem k (listAt s i) → k < splitsHeldAt s
   pub tree-rising : rising (treeAt s i) ≡ true
   pub agreeing : agreeInPairs (treeAt s i) ≡ true
@@ -97,7 +97,7 @@ pub record ListAt (s : List ℕ) (i : ℕ) : Type 0 where
 pub list-facts : (s : List ℕ) (i : ℕ) → goodList s i ≡ true → ListAt s i
 unfolding goodList
 list-facts s i e =
-    let a = both (leb (number 2 s (treeFrom s i)) 61) _ e in
+    let a = both (leb (number 2 s (treeFrom s i)) 62) _ e in
     let b = both (every (λ k. ltb k (splitsHeldAt s)) (listAt s i)) _ (a .1) in
     let c = both (rising (treeAt s i)) (agreeInPairs (treeAt s i)) (b .1) in
     record {

@@ -47,11 +47,11 @@ goodSplits s =
 
 -- ---- trees
 
--- a tree has at most 61 splits, which fit its place
+-- a tree has at most 62 splits, which fit its place
 unfoldable pub goodList : List ℕ → ℕ → Bool
 unfolding number treeFrom every listAt splitsHeldAt rising treeAt agreeInPairs
 goodList s i =
-    leb (number 2 s (treeFrom s i)) 61
+    leb (number 2 s (treeFrom s i)) 62
     && (every (λ k. ltb k (splitsHeldAt s)) (listAt s i)
     && (rising (treeAt s i)
     && agreeInPairs (treeAt s i)))

@@ -31,14 +31,14 @@ pub(crate) fn lists_good(s: &[u8]) -> bool
     true
 }
 
-// Whether tree i lists at most 61 recorded splits, whose masks rise and agree in pairs.
+// Whether tree i lists at most 62 recorded splits, whose masks rise and agree in pairs.
 pub(crate) fn list_good(s: &[u8], i: usize) -> bool
     requires { ⌜ goodHead (now s) ≡ true ⌝ }
     requires { ⌜ i < treesHeldAt (now s) ⌝ }
     ensures { λ r. ⌜ r ≡ goodList (now (s .entry)) i ⌝ }
 {
     let n = layout::number16(s, tree_from(s, i));
-    if 61 < n {
+    if 62 < n {
         return false;
     }
     if !rows_below(s, i, n) {
@@ -57,7 +57,7 @@ fn rows_below(s: &[u8], i: usize, n: usize) -> bool
     requires { ⌜ goodHead (now s) ≡ true ⌝ }
     requires { ⌜ i < treesHeldAt (now s) ⌝ }
     requires { ⌜ n ≡ number 2 (now s) (treeFrom (now s) i) ⌝ }
-    requires { ⌜ n ≤ 61 ⌝ }
+    requires { ⌜ n ≤ 62 ⌝ }
     ensures { λ r. ⌜ r ≡ allRows (splitsHeldAt (now (s .entry))) (listAt (now (s .entry)) i) ⌝ }
 {
     let from = tree_from(s, i) + 2;
@@ -93,7 +93,7 @@ fn copy_masks(s: &[u8], i: usize, n: usize, masks: &mut [u64; 64])
     requires { ⌜ goodHead (now s) ≡ true ⌝ }
     requires { ⌜ i < treesHeldAt (now s) ⌝ }
     requires { ⌜ n ≡ number 2 (now s) (treeFrom (now s) i) ⌝ }
-    requires { ⌜ n ≤ 61 ⌝ }
+    requires { ⌜ n ≤ 62 ⌝ }
     requires { ⌜ allRows (splitsHeldAt (now s)) (listAt (now s) i) ≡ true ⌝ }
     requires { ⌜ length (now masks) ≡ 64 ⌝ }
     ensures { λ r. ⌜ take n (now (masks .exit)) ≡ treeAt (now (s .entry)) i ⌝ }

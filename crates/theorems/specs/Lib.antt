@@ -15,6 +15,7 @@ pub mod NameLaws
 pub mod ShownLaws
 pub mod WidestLaws
 pub mod ProperLaws
+pub mod FewLaws
 pub mod BranchLaws
 pub mod TreeOfLaws
 pub mod WrittenLaws

@@ -5,7 +5,8 @@
 --   fault-numbers                        the fault of the leaves is 8, 9 or 10, or there is none
 --   seven-exactly                        7 exactly when the text is no tree by the grammar
 --   judged-good                          the splits of a text are proper, rising, and agree in pairs
-use Prim.Native.Nat.{ℕ, zero, suc, _+_, _^_, _<_}
+--   refusal-numbers                      a text is refused with 7, 8, 9 or 10
+use Prim.Native.Nat.{ℕ, zero, suc, _+_, _^_, _≤_, _<_}
 use native.Mathlib.Omega.{arith}
 use native.Mathlib.Nat.{add-zero, add-assoc}
 use mathlib.Core.Path.{_≡_, refl, ap, sym, _∙_, subst}
@@ -114,7 +115,7 @@ fault-numbers ns seen (w ∷ ws) = subst FaultNumber (sym (leaf-step ns seen w w
 -- ---- a whole text
 
 -- the verdict on a tree whose leaves have the fault k, and on what was read
-abbrev treeBy : List (List ℕ) → Nodes → ℕ → Answer (List ℕ)
+abbrev pub treeBy : List (List ℕ) → Nodes → ℕ → Answer (List ℕ)
 treeBy ns t zero = gives (splitsOf ns t)
 treeBy ns t (suc k) = refused (suc k)
 
@@ -124,7 +125,7 @@ tree-step ns t =
     elim (leafFault ns 0 (leaves t)) as (λ k. elim k as (λ _. Answer (List ℕ)) [ zero ↦ gives (splitsOf ns t) | suc k ↦ refused (suc k) ] ≡ treeBy ns t k)
     [ zero ↦ refl | suc k ↦ refl ]
 
-abbrev textBy : List (List ℕ) → Option Nodes → Answer (List ℕ)
+abbrev pub textBy : List (List ℕ) → Option Nodes → Answer (List ℕ)
 textBy ns none = refused 7
 textBy ns (some t) = judgedTree ns t
 
@@ -173,3 +174,23 @@ judged-good ns s ms e = subst (Good ns) (sym (judged-step ns s) ∙ e) (go (read
     go : (o : Option Nodes) → Good ns (textBy ns o)
     go none = tt
     go (some t) = tree-good ns t
+
+-- ---- the numbers of a refused text
+
+abbrev Numbered : Answer (List ℕ) → Type 0
+Numbered (refused k) = (7 ≤ k) × (k ≤ 10)
+Numbered (gives s) = Unit {0}
+
+pub refusal-numbers : (ns : List (List ℕ)) (s : List ℕ) (k : ℕ) → judged ns s ≡ refused k → (7 ≤ k) × (k ≤ 10)
+refusal-numbers ns s k e = subst Numbered (sym (judged-step ns s) ∙ e) (go (reading s))
+  where
+    tree : (t : Nodes) (j : ℕ) → FaultNumber j → Numbered (treeBy ns t j)
+    tree t zero f = tt
+    tree t (suc j) (inl q) = absurd (omega arith)
+    tree t (suc j) (inr (inl q)) = (omega arith, omega arith)
+    tree t (suc j) (inr (inr (inl q))) = (omega arith, omega arith)
+    tree t (suc j) (inr (inr (inr q))) = (omega arith, omega arith)
+
+    go : (o : Option Nodes) → Numbered (textBy ns o)
+    go none = (omega arith, omega arith)
+    go (some t) = subst Numbered (sym (tree-step ns t)) (tree t (leafFault ns 0 (leaves t)) (fault-numbers ns 0 (leaves t)))

@@ -16,6 +16,7 @@ pub mod Opening
 pub mod Held
 pub mod Questions
 pub mod Whole
+pub mod Batch
 pub mod Runs
 pub mod Samples
 pub mod Further

@@ -123,7 +123,7 @@ fn child_mask(i: Taxon, x: u64) -> u64
 }
 
 // Of the first k masks of the list that are below m and have taxon i, the greatest; 0 where there is none.
-pub fn widest_in(list: &[u64], k: usize, m: u64, i: Taxon) -> u64
+fn widest_in(list: &[u64], k: usize, m: u64, i: Taxon) -> u64
     requires { ⌜ k ≤ length (now list) ⌝ }
     requires { ⌜ i .0 < 64 ⌝ }
     ensures { λ r. ⌜ r ≡ widest m (i .0) (take k (now (list .entry))) ⌝ }

@@ -15,7 +15,7 @@ use Rattle.store.proofs.lists.count_list.Statement.{statement}
 use Rattle.store.proofs.lists.count_list.Tie as tie
 
 abbrev Inv-loop : tie.InvT-loop
-Inv-loop s i counts₀ from n j₀ counts j = (j ≤ n) × (n ≡ number 2 s (treeFrom s i)) × (n ≤ 61) × CountedPart s i j counts
+Inv-loop s i counts₀ from n j₀ counts j = (j ≤ n) × (n ≡ number 2 s (treeFrom s i)) × (n ≤ 62) × CountedPart s i j counts
 
 abbrev μ-loop : tie.MeasureT-loop
 μ-loop s i counts₀ from n j₀ counts j = n - j

@@ -1,0 +1,46 @@
+-- A piece with many texts, fed in one call.
+--
+--   semicolons p          how many texts the piece p ends
+--   verdictNumber a       a verdict as a number: the refusal's, or 256 more than the tree's
+--   Batched               the verdicts, and what is held afterwards
+--   batching n h l p      feeding the piece p to lane l again and again, each time the rest: n texts, and what is behind them
+--   batch h l p room      the same as a call, with room for so many verdicts
+use Prim.Native.Nat.{ℕ, zero, suc, _+_}
+use mathlib.Core.List.{List, [], _∷_}
+use lib.Dec.{ltb, eqb}
+use lib.ListN.{length, drop}
+use Rattle.trees.specs.Plain.{if_then_else_, keep, Answer, refused, gives}
+use Rattle.trees.specs.Held.{Held, Progress, moreWanted, accepted, feeding}
+
+unfoldable pub semicolons : List ℕ → ℕ
+unfolding keep
+semicolons p = length (keep (eqb 59) p)
+
+-- refusals go from 1 to 14
+unfoldable pub verdictNumber : Answer Progress → ℕ
+verdictNumber (refused k) = k
+verdictNumber (gives moreWanted) = 0
+verdictNumber (gives (accepted t)) = 256 + t
+
+pub record Batched : Type 0 where
+  pub verdicts : List ℕ
+  pub after : Held
+
+-- one verdict more, before the others
+unfoldable pub withVerdict : ℕ → Batched → Batched
+withVerdict v b = record { verdicts = v ∷ b .verdicts; after = b .after }
+
+-- exactly what feeding gives when it is called again and again on the rest
+unfoldable pub batching : ℕ → Held → ℕ → List ℕ → Batched
+unfolding feeding verdictNumber withVerdict
+batching zero h l p = record { verdicts = []; after = feeding h l p .after }
+batching (suc n) h l p =
+    withVerdict (verdictNumber (feeding h l p .answer)) (batching n (feeding h l p .after) l (drop (feeding h l p .taken) p))
+
+-- 5: "no such lane"; 4: "a lent buffer is too short for the whole answer", before anything is taken
+unfoldable pub batch : Held → ℕ → List ℕ → ℕ → Answer Batched
+unfolding semicolons batching
+batch h l p room =
+    if ltb l (h .opening .numbers .lanes) then
+    if ltb room (semicolons p) then refused 4 else gives (batching (semicolons p) h l p)
+    else refused 5
