@@ -1,0 +1,116 @@
+// One lane of a whole store: its text is made longer, emptied, measured, and judged at closing. Every
+// other byte of the store stays as it is.
+//
+// Its contracts cite `specs/Lanes.antt` (`LaneIs`, `closedNumber`), crate trees, `specs/Held.antt`
+// (`longer`, `closed`), and crate layout, `specs/Store.antt`; the laws that callers use stand in
+// `specs/LaneLaws.antt`.
+use layout::Lane;
+ghost use mathlib.Core.Path.{_≡_};
+ghost use mathlib.Core.Bool.{true};
+ghost use mathlib.Core.List.{[]};
+ghost use Prim.Native.Nat.{_≤_, _<_};
+ghost use Rattle.trees.specs.Plain.{every};
+ghost use Rattle.trees.specs.Text.{isBlank};
+ghost use Rattle.trees.specs.Held.{holding, longer, laneOf, closed};
+ghost use Rattle.fields.specs.Field.{number};
+ghost use Rattle.head.specs.Head.{numbersAt};
+ghost use Rattle.layout.specs.Store.{laneFrom, heldAt};
+ghost use Rattle.store.specs.WholeStore.{wholeAt};
+ghost use Rattle.lanes.specs.Lanes.{LaneIs, closedNumber};
+
+// Puts the piece behind the bytes that lane l holds. Past 4,096 bytes the lane has run over, and one
+// that ran over stays so.
+pub fn extend_lane(s: &mut [u8], l: Lane, piece: &[u8])
+    requires { ⌜ wholeAt (now s) ≡ true ⌝ }
+    requires { ⌜ l .0 < numbersAt (now s) .lanes ⌝ }
+    ensures { λ r. ⌜ LaneIs (now (s .entry)) (l .0) (longer (laneOf (heldAt (now (s .entry))) (l .0)) (now (piece .entry))) (now (s .exit)) ⌝ }
+{
+    let n = lane_length(s, l);
+    if n == 4097 {
+        return;
+    }
+    let from = lane_from(l);
+    if 4096 - n < piece.len() {
+        fields::put16(s, from, 4097);
+        return;
+    }
+    fields::copy_from(s, from + 8 + n, piece, 0, piece.len());
+    fields::put16(s, from, (n + piece.len()) as u16);
+}
+
+// Makes lane l hold no bytes.
+pub fn empty_lane(s: &mut [u8], l: Lane)
+    requires { ⌜ wholeAt (now s) ≡ true ⌝ }
+    requires { ⌜ l .0 < numbersAt (now s) .lanes ⌝ }
+    ensures { λ r. ⌜ LaneIs (now (s .entry)) (l .0) (holding []) (now (s .exit)) ⌝ }
+{
+    fields::put16(s, lane_from(l), 0);
+}
+
+// How many bytes lane l holds; 4,097 says that it ran over.
+pub fn lane_length(s: &[u8], l: Lane) -> usize
+    requires { ⌜ wholeAt (now s) ≡ true ⌝ }
+    requires { ⌜ l .0 < numbersAt (now s) .lanes ⌝ }
+    ensures { λ r. ⌜ r ≡ number 2 (now (s .entry)) (laneFrom (l .0)) ⌝ }
+    ensures { λ r. ⌜ r ≤ 4097 ⌝ }
+{
+    let from = lane_from(l);
+    layout::number16(s, from)
+}
+
+// What closing lane l answers: 6 where it ran over, 7 where it holds any byte but blanks, else 0.
+pub fn closing_number(s: &[u8], l: Lane) -> u32
+    requires { ⌜ wholeAt (now s) ≡ true ⌝ }
+    requires { ⌜ l .0 < numbersAt (now s) .lanes ⌝ }
+    ensures { λ r. ⌜ r ≡ closedNumber (closed (laneOf (heldAt (now (s .entry))) (l .0))) ⌝ }
+{
+    let n = lane_length(s, l);
+    if n == 4097 {
+        return 6;
+    }
+    let b = lane_from(l) + 8;
+    let e = b + n;
+    if !all_blanks(&s[b..e]) {
+        return 7;
+    }
+    0
+}
+
+// Where lane l begins.
+fn lane_from(l: Lane) -> usize
+    requires { ⌜ l .0 < 8 ⌝ }
+    ensures { λ r. ⌜ r ≡ laneFrom (l .0) ⌝ }
+    ensures { λ r. ⌜ r < 65536 ⌝ }
+{
+    4096 + 4104 * l.0
+}
+
+// Whether every byte of the text is a blank.
+fn all_blanks(text: &[u8]) -> bool
+    ensures { λ r. ⌜ r ≡ every isBlank (now (text .entry)) ⌝ }
+{
+    let mut i = 0;
+    while i < text.len() {
+        if !is_blank(text[i]) {
+            return false;
+        }
+        i += 1;
+    }
+    true
+}
+
+// Whether b is a blank: a space, a tab, CR or LF.
+fn is_blank(b: u8) -> bool
+    ensures { λ r. ⌜ r ≡ isBlank b ⌝ }
+{
+    if b == 32 {
+        return true;
+    }
+    if b == 9 {
+        return true;
+    }
+    if b == 13 {
+        return true;
+    }
+    b == 10
+}
