@@ -8,6 +8,11 @@ ghost use mathlib.Core.Path.{_≡_};
 ghost use Rattle.table.specs.Answers.{refusalNumber};
 use layout::Tree;
 
+mod opening_calls;
+
+pub use opening_calls::open;
+pub use opening_calls::size;
+
 // Why a call refuses: the table of document 01, in its order.
 pub enum Refusal {
     NotWhole,

@@ -1,0 +1,97 @@
+-- `table::opening_calls::open` meets its contract: the opening's checks in their order, then the head and what lies behind it. Assumes nothing.
+use mathlib.Core.Path.{refl}
+use native.Mathlib.Omega.{arith}
+use borrow.Author.Needs.{needs}
+use Rattle.opening.specs.GivenLaws.{failed, passed}
+use Rattle.table.specs.Answers.{refusalNumber}
+use Rattle.table.specs.OpenLaws.{not-in-range, not-constants, not-names, not-long, all-passed, passed-good, refused-as, done-as, lent-head, lent-rest, head-then-rest}
+use Rattle.table.proofs.opening_calls.open.Statement.{statement}
+use Rattle.table.proofs.opening_calls.open.Tie as tie
+
+returns : tie.Need-returns
+unfolding refusalNumber
+returns c = refused-as _ 2 _ _ (not-in-range _ _ _ _ _ (failed _ _ (c .before .numbers-in-range .ensures) (c .if1 .taken))) refl
+
+returns-2 : tie.Need-returns-2
+unfolding refusalNumber
+returns-2 c =
+    let d = c .before .before in
+    let a = passed _ _ (d .before .numbers-in-range .ensures) (d .if1 .left) in
+    refused-as _ 2 _ _ (not-constants _ _ _ _ _ a (failed _ _ (c .before .constants-good .ensures _ _ _) (c .if2 .taken))) refl
+
+returns-3 : tie.Need-returns-3
+unfolding refusalNumber
+returns-3 c =
+    let e = c .before .before in
+    let d = e .before .before in
+    let a = passed _ _ (d .before .numbers-in-range .ensures) (d .if1 .left) in
+    let b = passed _ _ (e .before .constants-good .ensures _ _ _) (e .if2 .left) in
+    refused-as _ 3 _ _ (not-names _ _ _ _ _ a b (failed _ _ (c .before .names-good .ensures) (c .if3 .taken))) refl
+
+store-size-requires : tie.Need-store-size-requires
+store-size-requires c κs =
+    let d = c .before .before .before .before in
+    passed _ _ (d .before .numbers-in-range .ensures) (d .if1 .left)
+
+returns-4 : tie.Need-returns-4
+unfolding refusalNumber
+returns-4 c =
+    let f = c .before .before in
+    let e = f .before .before in
+    let d = e .before .before in
+    let a = passed _ _ (d .before .numbers-in-range .ensures) (d .if1 .left) in
+    let b = passed _ _ (e .before .constants-good .ensures _ _ _) (e .if2 .left) in
+    let g = passed _ _ (f .before .names-good .ensures) (f .if3 .left) in
+    refused-as _ 4 _ _ (not-long _ _ _ _ _ a b g (rw (c .before .store-size .ensures) at (c .if4 .taken))) refl
+
+write-head-requires : tie.Need-write-head-requires
+write-head-requires c κs =
+    let h = c .before in
+    let f = h .before .before in
+    let e = f .before .before in
+    let d = e .before .before in
+    let a = passed _ _ (d .before .numbers-in-range .ensures) (d .if1 .left) in
+    let b = passed _ _ (e .before .constants-good .ensures _ _ _) (e .if2 .left) in
+    let g = passed _ _ (f .before .names-good .ensures) (f .if3 .left) in
+    (lent-head _ _ (rw (h .before .store-size .ensures) at (h .if4 .left)), (a, (b, g)))
+
+clear-rest-requires : tie.Need-clear-rest-requires
+clear-rest-requires c κs =
+    let w = c .before .before .before in
+    let h = w .before .before in
+    let r = w .write-head .ensures .1 in
+    let s = h .before .before .before .before .before .before .before .before .before .before .before .before .args .s .now in
+    lent-rest s _ _ (r .0) (r .1 .1 .1 .1) (rw (h .before .store-size .ensures) at (h .if4 .left))
+
+returns-5 : tie.Need-returns-5
+returns-5 c =
+    let w = c .before .before .before .before .before .before in
+    let h = w .before .before in
+    let f = h .before .before in
+    let e = f .before .before in
+    let d = e .before .before in
+    let a = passed _ _ (d .before .numbers-in-range .ensures) (d .if1 .left) in
+    let b = passed _ _ (e .before .constants-good .ensures _ _ _) (e .if2 .left) in
+    let g = passed _ _ (f .before .names-good .ensures) (f .if3 .left) in
+    let l = rw (h .before .store-size .ensures) at (h .if4 .left) in
+    let r = w .write-head .ensures .1 in
+    done-as _ _ _ _ (all-passed _ _ _ _ _ a b g l)
+    (head-then-rest _ _ _ (r .0) (r .1 .1 .1 .1) l (r .1 .1 .1 .0) _ (passed-good _ _ _ _ a b g) (r .1 .0) (r .1 .1 .0)
+    (λ i. omega (arith, c .before .before .before .before .slice-known2 .given i)) (c .before .before .clear-rest .ensures))
+
+pub open-spec : {M : Type 1} → statement M
+open-spec =
+    tie.close
+    (tie.spec
+    (λ c κs. search needs)
+    returns
+    (λ c κs. search needs)
+    returns-2
+    (λ c κs. search needs)
+    returns-3
+    store-size-requires
+    returns-4
+    write-head-requires
+    clear-rest-requires
+    (λ c. search needs)
+    returns-5)

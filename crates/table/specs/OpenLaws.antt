@@ -1,0 +1,121 @@
+-- The laws of opening: what each check refuses, and what is left where none does. Assumes nothing.
+--
+--   size-refused, size-given     the answers of `size`
+--   not-in-range, not-constants, not-names, not-long, all-passed     the opening, one check after another
+--   passed-good                  an opening that passed its checks is good
+--   refused-as, done-as          the answers of `open`
+--   lent-head, lent-rest         the head is lent, and the store that it tells of
+--   head-then-rest               the head is written and the rest emptied: the lent bytes hold what was opened
+use Prim.Native.Nat.{ℕ, _+_, _-_, _≤_, _<_}
+use native.Mathlib.Omega.{arith}
+use mathlib.Core.Path.{_≡_, refl, ap, _∙_}
+use mathlib.Core.Bool.{true, false}
+use mathlib.Core.List.{List}
+use lib.ListN.{length, getD, drop}
+use lib.Seq.{getD-drop}
+use borrow.Author.Tests.{le-leb, lt-leb}
+use Rattle.trees.specs.Plain.{Answer, refused, gives}
+use Rattle.trees.specs.Names.{namesIn, goodNames}
+use Rattle.trees.specs.Opening.{Numbers, Opening, inRange, goodConstants, storeSize, sizing, opening}
+use Rattle.trees.specs.Held.{opened}
+use Rattle.trees.specs.Whole.{goodOpening}
+use Rattle.theorems.specs.ListLaws.{and-true}
+use Rattle.fields.specs.Field.{number}
+use Rattle.head.specs.Head.{openingAt}
+use Rattle.opening.specs.Given.{openingOf}
+use Rattle.opening.specs.GivenLaws.{size-least}
+use Rattle.layout.specs.Store.{sizeAt}
+use Rattle.layout.specs.StoreLaws.{trees-held-is, splits-held-is}
+use Rattle.table.specs.declared.Refusal.{Refusal}
+use Rattle.table.specs.declared.Refusal.the-variants as why
+use Rattle.table.specs.declared.Finish.the-variants as finish
+use Rattle.table.specs.declared.Number.the-variants as answer
+use Rattle.table.specs.Answers.{refusalNumber, finishGiven, numberGiven}
+use Rattle.table.specs.Promises.{Holds, OpenedAs}
+use Rattle.table.specs.Emptied.{Emptied}
+use Rattle.table.specs.EmptiedLaws.{emptied-whole, emptied-held}
+
+-- ---- the size
+
+pub size-refused : (x : Numbers) → inRange x ≡ false → numberGiven (answer.Refused why.OutOfRange) ≡ sizing x
+unfolding numberGiven sizing
+size-refused x e = rw e
+
+pub size-given : (x : Numbers) (n : ℕ) → inRange x ≡ true → n ≡ storeSize x → numberGiven (answer.Gives n) ≡ sizing x
+unfolding numberGiven sizing
+size-given x n e h = rw (e, h)
+
+-- ---- the opening, one check after another
+
+module _ (x : Numbers) (list first second : List ℕ) (lent : ℕ) where
+  pub not-in-range : inRange x ≡ false → opening x list first second lent ≡ refused 2
+  unfolding opening
+  not-in-range a = rw a
+
+  module _ (a : inRange x ≡ true) where
+    pub not-constants : goodConstants x first second ≡ false → opening x list first second lent ≡ refused 2
+    unfolding opening
+    not-constants b = rw (a, b)
+
+    module _ (b : goodConstants x first second ≡ true) where
+      pub not-names : goodNames (x .taxa) (namesIn list) ≡ false → opening x list first second lent ≡ refused 3
+      unfolding opening
+      not-names d = rw (a, b, d)
+
+      module _ (d : goodNames (x .taxa) (namesIn list) ≡ true) where
+        pub not-long : lent < storeSize x → opening x list first second lent ≡ refused 4
+        unfolding opening
+        not-long h = rw (a, b, d, lt-leb (storeSize x) lent h)
+
+        pub all-passed : storeSize x ≤ lent → opening x list first second lent ≡ gives (openingOf x list first second)
+        unfolding opening
+        all-passed h = rw (a, b, d, le-leb (storeSize x) lent h)
+
+pub passed-good : (x : Numbers) (list first second : List ℕ) → inRange x ≡ true → goodConstants x first second ≡ true
+    → goodNames (x .taxa) (namesIn list) ≡ true → goodOpening (openingOf x list first second) ≡ true
+unfolding goodOpening
+passed-good x list first second a b d = and-true a (and-true b d)
+
+-- ---- the answers of `open`
+
+pub refused-as : (a : Answer Opening) (k : ℕ) (r : Refusal) (s : List ℕ) → a ≡ refused k → refusalNumber r ≡ k → OpenedAs a (finish.Refused r) s s
+unfolding OpenedAs finishGiven
+refused-as a k r s e h = rw e (ap refused h, refl)
+
+pub done-as : (a : Answer Opening) (o : Opening) (s t : List ℕ) → a ≡ gives o → Holds (opened o) s t → OpenedAs a finish.Done s t
+unfolding OpenedAs finishGiven
+done-as a o s t e h = rw e (refl, h)
+
+-- ---- the head is written and the rest emptied
+
+pub lent-head : (x : Numbers) (lent : ℕ) → storeSize x ≤ lent → 4096 ≤ lent
+lent-head x lent h = omega (arith, size-least x)
+
+module _ (s t : List ℕ) (o : Opening) (e : openingAt t ≡ o) (n : length t ≡ length s) (f : storeSize (o .numbers) ≤ length s) where
+  head-size : sizeAt t ≡ storeSize (o .numbers)
+  unfolding sizeAt openingAt
+  head-size = ap (λ (x : Opening). storeSize (x .numbers)) e
+
+  pub lent-rest : sizeAt t ≤ length t
+  lent-rest = omega (arith, head-size)
+
+  module _ (z : drop 4096 t ≡ drop 4096 s) where
+    past-head : (i : ℕ) → 4096 ≤ i → getD t i 0 ≡ getD s i 0
+    past-head i h =
+        let q : 4096 + (i - 4096) ≡ i = omega arith in
+        rw (getD-drop 4096 t, getD-drop 4096 s, q) at (ap (λ (l : List ℕ). getD l (i - 4096) 0) z)
+
+    pub head-then-rest : (u : List ℕ) → goodOpening o ≡ true → number 2 t 10 ≡ 0 → number 2 t 12 ≡ 0 → ((i : ℕ) → getD t i 0 < 256) → Emptied t u → Holds (opened o) s u
+    unfolding opened
+    head-then-rest u g a b c p =
+        let l = size-least (o .numbers) in
+        let w = lent-head (o .numbers) (length t) (omega arith) in
+        let v : goodOpening (openingAt t) ≡ true = rw e g in
+        let x = trees-held-is t ∙ a in
+        let y = splits-held-is t ∙ b in
+        record {
+          whole = emptied-whole t u p w v lent-rest x y c;
+          held = emptied-held t u p w v lent-rest x y c ∙ ap opened e;
+          size = p .size ∙ n;
+          behind = λ i h. p .behind i (omega (arith, head-size)) ∙ past-head i (omega arith);
+        }
