@@ -1,0 +1,15 @@
+-- `distances::doubled` meets its contract. Assumes nothing.
+use native.Mathlib.Omega.{arith}
+use borrow.Author.Needs.{needs}
+use Rattle.distances.specs.Marks.{noMarks, marksOf}
+use Rattle.distances.proofs.doubled.Statement.{statement}
+use Rattle.distances.proofs.doubled.Tie as tie
+
+requires : tie.Need-distance-requires
+unfolding marksOf noMarks
+requires c κs =
+    let p = c .before .before .before .before .pre in
+    (p .0, (omega (arith, p .1 .0, p .1 .1), (c .before .mark-tree .ensures, omega (arith, p .1 .0, p .1 .1))))
+
+pub doubled-spec : {M : Type 1} → statement M
+doubled-spec = tie.close (tie.spec (λ c κs. search needs) requires (λ c. search needs))

@@ -1,0 +1,57 @@
+-- `distances::marks::mark_tree` meets its contract. The loop's invariant: with the rows from j on marked too, all are. Assumes nothing.
+use Prim.Native.Nat.{_≤_, _-_}
+use mathlib.Core.Path.{_≡_, refl, sym, _∙_}
+use native.Mathlib.Omega.{arith}
+use borrow.Author.Needs.{needs}
+use lib.ListN.{length, drop, length-set}
+use Rattle.layout.specs.Store.{listAt}
+use Rattle.distances.specs.Marks.{marked}
+use Rattle.distances.specs.MarkLaws.{marked-more, marked-end}
+use Rattle.distances.proofs.marks.mark_tree.Statement.{statement}
+use Rattle.distances.proofs.marks.mark_tree.Tie as tie
+
+abbrev Inv-loop : tie.InvT-loop
+Inv-loop s i v marks₀ from n j₀ marks j =
+    (j ≤ n) × (length marks ≡ 4096) × (marked v (listAt s i) marks₀ ≡ marked v (drop j (listAt s i)) marks)
+
+abbrev μ-loop : tie.MeasureT-loop
+μ-loop s i v marks₀ from n j₀ marks j = n - j
+
+loop-holds : tie.Need-loop-holds Inv-loop μ-loop
+loop-holds c = (omega arith, c .before .before .before .pre .1 .1, refl)
+
+row-requires : tie.Need-row-requires Inv-loop μ-loop
+row-requires c κs =
+    let p = c .before .before .before .before .before .pre in
+    (p .0, (p .1 .0, (c .before .before .before .tree-from .ensures .0, omega (arith, c .before .before .list-length .ensures .0))))
+
+loop-again : tie.Need-loop-again Inv-loop μ-loop
+loop-again c =
+    let d = c .before .before .before .before .before .before in
+    let l = c .before .before .loop in
+    let n = c .before .before .before .list-length .ensures .0 in
+    let q = marked-more (d .args .v) (listAt (d .args .s .now) (d .args .i)) (l .marks) (l .j) _ (omega (arith, n)) (c .row .ensures .0) in
+    (omega arith, length-set (l .marks) _ _ ∙ l .inv .1, l .inv .2 ∙ q)
+
+returns : tie.Need-returns Inv-loop μ-loop
+returns c =
+    let d = c .before .before .before .before .before in
+    let l = c .before .loop in
+    let n = c .before .before .list-length .ensures .0 in
+    sym (l .inv .2 ∙ marked-end (d .args .v) (listAt (d .args .s .now) (d .args .i)) (l .marks) (l .j) (omega (arith, n)))
+
+pub mark-tree-spec : {M : Type 1} → statement M
+mark-tree-spec =
+    tie.close
+    (tie.spec
+    Inv-loop
+    μ-loop
+    (λ c κs. search needs)
+    (λ c κs. search needs)
+    loop-holds
+    row-requires
+    (λ c. omega arith)
+    (λ c. omega arith)
+    (λ c. omega arith)
+    loop-again
+    returns)

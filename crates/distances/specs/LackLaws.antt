@@ -1,0 +1,76 @@
+-- Laws of the members of one list that another lacks. Assumes nothing.
+--
+--   oneSided-none        all of a list's members are lacking from no list at all
+--   oneSided-map         lists whose members are replaced by others, different for different members
+--   oneSided-skip        a list lacks as much with one more member that is not asked for
+--   oneSided-once        and one less with one that is asked for once
+--   oneSided-balance     what a has and b has not, beside b, is as much as what b has and a has not, beside a
+use Prim.Native.Nat.{ℕ, suc, _+_}
+use native.Mathlib.Omega.{arith}
+use mathlib.Core.Path.{_≡_, refl, ap, sym, _∙_}
+use mathlib.Core.Logic.{inl, inr}
+use mathlib.Core.Bool.{Bool, true, false}
+use mathlib.Core.List.{List, [], _∷_, map}
+use lib.Dec.{eqb}
+use lib.ListN.{length}
+use borrow.Author.Tests.{eqb-true, eqb-false, ne-eqb}
+use Rattle.trees.specs.Plain.{if_then_else_, member}
+use Rattle.trees.specs.Distance.{oneSided}
+use Rattle.theorems.specs.ListLaws.{Mem, member-mem, mem-member, member-not, not-member}
+use Rattle.theorems.specs.RisingLaws.{Rising}
+use Rattle.theorems.specs.DistanceLaws.{oneSided-has, oneSided-lacks}
+
+oneSided-none : (a : List ℕ) → oneSided a [] ≡ length a
+unfolding oneSided member
+oneSided-none [] = refl
+oneSided-none (m ∷ a) = ap suc (oneSided-none a)
+
+pub oneSided-map : (f : ℕ → ℕ) (a b : List ℕ) → ((k : ℕ) → Mem k a → member (f k) (map f b) ≡ member k b) → oneSided (map f a) (map f b) ≡ oneSided a b
+unfolding oneSided
+oneSided-map f [] b h = refl
+oneSided-map f (k ∷ a) b h = rw (h k (inl refl), oneSided-map f a b (λ x m. h x (inr m)))
+
+-- ---- one member more
+
+module _ (m : ℕ) (b : List ℕ) where
+  member-other : (y : ℕ) → (y ≡ m → ⊥) → member y (m ∷ b) ≡ member y b
+  unfolding member
+  member-other y n = rw (ne-eqb y m n)
+
+  oneSided-skip : (a : List ℕ) → (Mem m a → ⊥) → oneSided a (m ∷ b) ≡ oneSided a b
+  unfolding oneSided
+  oneSided-skip [] n = refl
+  oneSided-skip (y ∷ a) n = rw (member-other y (λ e. n (inl (sym e))), oneSided-skip a (λ h. n (inr h)))
+
+  oneSided-once : (a : List ℕ) → Rising a → Mem m a → member m b ≡ false → oneSided a b ≡ suc (oneSided a (m ∷ b))
+  oneSided-once [] r h f = absurd h
+  oneSided-once (y ∷ a) r h f = go (eqb y m) refl h (λ q. oneSided-once a (r .1) q f)
+    where
+      other : (t : Bool) → member y b ≡ t → (y ≡ m → ⊥) → oneSided a b ≡ suc (oneSided a (m ∷ b))
+          → oneSided (y ∷ a) b ≡ suc (oneSided (y ∷ a) (m ∷ b))
+      other true d n q = oneSided-has y a b d ∙ q ∙ ap suc (sym (oneSided-has y a (m ∷ b) (member-other y n ∙ d)))
+      other false d n q = oneSided-lacks y a b d ∙ ap suc (q ∙ sym (oneSided-lacks y a (m ∷ b) (member-other y n ∙ d)))
+
+      go : (t : Bool) → eqb y m ≡ t → Mem m (y ∷ a) → (Mem m a → oneSided a b ≡ suc (oneSided a (m ∷ b)))
+          → oneSided (y ∷ a) b ≡ suc (oneSided (y ∷ a) (m ∷ b))
+      go true d q ih =
+          let e = eqb-true y m d in
+          let x : oneSided (y ∷ a) (m ∷ b) ≡ oneSided a (m ∷ b) = oneSided-has y a (m ∷ b) (mem-member y (m ∷ b) (inl e)) in
+          oneSided-lacks y a b (rw e f) ∙ ap suc (sym (x ∙ oneSided-skip a (λ k. omega (arith, r .0 m k))))
+      go false d (inl q) ih = absurd (eqb-false y m d (sym q))
+      go false d (inr q) ih = other (member y b) refl (eqb-false y m d) (ih q)
+
+-- ---- both ways
+
+pub oneSided-balance : (a b : List ℕ) → Rising a → Rising b → length a + oneSided b a ≡ length b + oneSided a b
+unfolding oneSided
+oneSided-balance [] b p q = omega (arith, oneSided-none b)
+oneSided-balance (m ∷ a) b p q = go (member m b) refl (oneSided-balance a b (p .1) q)
+  where
+    again : member m a ≡ false
+    again = member-not m a (λ h. omega (arith, p .0 m h))
+
+    go : (t : Bool) → member m b ≡ t → length a + oneSided b a ≡ length b + oneSided a b
+        → length (m ∷ a) + oneSided b (m ∷ a) ≡ length b + oneSided (m ∷ a) b
+    go true e ih = omega (arith, oneSided-has m a b e, oneSided-once m a b q (member-mem m b e) again)
+    go false e ih = omega (arith, oneSided-lacks m a b e, oneSided-skip m a b (not-member m b e))

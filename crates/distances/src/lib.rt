@@ -1,0 +1,56 @@
+// The distances between the trees of a whole store, and their matrix.
+//
+// Its contracts cite, of crate trees, `specs/Distance.antt` (`oneSided`, `doubled`, `matrix`) and, of crate
+// layout, `specs/Store.antt` (`treeAt`, `heldAt`); `specs/Marks.antt` and `specs/Entries.antt` say what the
+// functions between do.
+ghost use mathlib.Core.Path.{_≡_};
+ghost use mathlib.Core.Bool.{true};
+ghost use mathlib.Core.List.{_++_};
+ghost use Prim.Native.Nat.{_*_, _≤_, _<_};
+ghost use lib.ListN.{length, drop};
+ghost use Rattle.trees.specs.Distance.{oneSided, doubled, matrix};
+ghost use Rattle.layout.specs.Store.{treesHeldAt, treeAt, heldAt};
+ghost use Rattle.store.specs.WholeStore.{wholeAt};
+use layout::Tree;
+
+mod marks;
+mod rows;
+
+// The number of splits of tree a that tree b lacks.
+pub fn one_sided(s: &[u8], a: Tree, b: Tree) -> u16
+    requires { ⌜ wholeAt (now s) ≡ true ⌝ }
+    requires { ⌜ (a .0 < treesHeldAt (now s)) × (b .0 < treesHeldAt (now s)) ⌝ }
+    ensures { λ r. ⌜ r ≡ oneSided (treeAt (now (s .entry)) (a .0)) (treeAt (now (s .entry)) (b .0)) ⌝ }
+{
+    let mut marks = [0; 4096];
+    marks::mark_tree(s, b.0, 1, &mut marks);
+    marks::lacking(s, b.0, &marks, a.0) as u16
+}
+
+// The doubled distance between the trees a and b.
+pub fn doubled(s: &[u8], a: Tree, b: Tree) -> u16
+    requires { ⌜ wholeAt (now s) ≡ true ⌝ }
+    requires { ⌜ (a .0 < treesHeldAt (now s)) × (b .0 < treesHeldAt (now s)) ⌝ }
+    ensures { λ r. ⌜ r ≡ doubled (treeAt (now (s .entry)) (a .0)) (treeAt (now (s .entry)) (b .0)) ⌝ }
+{
+    let mut marks = [0; 4096];
+    marks::mark_tree(s, a.0, 1, &mut marks);
+    marks::distance(s, a.0, &marks, b.0)
+}
+
+// Writes the doubled distances of all pairs of trees to the front of `out`, row by row.
+pub fn write_matrix(s: &[u8], out: &mut [u16])
+    requires { ⌜ wholeAt (now s) ≡ true ⌝ }
+    requires { ⌜ treesHeldAt (now s) * treesHeldAt (now s) ≤ length (now out) ⌝ }
+    ensures { λ r. ⌜ now (out .exit) ≡ matrix (heldAt (now (s .entry)) .trees) ++ drop (treesHeldAt (now (s .entry)) * treesHeldAt (now (s .entry))) (now (out .entry)) ⌝ }
+{
+    let trees = layout::trees_held(s);
+    let mut marks = [0; 4096];
+    let mut i = 0;
+    while i < trees {
+        marks::mark_tree(s, i, 1, &mut marks);
+        rows::write_row(s, i, &marks, out);
+        marks::mark_tree(s, i, 0, &mut marks);
+        i += 1;
+    }
+}

@@ -1,0 +1,94 @@
+-- `table::questions::copy_splits` meets its contract. The loop's invariant: the first k masks and counts are copied. Assumes nothing.
+use Prim.Native.Nat.{_≤_, _-_}
+use mathlib.Core.Path.{_≡_, refl, sym, _∙_}
+use mathlib.Core.List.{_++_}
+use native.Mathlib.Omega.{arith}
+use lib.ListN.{take, drop}
+use Rattle.layout.specs.Store.{splitsHeldAt, masksAt}
+use Rattle.store.specs.OrderLaws.{masks-length, number-mask}
+use Rattle.store.specs.SplitLaws.{split-read}
+use Rattle.table.specs.Counts.{countsAt}
+use Rattle.table.specs.CountsLaws.{counts-length, number-count, row-count}
+use Rattle.table.specs.ReadLaws.{long}
+use Rattle.table.specs.FrontLaws.{copied-length, copied-more, copied-all}
+use Rattle.table.proofs.questions.copy_splits.Statement.{statement}
+use Rattle.table.proofs.questions.copy_splits.Tie as tie
+
+abbrev Inv-loop : tie.InvT-loop
+Inv-loop s masks₀ counts₀ held k₀ masks counts k =
+    (k ≤ held) × (masks ≡ take k (masksAt s) ++ drop k masks₀) × (counts ≡ take k (countsAt s) ++ drop k counts₀)
+
+abbrev μ-loop : tie.MeasureT-loop
+μ-loop s masks₀ counts₀ held k₀ masks counts k = held - k
+
+mask-room : tie.Need-slice-write-masks Inv-loop μ-loop
+mask-room c =
+    let b = c .before .before .before .before .before .before .before .before in
+    let l = c .before .before .before .loop in
+    let n = masks-length (b .args .s .now) in
+    omega (arith, copied-length (masksAt (b .args .s .now)) _ _ (l .k) (l .inv .1) (omega arith) (omega arith), b .pre .1 .0)
+
+count-room : tie.Need-slice-write-counts Inv-loop μ-loop
+count-room c =
+    let b = c .before .before .before .before .before .before .before .before .before in
+    let l = c .before .before .before .before .loop in
+    let n = counts-length (b .args .s .now) in
+    omega (arith, copied-length (countsAt (b .args .s .now)) _ _ (l .k) (l .inv .2) (omega arith) (omega arith), b .pre .1 .1)
+
+loop-again : tie.Need-loop-again Inv-loop μ-loop
+loop-again c =
+    let b = c .before .before .before .before .before .before .before .before .before in
+    let s = b .args .s .now in
+    let l = c .before .before .before .before .loop in
+    let n = masks-length s in
+    let m = counts-length s in
+    let r = c .before .before .row-of .ensures .0 in
+    let p = split-read s (l .k) _ _ r (c .before .mask-at .ensures) ∙ sym (number-mask s (l .k) (omega arith)) in
+    let q = row-count s (l .k) _ _ r (c .count-at .ensures) ∙ sym (number-count s (l .k) (omega arith)) in (
+      omega arith,
+      copied-more (masksAt s) _ _ (l .k) (l .inv .1) _ (omega arith) (omega arith) p,
+      copied-more (countsAt s) _ _ (l .k) (l .inv .2) _ (omega arith) (omega arith) q,
+    )
+
+same-masks : tie.Need-same-length Inv-loop μ-loop
+same-masks c =
+    let b = c .before .before .before .before .before .before in
+    let l = c .before .loop in
+    let n = masks-length (b .args .s .now) in
+    copied-length (masksAt (b .args .s .now)) _ _ (l .k) (l .inv .1) (omega arith) (omega arith)
+
+same-counts : tie.Need-same-length-2 Inv-loop μ-loop
+same-counts c =
+    let b = c .before .before .before .before .before .before in
+    let l = c .before .loop in
+    let n = counts-length (b .args .s .now) in
+    copied-length (countsAt (b .args .s .now)) _ _ (l .k) (l .inv .2) (omega arith) (omega arith)
+
+returns : tie.Need-returns Inv-loop μ-loop
+returns c =
+    let s = c .before .before .before .before .before .before .args .s .now in
+    let l = c .before .loop in
+    let e : l .k ≡ splitsHeldAt s = omega arith in
+    (rw e at (copied-all _ _ _ _ (l .inv .1) (e ∙ sym (masks-length s))), rw e at (copied-all _ _ _ _ (l .inv .2) (e ∙ sym (counts-length s))))
+
+pub copy-splits-spec : {M : Type 1} → statement M
+copy-splits-spec =
+    tie.close
+    (tie.spec
+    Inv-loop
+    μ-loop
+    (λ c κs. long _ (c .before .before .before .pre .0))
+    (λ c. (omega arith, refl, refl))
+    (λ c κs. (c .before .before .before .before .before .before .pre .0, omega arith))
+    (λ c κs. (c .before .before .before .before .before .before .before .pre .0, c .row-of .ensures .1))
+    (λ c. omega arith)
+    mask-room
+    (λ c κs. (c .before .before .before .before .before .before .before .before .pre .0, c .before .row-of .ensures .1))
+    (λ c. omega arith)
+    count-room
+    (λ c. omega arith)
+    (λ c. omega arith)
+    loop-again
+    same-masks
+    same-counts
+    returns)

@@ -1,0 +1,16 @@
+-- `table::questions::split_count` meets its contract. Assumes nothing.
+use borrow.Author.Needs.{needs}
+use Rattle.opening.specs.GivenLaws.{failed, passed}
+use Rattle.table.specs.ReadLaws.{long}
+use Rattle.table.specs.QuestionLaws.{splits-refused, splits-given}
+use Rattle.table.proofs.questions.split_count.Statement.{statement}
+use Rattle.table.proofs.questions.split_count.Tie as tie
+
+pub split-count-spec : {M : Type 1} → statement M
+split-count-spec =
+    tie.close
+    (tie.spec
+    (λ c κs. search needs)
+    (λ c. splits-refused _ (failed _ _ (c .before .is-whole .ensures) (c .if1 .taken)))
+    (λ c κs. long _ (passed _ _ (c .before .is-whole .ensures) (c .if1 .left)))
+    (λ c. splits-given _ (passed _ _ (c .before .before .is-whole .ensures) (c .before .if1 .left)) _ (c .splits-held .ensures .0)))

@@ -1,0 +1,175 @@
+// The questions that a collection answers of itself: its trees and splits, how many there are, and
+// the lists of them. None of them writes into the store.
+//
+// `specs/Asked.antt` says what each answers; `specs/Counts.antt` has the list of the counts.
+ghost use mathlib.Core.Path.{_≡_};
+ghost use mathlib.Core.Bool.{true};
+ghost use mathlib.Core.List.{_++_};
+ghost use Prim.Native.Nat.{_≤_, _<_};
+ghost use lib.ListN.{length, getD, drop};
+ghost use Rattle.layout.specs.Store.{treesHeldAt, splitsHeldAt, maskAt, countAt, orderAt, masksAt, treeAt};
+ghost use Rattle.store.specs.WholeStore.{wholeAt};
+ghost use Rattle.table.specs.Answers.{numberGiven, splitGiven};
+ghost use Rattle.table.specs.Promises.{lengthGiven, front};
+ghost use Rattle.table.specs.Asked.{treesAsked, splitsAsked, splitAsked, splitListAsked, treeAsked, masksOf, countsOf};
+ghost use Rattle.table.specs.Counts.{countsAt};
+use crate::Number;
+use crate::Recorded;
+use crate::Refusal;
+use layout::Split;
+use layout::Tree;
+
+// How many trees are accepted.
+pub fn tree_count(s: &[u8]) -> Number
+    ensures { λ r. ⌜ numberGiven r ≡ treesAsked (now (s .entry)) ⌝ }
+{
+    if !store::is_whole(s) {
+        return Number::Refused(Refusal::NotWhole);
+    }
+    Number::Gives(layout::trees_held(s))
+}
+
+// How many splits are recorded.
+pub fn split_count(s: &[u8]) -> Number
+    ensures { λ r. ⌜ numberGiven r ≡ splitsAsked (now (s .entry)) ⌝ }
+{
+    if !store::is_whole(s) {
+        return Number::Refused(Refusal::NotWhole);
+    }
+    Number::Gives(layout::splits_held(s))
+}
+
+// The mask and the count of split number k.
+pub fn one_split(s: &[u8], k: Split) -> Recorded
+    ensures { λ r. ⌜ splitGiven r ≡ splitAsked (now (s .entry)) (k .0) ⌝ }
+{
+    if !store::is_whole(s) {
+        return Recorded::Refused(Refusal::NotWhole);
+    }
+    if layout::splits_held(s) <= k.0 {
+        return Recorded::Refused(Refusal::NoSuchNumber);
+    }
+    let row = row_of(s, k.0);
+    Recorded::Gives(mask_at(s, row), count_at(s, row))
+}
+
+// Every recorded split and its count, in order of mask, at the fronts of two buffers.
+pub fn split_list(s: &[u8], masks: &mut [u64], counts: &mut [u32]) -> Number
+    ensures { λ r. ⌜ numberGiven r ≡ lengthGiven (masksOf (splitListAsked (now (s .entry)) (length (now (masks .entry))) (length (now (counts .entry))))) ⌝ }
+    ensures { λ r. ⌜ now (masks .exit) ≡ front (masksOf (splitListAsked (now (s .entry)) (length (now (masks .entry))) (length (now (counts .entry))))) (now (masks .entry)) ⌝ }
+    ensures { λ r. ⌜ now (counts .exit) ≡ front (countsOf (splitListAsked (now (s .entry)) (length (now (masks .entry))) (length (now (counts .entry))))) (now (counts .entry)) ⌝ }
+{
+    if !store::is_whole(s) {
+        return Number::Refused(Refusal::NotWhole);
+    }
+    let held = layout::splits_held(s);
+    if masks.len() < held {
+        return Number::Refused(Refusal::TooShort);
+    }
+    if counts.len() < held {
+        return Number::Refused(Refusal::TooShort);
+    }
+    copy_splits(s, masks, counts);
+    Number::Gives(held)
+}
+
+// The splits of tree number i, in order of mask, at the front of a buffer.
+pub fn tree_splits(s: &[u8], i: Tree, masks: &mut [u64]) -> Number
+    ensures { λ r. ⌜ numberGiven r ≡ lengthGiven (treeAsked (now (s .entry)) (i .0) (length (now (masks .entry)))) ⌝ }
+    ensures { λ r. ⌜ now (masks .exit) ≡ front (treeAsked (now (s .entry)) (i .0) (length (now (masks .entry)))) (now (masks .entry)) ⌝ }
+{
+    if !store::is_whole(s) {
+        return Number::Refused(Refusal::NotWhole);
+    }
+    if layout::trees_held(s) <= i.0 {
+        return Number::Refused(Refusal::NoSuchNumber);
+    }
+    let n = splits_in(s, i.0);
+    if masks.len() < n {
+        return Number::Refused(Refusal::TooShort);
+    }
+    copy_tree(s, i.0, masks);
+    Number::Gives(n)
+}
+
+// Copies the recorded splits and their counts, in order of mask, to the fronts of the buffers.
+fn copy_splits(s: &[u8], masks: &mut [u64], counts: &mut [u32])
+    requires { ⌜ wholeAt (now s) ≡ true ⌝ }
+    requires { ⌜ splitsHeldAt (now s) ≤ length (now masks) ⌝ }
+    requires { ⌜ splitsHeldAt (now s) ≤ length (now counts) ⌝ }
+    ensures { λ r. ⌜ now (masks .exit) ≡ masksAt (now (s .entry)) ++ drop (splitsHeldAt (now (s .entry))) (now (masks .entry)) ⌝ }
+    ensures { λ r. ⌜ now (counts .exit) ≡ countsAt (now (s .entry)) ++ drop (splitsHeldAt (now (s .entry))) (now (counts .entry)) ⌝ }
+{
+    let held = layout::splits_held(s);
+    let mut k = 0;
+    while k < held {
+        let row = row_of(s, k);
+        masks[k] = mask_at(s, row);
+        counts[k] = count_at(s, row);
+        k += 1;
+    }
+}
+
+// Copies the splits of tree i to the front of the buffer.
+fn copy_tree(s: &[u8], i: usize, masks: &mut [u64])
+    requires { ⌜ wholeAt (now s) ≡ true ⌝ }
+    requires { ⌜ i < treesHeldAt (now s) ⌝ }
+    requires { ⌜ length (treeAt (now s) i) ≤ length (now masks) ⌝ }
+    ensures { λ r. ⌜ now (masks .exit) ≡ treeAt (now (s .entry)) i ++ drop (length (treeAt (now (s .entry)) i)) (now (masks .entry)) ⌝ }
+{
+    let n = splits_in(s, i);
+    let mut j = 0;
+    while j < n {
+        let row = row_in(s, i, j);
+        masks[j] = mask_at(s, row);
+        j += 1;
+    }
+}
+
+// How many splits tree i has.
+fn splits_in(s: &[u8], i: usize) -> usize
+    requires { ⌜ wholeAt (now s) ≡ true ⌝ }
+    requires { ⌜ i < treesHeldAt (now s) ⌝ }
+    ensures { λ r. ⌜ r ≡ length (treeAt (now (s .entry)) i) ⌝ }
+{
+    layout::number16(s, layout::tree_from(s, Tree(i)))
+}
+
+// The row of the split that stands in place j of tree i.
+fn row_in(s: &[u8], i: usize, j: usize) -> usize
+    requires { ⌜ wholeAt (now s) ≡ true ⌝ }
+    requires { ⌜ i < treesHeldAt (now s) ⌝ }
+    requires { ⌜ j < length (treeAt (now s) i) ⌝ }
+    ensures { λ r. ⌜ maskAt (now (s .entry)) r ≡ getD (treeAt (now (s .entry)) i) j 0 ⌝ }
+    ensures { λ r. ⌜ r < splitsHeldAt (now (s .entry)) ⌝ }
+{
+    layout::number16(s, layout::tree_from(s, Tree(i)) + 2 + 2 * j)
+}
+
+// The row of split number k.
+fn row_of(s: &[u8], k: usize) -> usize
+    requires { ⌜ wholeAt (now s) ≡ true ⌝ }
+    requires { ⌜ k < splitsHeldAt (now s) ⌝ }
+    ensures { λ r. ⌜ r ≡ orderAt (now (s .entry)) k ⌝ }
+    ensures { λ r. ⌜ r < splitsHeldAt (now (s .entry)) ⌝ }
+{
+    layout::number16(s, layout::order_from(s) + 2 * k)
+}
+
+// The mask of the split in a row.
+fn mask_at(s: &[u8], row: usize) -> u64
+    requires { ⌜ wholeAt (now s) ≡ true ⌝ }
+    requires { ⌜ row < splitsHeldAt (now s) ⌝ }
+    ensures { λ r. ⌜ r ≡ maskAt (now (s .entry)) row ⌝ }
+{
+    fields::get64(s, layout::masks_from(s) + 8 * row)
+}
+
+// The count of the split in a row.
+fn count_at(s: &[u8], row: usize) -> u32
+    requires { ⌜ wholeAt (now s) ≡ true ⌝ }
+    requires { ⌜ row < splitsHeldAt (now s) ⌝ }
+    ensures { λ r. ⌜ r ≡ countAt (now (s .entry)) row ⌝ }
+{
+    fields::get32(s, layout::counts_from(s) + 4 * row)
+}
