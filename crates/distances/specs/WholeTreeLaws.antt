@@ -3,7 +3,7 @@
 --   head-there       the head is lent
 --   trees-few        there are at most 1,024 trees
 --   tree-lent        each tree's bytes are lent
---   list-few         a tree lists at most 61 splits
+--   list-few         a tree lists at most 62 splits
 --   row-few          a row that a tree lists is below 4,096
 --   row-read         what the code reads as a row is one
 --   list-same        trees compared by their rows are compared by their splits
@@ -44,7 +44,7 @@ module _ (s : List ℕ) (w : wholeAt s ≡ true) where
     pub tree-lent : treeFrom s i + 128 ≤ length s
     tree-lent = tree-inside s head i h
 
-    pub list-few : length (listAt s i) ≤ 61
+    pub list-few : length (listAt s i) ≤ 62
     list-few = omega (arith, list-length s i, facts .lists i h .few)
 
     pub row-few : (k : ℕ) → Mem k (listAt s i) → k < 4096

@@ -49,7 +49,7 @@ pub(crate) fn lacking(s: &[u8], i: usize, marks: &[u8; 4096], j: usize) -> usize
     requires { ⌜ now marks ≡ marksOf (listAt (now s) i) ⌝ }
     requires { ⌜ j < treesHeldAt (now s) ⌝ }
     ensures { λ r. ⌜ r ≡ oneSided (treeAt (now (s .entry)) j) (treeAt (now (s .entry)) i) ⌝ }
-    ensures { λ r. ⌜ r ≤ 61 ⌝ }
+    ensures { λ r. ⌜ r ≤ 62 ⌝ }
 {
     count_unmarked(s, marks, j)
 }
@@ -60,7 +60,7 @@ fn count_unmarked(s: &[u8], marks: &[u8; 4096], j: usize) -> usize
     requires { ⌜ length (now marks) ≡ 4096 ⌝ }
     requires { ⌜ j < treesHeldAt (now s) ⌝ }
     ensures { λ r. ⌜ r ≡ unmarked (now (marks .entry)) (listAt (now (s .entry)) j) ⌝ }
-    ensures { λ r. ⌜ r ≤ 61 ⌝ }
+    ensures { λ r. ⌜ r ≤ 62 ⌝ }
 {
     let from = tree_from(s, j);
     let n = list_length(s, j);
@@ -81,7 +81,7 @@ fn list_length(s: &[u8], i: usize) -> usize
     requires { ⌜ wholeAt (now s) ≡ true ⌝ }
     requires { ⌜ i < treesHeldAt (now s) ⌝ }
     ensures { λ r. ⌜ r ≡ length (listAt (now (s .entry)) i) ⌝ }
-    ensures { λ r. ⌜ r ≤ 61 ⌝ }
+    ensures { λ r. ⌜ r ≤ 62 ⌝ }
 {
     layout::number16(s, tree_from(s, i))
 }

@@ -1,7 +1,14 @@
--- The answers of the calls, and what the calls promise of lent memory.
+-- The answers of the calls, what the calls promise of lent memory, and the laws of opening and of the questions.
 pub mod Answers
 pub mod Promises
 pub mod Emptied
 pub mod EmptiedLaws
 pub mod OpenLaws
 pub mod Asked
+pub mod Counts
+pub mod CountsLaws
+pub mod ReadLaws
+pub mod FrontLaws
+pub mod QuestionLaws
+pub mod Filled
+pub mod FilledLaws

@@ -64,7 +64,7 @@ module _ (s : List ℕ) (w : wholeAt s ≡ true) where
     pub tree-inside : treeFrom s i + 128 ≤ length s
     tree-inside = room.tree-inside s head-at i h
 
-    pub tree-most : length (treeAt s i) ≤ 61
+    pub tree-most : length (treeAt s i) ≤ 62
     tree-most = omega (arith, tree-length s i, facts .lists i h .few)
 
     module _ (j : ℕ) (l : j < length (treeAt s i)) where

@@ -9,9 +9,15 @@ ghost use Rattle.table.specs.Answers.{refusalNumber};
 use layout::Tree;
 
 mod opening_calls;
+mod questions;
 
 pub use opening_calls::open;
 pub use opening_calls::size;
+pub use questions::one_split;
+pub use questions::split_count;
+pub use questions::split_list;
+pub use questions::tree_count;
+pub use questions::tree_splits;
 
 // Why a call refuses: the table of document 01, in its order.
 pub enum Refusal {

@@ -11,7 +11,7 @@ use Rattle.table.proofs.questions.copy_tree.Statement.{statement}
 use Rattle.table.proofs.questions.copy_tree.Tie as tie
 
 abbrev Inv-loop : tie.InvT-loop
-Inv-loop s i masks₀ n j₀ masks j = (j ≤ n) × (n ≤ 61) × (masks ≡ take j (treeAt s i) ++ drop j masks₀)
+Inv-loop s i masks₀ n j₀ masks j = (j ≤ n) × (n ≤ 62) × (masks ≡ take j (treeAt s i) ++ drop j masks₀)
 
 abbrev μ-loop : tie.MeasureT-loop
 μ-loop s i masks₀ n j₀ masks j = n - j
