@@ -1,0 +1,2 @@
+-- The laws of the calls that compare trees.
+pub mod CompareLaws

@@ -1,0 +1,250 @@
+-- Feeding text after text. Assumes nothing.
+--
+--   small-answer       the number of a tree that is accepted is at most 1,024
+--   Going ..           i texts are fed, up to the place `at` of the piece; what is left of it decides the rest
+--   going-none, going-more     no text yet, and one more
+--   going-lane, going-index, going-part     what feeding the rest asks
+--   gone-holds, gone-verdicts     and behind the last text
+--   batched-length     the verdicts' buffer is as long as before
+--   batch-not-whole, batch-no-lane, batch-short, batch-done     what each return of the code promises
+use Prim.Native.Nat.{ℕ, zero, suc, _+_, _-_, _≤_, _<_}
+use native.Mathlib.Numerals.{add-one}
+use native.Mathlib.Omega.{arith}
+use mathlib.Core.Path.{_≡_, refl, sym, ap, subst, _∙_}
+use mathlib.Core.Bool.{Bool, true, false}
+use mathlib.Core.List.{List, [], _∷_, _++_, append-assoc, append-nil}
+use lib.Dec.{ltb}
+use lib.ListN.{length, getD, set, take, drop, length-append, length-set, length-drop, take-append-drop}
+use lib.Seq.{take-all, take-suc-set, drop-set-lt, drop-drop}
+use borrow.Author.Tests.{lt-ltb, le-ltb}
+use Rattle.trees.specs.Plain.{if_then_else_, member, Answer, refused, gives}
+use Rattle.trees.specs.Opening.{Opening, storeSize}
+use Rattle.trees.specs.Held.{Held, laneOf, withLane, longer, verdict, moreWanted, accepted, beforeSemicolon, finished, finishing, feeding}
+use Rattle.trees.specs.Held as held
+use Rattle.trees.specs.Batch.{semicolons, verdictNumber, Batched, withVerdict, batching, batch}
+use Rattle.theorems.specs.WrittenFedLaws.{feedingBy, feeding-by}
+use Rattle.theorems.specs.OwnLaneLaws.{feeding-opening}
+use Rattle.theorems.specs.ListLaws.{by-test}
+use Rattle.head.specs.Head.{numbersAt, namesAt, openingAt}
+use Rattle.head.specs.Index.{Indexed}
+use Rattle.layout.specs.Store.{sizeAt, heldAt}
+use Rattle.store.specs.WholeStore.{wholeAt}
+use Rattle.store.specs.WholeFacts.{whole-at-facts}
+use Rattle.store.specs.RecordedAtLaws.{trees-length}
+use Rattle.store.specs.HeldWholeLaws.{held-numbers, opening-facts}
+use Rattle.table.specs.Answers.{refusalNumber, numberGiven, progressGiven}
+use Rattle.table.specs.Promises.{ifWhole, Holds}
+use Rattle.table.specs.declared.Refusal.the-variants as why
+use Rattle.table.specs.declared.Number.{Number}
+use Rattle.table.specs.declared.Number.the-variants as number
+use Rattle.table.specs.declared.Fed.{Fed}
+use Rattle.feeding.specs.Feeding.{batchOf, BatchedAs}
+use Rattle.feeding.specs.Texts.{FedWell, Small}
+use Rattle.feeding.specs.EndLaws.{end-inside, no-text, one-text}
+use Rattle.feeding.specs.HoldLaws.{size-held}
+
+-- ---- the numbers of accepted trees
+
+trees-few : (s : List ℕ) → wholeAt s ≡ true → length (heldAt s .trees) ≤ 1024
+unfolding openingAt
+trees-few s w = omega (arith, trees-length s, whole-at-facts s w .head .trees-fit, opening-facts s w .ranges .most-trees)
+
+pub small-answer : (s : List ℕ) (l : ℕ) (p : List ℕ) → wholeAt s ≡ true → Small (feeding (heldAt s) l p .answer)
+unfolding finishing
+small-answer s l p w =
+    subst (λ (f : held.Fed). Small (f .answer)) (sym (feeding-by (heldAt s) l p)) (go (ltb l (heldAt s .opening .numbers .lanes)) (member 59 p))
+  where
+    done : (v : Answer (List ℕ)) → Small (finished (heldAt s) v)
+    done (refused k) = unfold Small finished in tt
+    done (gives t) = unfold Small finished in trees-few s w
+
+    go : (b c : Bool) → Small (feedingBy b c (heldAt s) l p .answer)
+    go true true = done (verdict (heldAt s) (longer (laneOf (heldAt s) l) (beforeSemicolon p)))
+    go true false = unfold Small in tt
+    go false c = unfold Small in tt
+
+-- ---- one text
+
+-- a piece with a semicolon, fed to a lane that is there, is taken up to its first one
+fed-taken : (h : Held) (l : ℕ) (p : List ℕ) → l < h .opening .numbers .lanes → member 59 p ≡ true → feeding h l p .taken ≡ suc (length (beforeSemicolon p))
+unfolding finishing
+fed-taken h l p m e = ap (λ (f : held.Fed). f .taken) (feeding-by h l p) ∙ rw (lt-ltb l (h .opening .numbers .lanes) m, e) refl
+
+has-text : (p : List ℕ) → 0 < semicolons p → member 59 p ≡ true
+has-text p h = go (member 59 p) refl
+  where
+    go : (b : Bool) → member 59 p ≡ b → b ≡ true
+    go true e = refl
+    go false e = absurd (omega (arith, no-text p e))
+
+-- ---- text after text
+
+pub record Going (s₀ : List ℕ) (l : ℕ) (p : List ℕ) (n : ℕ) (v₀ s v : List ℕ) (at i : ℕ) : Type 0 where
+  pub within : i ≤ n
+  pub reach : at ≤ length p
+  pub texts : i + semicolons (drop at p) ≡ n
+  pub whole : wholeAt s ≡ true
+  pub opening : heldAt s .opening ≡ heldAt s₀ .opening
+  pub size : length s ≡ length s₀
+  pub behind : (j : ℕ) → sizeAt s₀ ≤ j → getD s j 0 ≡ getD s₀ j 0
+  pub room : length v ≡ length v₀
+  pub kept : drop i v ≡ drop i v₀
+  pub verdicts : batching n (heldAt s₀) l p .verdicts ≡ take i v ++ batching (semicolons (drop at p)) (heldAt s) l (drop at p) .verdicts
+  pub after : batching n (heldAt s₀) l p .after ≡ batching (semicolons (drop at p)) (heldAt s) l (drop at p) .after
+
+pub going-none : (s : List ℕ) (l : ℕ) (p : List ℕ) (n : ℕ) (v : List ℕ) → wholeAt s ≡ true → n ≡ semicolons p → Going s l p n v s v 0 0
+going-none s l p n v w e = record {
+  within = omega arith;
+  reach = omega arith;
+  texts = omega arith;
+  whole = w;
+  opening = refl;
+  size = refl;
+  behind = λ j h. refl;
+  room = refl;
+  kept = refl;
+  verdicts = rw e refl;
+  after = rw e refl;
+}
+
+module _ (s₀ : List ℕ) (l : ℕ) (p : List ℕ) (n : ℕ) (v₀ s v : List ℕ) (at i : ℕ) (m : l < numbersAt s₀ .lanes) (g : Going s₀ l p n v₀ s v at i) where
+  numbers-in : numbersAt s ≡ numbersAt s₀
+  unfolding heldAt openingAt
+  numbers-in = ap (λ (o : Opening). o .numbers) (g .opening)
+
+  pub going-lane : l < numbersAt s .lanes
+  going-lane = rw numbers-in m
+
+  pub going-index : (starts links : List ℕ) → Indexed (namesAt s₀) starts links → Indexed (namesAt s) starts links
+  unfolding heldAt openingAt
+  going-index starts links x = rw (ap (λ (o : Opening). o .names) (g .opening)) x
+
+  -- the rest of the piece, as it is lent
+  pub going-part : (r : Fed) (t : List ℕ) → FedWell s l (take (length p - at) (drop at p)) r t → FedWell s l (drop at p) r t
+  going-part r t f = subst (λ (q : List ℕ). FedWell s l q r t) (take-all (length p - at) (drop at p) (omega (arith, length-drop at p))) f
+
+  module _ (r : Fed) (t : List ℕ) (f : FedWell s l (drop at p) r t) where
+    after-held : heldAt t ≡ feeding (heldAt s) l (drop at p) .after
+    after-held = f .left .holds .held
+
+    opening-on : heldAt t .opening ≡ heldAt s₀ .opening
+    opening-on = ap (λ (h : Held). h .opening) after-held ∙ feeding-opening (heldAt s) l (drop at p) ∙ g .opening
+
+    behind-on : (j : ℕ) → sizeAt s₀ ≤ j → getD t j 0 ≡ getD s₀ j 0
+    behind-on j b =
+        let z : storeSize (feeding (heldAt s) l (drop at p) .after .opening .numbers) ≡ sizeAt s₀ =
+        ap (λ (o : Opening). storeSize (o .numbers)) (feeding-opening (heldAt s) l (drop at p) ∙ g .opening) ∙ size-held s₀ in
+        f .left .holds .behind j (omega arith) ∙ g .behind j b
+
+    module _ (d : i < n) (fits : n ≤ length v₀) where
+      some-text : member 59 (drop at p) ≡ true
+      some-text = has-text (drop at p) (omega (arith, g .texts))
+
+      lane-in : l < heldAt s .opening .numbers .lanes
+      lane-in = rw (held-numbers s) going-lane
+
+      taken-is : feeding (heldAt s) l (drop at p) .taken ≡ suc (length (beforeSemicolon (drop at p)))
+      taken-is = fed-taken (heldAt s) l (drop at p) lane-in some-text
+
+      -- what is left behind this text
+      rest : drop (r .taken) (drop at p) ≡ drop (at + r .taken) p
+      rest = drop-drop (r .taken) at p
+
+      one-less : semicolons (drop at p) ≡ suc (semicolons (drop (at + r .taken) p))
+      one-less = one-text (drop at p) some-text ∙ ap suc (ap semicolons (ap (λ (k : ℕ). drop k (drop at p)) (sym (f .taken ∙ taken-is)) ∙ rest))
+
+      batch-on : batching (semicolons (drop at p)) (heldAt s) l (drop at p)
+          ≡ withVerdict (verdictNumber (progressGiven (r .progress))) (batching (semicolons (drop (at + r .taken) p)) (heldAt t) l (drop (at + r .taken) p))
+      unfolding batching
+      batch-on = rw (one-less, f .answer, after-held, ← rest, f .taken)
+
+      pub taken-fits : at + r .taken ≤ length p
+      taken-fits = omega (arith, f .taken, taken-is, end-inside (drop at p) some-text, length-drop at p)
+
+      pub going-more : (x : ℕ) → x ≡ verdictNumber (progressGiven (r .progress)) → Going s₀ l p n v₀ t (set v i x) (at + r .taken) (i + 1)
+      unfolding withVerdict
+      going-more x e = record {
+        within = omega arith;
+        reach = taken-fits;
+        texts = omega (arith, g .texts, one-less);
+        whole = f .left .holds .whole;
+        opening = opening-on;
+        size = f .left .holds .size ∙ g .size;
+        behind = behind-on;
+        room = length-set v i x ∙ g .room;
+        kept = rw (add-one i) (drop-set-lt (suc i) v i x (omega arith) ∙ next-kept);
+        verdicts =
+            g .verdicts
+            ∙ rw (batch-on, add-one i, take-suc-set v i x (omega (arith, g .room)), ← e) (sym (append-assoc (take i v) (x ∷ []) _));
+        after = g .after ∙ rw batch-on refl;
+      }
+        where
+          next : (y : List ℕ) → drop (suc i) y ≡ drop 1 (drop i y)
+          next y = sym (drop-drop 1 i y ∙ ap (λ (k : ℕ). drop k y) (add-one i))
+
+          next-kept : drop (suc i) v ≡ drop (suc i) v₀
+          next-kept = next v ∙ ap (drop 1) (g .kept) ∙ sym (next v₀)
+
+    -- behind the last text nothing is left to judge
+    module _ (d : i ≡ n) where
+      none-left : semicolons (drop at p) ≡ 0
+      none-left = omega (arith, g .texts)
+
+      last-after : batching n (heldAt s₀) l p .after ≡ heldAt t
+      unfolding batching
+      last-after = g .after ∙ rw (none-left, after-held) refl
+
+      last-verdicts : batching n (heldAt s₀) l p .verdicts ≡ take n v
+      unfolding batching
+      last-verdicts = g .verdicts ∙ rw (none-left, ← d) (append-nil (take i v))
+
+      pub gone-holds : Holds (batching n (heldAt s₀) l p .after) s₀ t
+      gone-holds = rw last-after (record {
+        whole = f .left .holds .whole;
+        held = refl;
+        size = f .left .holds .size ∙ g .size;
+        behind = λ j b. behind-on j (omega (arith, ap (λ (o : Opening). storeSize (o .numbers)) opening-on, size-held s₀));
+      })
+
+      pub gone-verdicts : v ≡ batching n (heldAt s₀) l p .verdicts ++ drop n v₀
+      gone-verdicts = sym (take-append-drop n v) ∙ rw (last-verdicts, ← d, g .kept) refl
+
+-- ---- the returns of a batch
+
+batching-length : (n : ℕ) (h : Held) (l : ℕ) (p : List ℕ) → length (batching n h l p .verdicts) ≡ n
+unfolding batching withVerdict
+batching-length zero h l p = refl
+batching-length (suc n) h l p = ap suc (batching-length n (feeding h l p .after) l (drop (feeding h l p .taken) p))
+
+pub batched-length : (n : ℕ) (h : Held) (l : ℕ) (p v x : List ℕ) → n ≤ length v → x ≡ batching n h l p .verdicts ++ drop n v → length x ≡ length v
+batched-length n h l p v x f e =
+    rw e (omega (arith, length-append (batching n h l p .verdicts) (drop n v), batching-length n h l p, length-drop n v))
+
+module _ (s : List ℕ) (l : ℕ) (p v : List ℕ) where
+  pub batch-not-whole : wholeAt s ≡ false → BatchedAs (batchOf s l p (length v)) (number.Refused why.NotWhole) s v s v
+  unfolding batchOf ifWhole BatchedAs numberGiven refusalNumber
+  batch-not-whole e = rw e (refl, refl, refl)
+
+  module _ (w : wholeAt s ≡ true) where
+    batch-whole : batchOf s l p (length v) ≡ batch (heldAt s) l p (length v)
+    unfolding batchOf ifWhole
+    batch-whole = rw w
+
+    pub batch-no-lane : numbersAt s .lanes ≤ l → BatchedAs (batchOf s l p (length v)) (number.Refused why.NoLane) s v s v
+    batch-no-lane h = rw (batch-whole, nowhere) (unfold BatchedAs numberGiven refusalNumber in (refl, refl, refl))
+      where
+        nowhere : batch (heldAt s) l p (length v) ≡ refused 5
+        nowhere = unfold batch in rw (held-numbers s, le-ltb l (numbersAt s .lanes) h)
+
+    module _ (m : l < numbersAt s .lanes) (n : ℕ) (e : n ≡ semicolons p) where
+      batch-here : batch (heldAt s) l p (length v) ≡ (if ltb (length v) n then refused 4 else gives (batching n (heldAt s) l p))
+      unfolding batch
+      batch-here = rw (held-numbers s, lt-ltb l (numbersAt s .lanes) m, e)
+
+      pub batch-short : length v < n → BatchedAs (batchOf s l p (length v)) (number.Refused why.TooShort) s v s v
+      batch-short h = rw (batch-whole, batch-here, lt-ltb (length v) n h) (unfold BatchedAs numberGiven refusalNumber in (refl, refl, refl))
+
+      pub batch-done : n ≤ length v → (t x : List ℕ) → Holds (batching n (heldAt s) l p .after) s t → x ≡ batching n (heldAt s) l p .verdicts ++ drop n v
+          → BatchedAs (batchOf s l p (length v)) (number.Gives n) s v t x
+      batch-done h t x a q =
+          rw (batch-whole, batch-here, le-ltb (length v) n h) (unfold BatchedAs numberGiven in (ap gives (sym (batching-length n (heldAt s) l p)), a, rw (batching-length n (heldAt s) l p) q))

@@ -1,0 +1,94 @@
+-- Closing a lane, return by return. Assumes nothing.
+--
+--   closed-refused     what closing answers, where its number is a refusal's
+--   closed-done        and where it is neither 6 nor 7
+--   close-not-whole, close-no-lane, close-lane     what each return of the code promises
+use Prim.Native.Nat.{ℕ, _≤_, _<_}
+use native.Mathlib.Omega.{arith}
+use mathlib.Core.Path.{_≡_, refl, sym, ap, _∙_}
+use mathlib.Core.Bool.{Bool, true, false}
+use mathlib.Core.List.{List, []}
+use lib.Dec.{ltb}
+use borrow.Author.Tests.{lt-ltb, le-ltb}
+use Rattle.trees.specs.Plain.{if_then_else_, every, Answer, refused, gives}
+use Rattle.trees.specs.Text.{isBlank}
+use Rattle.trees.specs.Held.{Held, Lane, holding, overrun, Closed, laneOf, withLane, closed, closing}
+use Rattle.theorems.specs.ListLaws.{if-true, if-false}
+use Rattle.head.specs.Head.{numbersAt}
+use Rattle.layout.specs.Store.{heldAt}
+use Rattle.store.specs.WholeStore.{wholeAt}
+use Rattle.store.specs.HeldWholeLaws.{held-numbers}
+use Rattle.lanes.specs.Lanes.{LaneIs, closedNumber}
+use Rattle.table.specs.Answers.{refusalNumber, finishGiven}
+use Rattle.table.specs.declared.Refusal.the-variants as why
+use Rattle.table.specs.declared.Finish.{Finish}
+use Rattle.table.specs.declared.Finish.the-variants as finish
+use Rattle.feeding.specs.Feeding.{reached, closedOf, ClosedAs}
+use Rattle.feeding.specs.HoldLaws.{lane-holds, not-whole, no-lane, in-place, both-ways}
+
+-- ---- the answer
+
+pub closed-refused : (a : Answer (Unit {0})) (k : ℕ) → k ≡ closedNumber a → (k ≡ 0 → ⊥) → a ≡ refused k
+unfolding closedNumber
+closed-refused (refused j) k e f = ap refused (sym e)
+closed-refused (gives x) k e f = absurd (f e)
+
+pub closed-done : (x : Lane) (k : ℕ) → k ≡ closedNumber (closed x) → (k ≡ 6 → ⊥) → (k ≡ 7 → ⊥) → closed x ≡ gives tt
+unfolding closed closedNumber
+closed-done overrun k e f g = absurd (f e)
+closed-done (holding s) k e f g = go (every isBlank s) e
+  where
+    answer : Bool → Answer (Unit {0})
+    answer b = if b then gives tt else refused 7
+
+    go : (b : Bool) → k ≡ closedNumber (answer b) → answer b ≡ gives tt
+    go true q = refl
+    go false q = absurd (g q)
+
+-- ---- the returns
+
+module _ (s : List ℕ) (l : ℕ) where
+  closed-not-whole : wholeAt s ≡ false → closedOf s l .answer ≡ refused 1
+  unfolding closedOf
+  closed-not-whole e = rw e
+
+  pub close-not-whole : wholeAt s ≡ false → ClosedAs s l (finish.Refused why.NotWhole) s
+  unfolding finishGiven refusalNumber
+  close-not-whole e = record {
+    answer = sym (closed-not-whole e);
+    found = λ f. refl;
+    holds = λ f. absurd (both-ways (reached s l) (not-whole s l e) f);
+    outside = λ i b. refl;
+  }
+
+  module _ (w : wholeAt s ≡ true) where
+    closed-whole : closedOf s l ≡ closing (heldAt s) l
+    unfolding closedOf
+    closed-whole = rw w
+
+    module _ (h : numbersAt s .lanes ≤ l) where
+      closing-nowhere : closing (heldAt s) l .answer ≡ refused 5
+      unfolding closing
+      closing-nowhere = rw (held-numbers s, le-ltb l (numbersAt s .lanes) h)
+
+      pub close-no-lane : ClosedAs s l (finish.Refused why.NoLane) s
+      unfolding finishGiven refusalNumber
+      close-no-lane = record {
+        answer = sym (ap (λ (c : Closed). c .answer) closed-whole ∙ closing-nowhere);
+        found = λ f. refl;
+        holds = λ f. absurd (both-ways (reached s l) (no-lane s l h) f);
+        outside = λ i b. refl;
+      }
+
+    module _ (h : l < numbersAt s .lanes) where
+      closing-here : closing (heldAt s) l ≡ record { answer = closed (laneOf (heldAt s) l); after = withLane (heldAt s) l (holding []) }
+      unfolding closing
+      closing-here = rw (held-numbers s, lt-ltb l (numbersAt s .lanes) h)
+
+      pub close-lane : (r : Finish) (t : List ℕ) → finishGiven r ≡ closed (laneOf (heldAt s) l) → LaneIs s l (holding []) t → ClosedAs s l r t
+      close-lane r t e c = record {
+        answer = rw (closed-whole, closing-here) e;
+        found = λ f. absurd (both-ways (reached s l) f (in-place s l w h));
+        holds = λ f. rw (closed-whole, closing-here) (lane-holds s l (holding []) t h c);
+        outside = c .outside;
+      }

@@ -1,0 +1,205 @@
+-- The verdict on a lane's text, case by case. Assumes nothing.
+--
+--   verdict-over, verdict-refused, verdict-room     the verdict on a lane that ran over; on a text that is refused; on one that gives splits
+--   held-text          the text that a lane holds
+--   judged-refused, judged-gives     what the reader answers
+--   opening-kept       a lane changed: the opening stays
+--   judgeable          what accepting a tree asks, of the splits that stand at the fronts of three lists
+--   front-tree         the splits that stand at the front
+--   accepts-size       the lent bytes are as many as before
+--   finish-refused     a refused text: the lane is empty, and nothing else has changed
+--   finish-room        a text that gives splits: refused for want of room, or recorded
+use Prim.Native.Nat.{ℕ, zero, suc, _+_, _≤_, _<_}
+use native.Mathlib.Omega.{arith}
+use mathlib.Core.Path.{_≡_, refl, sym, ap, ap₂, subst, _∙_}
+use mathlib.Core.Logic.{inl, inr}
+use mathlib.Core.Bool.{true, false, true≢false}
+use mathlib.Core.List.{List, [], _∷_, _++_, map}
+use lib.ListN.{length, getD, take, drop, length-append, length-drop}
+use lib.Seq.{take-append-seam}
+use Rattle.trees.specs.Plain.{Answer, refused, gives}
+use Rattle.trees.specs.Hash.{place, identifier}
+use Rattle.trees.specs.Opening.{Opening, storeSize}
+use Rattle.trees.specs.Held.{Held, Lane, holding, overrun, laneOf, withLane, withTree, roomFor, withRoom, verdict, finished, recording, accepted}
+use Rattle.trees.specs.Whole.{goodTree}
+use Rattle.trees.specs.Verdict.{judged}
+use Rattle.theorems.specs.VerdictLaws.{judged-good}
+use Rattle.theorems.specs.FewLaws.{few-splits}
+use Rattle.theorems.specs.OpeningLaws.{GoodOpening}
+use Rattle.fields.specs.Field.{number}
+use Rattle.head.specs.Head.{numbersAt, firstAt, secondAt, namesAt, openingAt}
+use Rattle.layout.specs.Store.{treesHeldAt, laneFrom, sizeAt, heldAt}
+use Rattle.store.specs.WholeStore.{wholeAt}
+use Rattle.store.specs.RecordedAtLaws.{trees-length}
+use Rattle.store.specs.HeldWholeLaws.{opening-facts}
+use Rattle.lanes.specs.Lanes.{LaneIs}
+use Rattle.lanes.specs.LaneLaws.{lane-holding}
+use Rattle.newick.specs.Splits.{Stands}
+use Rattle.newick.specs.Judge.{JudgedAs}
+use Rattle.newick.specs.declared.Judged.{Judged}
+use Rattle.newick.specs.declared.Judged.the-variants.{Refused, Splits}
+use Rattle.recording.specs.Recording.{Recorded}
+use Rattle.table.specs.Answers.{progressGiven}
+use Rattle.table.specs.Promises.{Holds}
+use Rattle.table.specs.declared.Progress.{Progress}
+use Rattle.feeding.specs.Feeding.{isAccepted}
+use Rattle.feeding.specs.Texts.{Left, verdictOn, Finished, Judgeable, Accepts}
+use Rattle.feeding.specs.HoldLaws.{size-held, lane-below, lane-holds}
+
+-- ---- the verdict
+
+module _ (s : List ℕ) (l : ℕ) where
+  pub verdict-over : laneOf (heldAt s) l ≡ overrun → verdictOn s l ≡ refused 6
+  unfolding verdictOn verdict
+  verdict-over e = rw e
+
+  verdict-held : (x : List ℕ) → laneOf (heldAt s) l ≡ holding x → verdictOn s l ≡ withRoom (heldAt s) (judged (heldAt s .opening .names) x)
+  unfolding verdictOn verdict
+  verdict-held x e = rw e
+
+  names-held : heldAt s .opening .names ≡ openingAt s .names
+  unfolding heldAt
+  names-held = refl
+
+  pub verdict-refused : (x : List ℕ) (k : ℕ) → laneOf (heldAt s) l ≡ holding x → judged (openingAt s .names) x ≡ refused k → verdictOn s l ≡ refused k
+  unfolding withRoom
+  verdict-refused x k e q = verdict-held x e ∙ rw (names-held, q)
+
+  pub verdict-room : (x t : List ℕ) → laneOf (heldAt s) l ≡ holding x → judged (openingAt s .names) x ≡ gives t → verdictOn s l ≡ roomFor (heldAt s) t
+  unfolding withRoom
+  verdict-room x t e q = verdict-held x e ∙ rw (names-held, q)
+
+-- the text that a lane holds
+pub held-text : (s : List ℕ) (w : wholeAt s ≡ true) (l : ℕ) → l < numbersAt s .lanes → (n : ℕ) → n ≡ number 2 s (laneFrom l) → (n ≡ 4097 → ⊥)
+    → laneOf (heldAt s) l ≡ holding (take n (drop (laneFrom l + 8) s))
+held-text s w l m n e d = lane-holding s w l m (λ q. d (e ∙ q)) ∙ rw e
+
+-- ---- the reader's answer
+
+module _ (o : Opening) (s : List ℕ) (r : Judged) (ms ps is ms′ ps′ is′ : List ℕ) (h : JudgedAs o s r ms ps is ms′ ps′ is′) (k : ℕ) where
+  pub judged-refused : r ≡ Refused k → judged (o .names) s ≡ refused k
+  unfolding JudgedAs
+  judged-refused e = subst (λ (z : Judged). JudgedAs o s z ms ps is ms′ ps′ is′) e h .0
+
+  pub judged-gives : r ≡ Splits k → (l : List ℕ) × (judged (o .names) s ≡ gives l) × (k ≡ length l) × Stands o l ms ps is ms′ ps′ is′
+  unfolding JudgedAs
+  judged-gives e = subst (λ (z : Judged). JudgedAs o s z ms ps is ms′ ps′ is′) e h
+
+-- ---- a lane changed
+
+module _ (s : List ℕ) (l : ℕ) (y : Lane) (u : List ℕ) (c : LaneIs s l y u) where
+  pub opening-kept : openingAt u ≡ openingAt s
+  unfolding heldAt withLane
+  opening-kept = ap (λ (h : Held). h .opening) (c .held)
+
+  room-kept : (t : List ℕ) → roomFor (heldAt u) t ≡ roomFor (heldAt s) t
+  unfolding roomFor withLane
+  room-kept t = ap (λ (h : Held). roomFor h t) (c .held)
+
+  trees-kept : treesHeldAt u ≡ length (heldAt s .trees)
+  unfolding withLane
+  trees-kept = sym (trees-length u) ∙ ap (λ (h : Held). length (h .trees)) (c .held)
+
+  size-kept : sizeAt u ≡ sizeAt s
+  unfolding sizeAt openingAt
+  size-kept = ap (λ (o : Opening). storeSize (o .numbers)) opening-kept
+
+-- ---- splits at the fronts of three lists
+
+pub front-tree : (o : Opening) (x : List ℕ) (k : ℕ) (ms ps is ms′ ps′ is′ : List ℕ) → k ≡ length x → Stands o x ms ps is ms′ ps′ is′ → take k ms′ ≡ x
+front-tree o x k ms ps is ms′ ps′ is′ e t = rw (e, t .masks) (take-append-seam x (drop (length x) ms))
+
+front-at : (x r : List ℕ) (j : ℕ) → j < length x → getD (x ++ r) j 0 ≡ getD x j 0
+front-at [] r j h = absurd (omega arith)
+front-at (y ∷ x) r zero h = refl
+front-at (y ∷ x) r (suc j) h = front-at x r j (omega arith)
+
+map-at : (f : ℕ → ℕ) (x r : List ℕ) (j : ℕ) → j < length x → getD (map f x ++ r) j 0 ≡ f (getD x j 0)
+map-at f [] r j h = absurd (omega arith)
+map-at f (y ∷ x) r zero h = refl
+map-at f (y ∷ x) r (suc j) h = map-at f x r j (omega arith)
+
+length-map : (f : ℕ → ℕ) (l : List ℕ) → length (map f l) ≡ length l
+length-map f [] = refl
+length-map f (x ∷ l) = ap suc (length-map f l)
+
+module _ (s u text x : List ℕ) (k : ℕ) (ms ps is ms′ ps′ is′ : List ℕ)
+    (w : wholeAt s ≡ true) (o : openingAt u ≡ openingAt s) (q : judged (openingAt s .names) text ≡ gives x) (e : k ≡ length x)
+    (a : 64 ≤ length ms) (b : 64 ≤ length ps) (c : 64 ≤ length is) (t : Stands (openingAt s) x ms ps is ms′ ps′ is′) where
+  named : length (openingAt s .names) ≡ openingAt s .numbers .taxa
+  named = opening-facts s w .named .count
+
+  few : length x ≤ 62
+  few = let g = opening-facts s w .ranges in omega (arith, few-splits (openingAt s .names) text x (omega (arith, named, g .least-taxa)) q, named, g .most-taxa)
+
+  mask-in : (j : ℕ) → j < k → getD ms′ j 0 ≡ getD x j 0
+  mask-in j h = rw (t .masks) (front-at x (drop (length x) ms) j (omega arith))
+
+  numbers-in : numbersAt u ≡ openingAt s .numbers
+  unfolding openingAt
+  numbers-in = ap (λ (z : Opening). z .numbers) o
+
+  first-in : firstAt u ≡ openingAt s .first
+  unfolding openingAt
+  first-in = ap (λ (z : Opening). z .first) o
+
+  second-in : secondAt u ≡ openingAt s .second
+  unfolding openingAt
+  second-in = ap (λ (z : Opening). z .second) o
+
+  -- what stands at the front is as long as the splits, and what lay behind is kept
+  still-long : (y old new : List ℕ) → length y ≡ length x → 64 ≤ length old → new ≡ y ++ drop (length x) old → 64 ≤ length new
+  still-long y old new d f g = rw g (omega (arith, length-append y (drop (length x) old), length-drop (length x) old))
+
+  pub judgeable : Judgeable u k ms′ ps′ is′
+  judgeable = record {
+    few = omega (arith, few, e);
+    reach = (
+      still-long x ms ms′ refl a (t .masks),
+      still-long (map (place (openingAt s .first) (openingAt s .numbers .places)) x) ps ps′ (length-map (place (openingAt s .first) (openingAt s .numbers .places)) x) b (t .places),
+      still-long (map (identifier (openingAt s .second)) x) is is′ (length-map (identifier (openingAt s .second)) x) c (t .identifiers),
+    );
+    good = rw (numbers-in, front-tree (openingAt s) x k ms ps is ms′ ps′ is′ e t, ← named) (judged-good (openingAt s .names) text x q);
+    placed = λ j h. rw (first-in, numbers-in, mask-in j h, t .places) (map-at (place (openingAt s .first) (openingAt s .numbers .places)) x (drop (length x) ps) j (omega arith));
+    identified = λ j h. rw (second-in, mask-in j h, t .identifiers) (map-at (identifier (openingAt s .second)) x (drop (length x) is) j (omega arith));
+  }
+
+-- ---- the text is judged, and the lane empty
+
+pub accepts-size : (a : Answer (List ℕ)) (s : List ℕ) (r : Progress) (t : List ℕ) → Accepts a s r t → length t ≡ length s
+unfolding Accepts
+accepts-size (refused k) s r t h = ap length (h .1)
+accepts-size (gives x) s r t h = h .1 .size
+
+module _ (s : List ℕ) (l : ℕ) (h : l < numbersAt s .lanes) (u : List ℕ) (c : LaneIs s l (holding []) u) where
+  pub finish-refused : (r : Progress) (k : ℕ) → verdictOn s l ≡ refused k → progressGiven r ≡ refused k → Finished s l r u
+  unfolding finished recording
+  finish-refused r k v e = record {
+    answer = rw v e;
+    left = rw v (record { holds = lane-holds s l (holding []) u h c; outside = λ z. c .outside });
+  }
+
+  recorded-holds : (x t : List ℕ) → Recorded u x t → Holds (withLane (withTree (heldAt s) x) l (holding [])) s t
+  unfolding withLane withTree
+  recorded-holds x t g = record {
+    whole = g .whole;
+    held = g .held ∙ ap (λ (z : Held). withTree z x) (c .held);
+    size = g .size ∙ c .size;
+    behind = λ i b.
+        let p = size-held s in
+        let q = size-kept s l (holding []) u c in
+        g .behind i (omega arith) ∙ c .outside i (inr (omega (arith, lane-below s l h)));
+  }
+
+  pub finish-room : (x y t : List ℕ) (r : Progress) → y ≡ x → verdictOn s l ≡ roomFor (heldAt s) x → Accepts (roomFor (heldAt u) y) u r t → Finished s l r t
+  finish-room x y t r d v g =
+      go (roomFor (heldAt s) x) refl (subst (λ (z : Answer (List ℕ)). Accepts z u r t) (ap (roomFor (heldAt u)) d ∙ room-kept s l (holding []) u c x) g)
+    where
+      go : (z : Answer (List ℕ)) → roomFor (heldAt s) x ≡ z → Accepts z u r t → Finished s l r t
+      go (refused k) e q = unfold Accepts in subst (Finished s l r) (sym (q .1)) (finish-refused r k (v ∙ e) (q .0))
+      go (gives y) e q =
+          unfold Accepts finished recording isAccepted in
+          record {
+            answer = rw (v ∙ e) (q .0 ∙ ap (λ (n : ℕ). gives (accepted n)) (trees-kept s l (holding []) u c));
+            left = rw (v ∙ e) (record { holds = recorded-holds y t (q .1); outside = λ z. absurd (true≢false z) });
+          }

@@ -1,0 +1,10 @@
+-- What feeding promises, its steps, and their laws.
+pub mod Feeding
+pub mod Texts
+pub mod EndLaws
+pub mod HoldLaws
+pub mod ClosingLaws
+pub mod AcceptLaws
+pub mod FinishLaws
+pub mod FedLaws
+pub mod BatchLaws

@@ -1,0 +1,81 @@
+// Feeding the lanes of a collection in lent bytes: one piece, many texts at once, and closing.
+//
+// Read `specs/Feeding.antt` for what the calls promise; what they mean is said in crate trees,
+// `specs/Held.antt` and `specs/Batch.antt`. `specs/Texts.antt` has the steps.
+ghost use mathlib.Core.Path.{_≡_};
+ghost use Rattle.feeding.specs.Feeding.{FedAs, ClosedAs, batchOf, BatchedAs};
+ghost use lib.ListN.{length};
+use layout::Lane;
+use table::Fed;
+use table::Finish;
+use table::Number;
+use table::Progress;
+use table::Refusal;
+
+mod texts;
+mod verdicts;
+
+// Feeds a piece to a lane: takes it up to its first semicolon and that semicolon, or all of it.
+pub fn feed(s: &mut [u8], l: Lane, piece: &[u8]) -> Fed
+    ensures { λ r. ⌜ FedAs (now (s .entry)) (l .0) (now (piece .entry)) r (now (s .exit)) ⌝ }
+{
+    if !store::is_whole(s) {
+        return Fed {
+            taken: 0,
+            progress: Progress::Refused(Refusal::NotWhole),
+        };
+    }
+    if head::lanes(s) as usize <= l.0 {
+        return Fed {
+            taken: 0,
+            progress: Progress::Refused(Refusal::NoLane),
+        };
+    }
+    let mut starts = [0u8; 128];
+    let mut links = [0u8; 64];
+    head::build_index(s, &mut starts, &mut links);
+    texts::feed_piece(s, &starts, &links, l, piece)
+}
+
+// Closes a lane: empties it, and answers 6 if it had run over, 7 if it held any byte but blanks.
+pub fn close(s: &mut [u8], l: Lane) -> Finish
+    ensures { λ r. ⌜ ClosedAs (now (s .entry)) (l .0) r (now (s .exit)) ⌝ }
+{
+    if !store::is_whole(s) {
+        return Finish::Refused(Refusal::NotWhole);
+    }
+    if head::lanes(s) as usize <= l.0 {
+        return Finish::Refused(Refusal::NoLane);
+    }
+    let k = lanes::closing_number(s, l);
+    lanes::empty_lane(s, l);
+    if k == 6 {
+        return Finish::Refused(Refusal::TooLong);
+    }
+    if k == 7 {
+        return Finish::Refused(Refusal::BadForm);
+    }
+    Finish::Done
+}
+
+// Feeds a piece with any number of texts to a lane, tests the store once, and writes each verdict: a
+// refusal's number, or 256 more than the tree's. Takes the whole piece.
+pub fn batch(s: &mut [u8], l: Lane, piece: &[u8], verdicts: &mut [u32]) -> Number
+    ensures { λ r. ⌜ BatchedAs (batchOf (now (s .entry)) (l .0) (now (piece .entry)) (length (now (verdicts .entry)))) r (now (s .entry)) (now (verdicts .entry)) (now (s .exit)) (now (verdicts .exit)) ⌝ }
+{
+    if !store::is_whole(s) {
+        return Number::Refused(Refusal::NotWhole);
+    }
+    if head::lanes(s) as usize <= l.0 {
+        return Number::Refused(Refusal::NoLane);
+    }
+    let n = texts::count_texts(piece);
+    if verdicts.len() < n {
+        return Number::Refused(Refusal::TooShort);
+    }
+    let mut starts = [0u8; 128];
+    let mut links = [0u8; 64];
+    head::build_index(s, &mut starts, &mut links);
+    texts::feed_texts(s, &starts, &links, l, piece, n, verdicts);
+    Number::Gives(n)
+}

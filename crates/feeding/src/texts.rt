@@ -1,0 +1,120 @@
+// One text after another, in a whole store whose names are indexed.
+ghost use mathlib.Core.Path.{_≡_};
+ghost use mathlib.Core.Bool.{true};
+ghost use mathlib.Core.List.{_++_};
+ghost use Prim.Native.Nat.{_≤_, _<_};
+ghost use lib.ListN.{length, drop};
+ghost use Rattle.trees.specs.Held.{beforeSemicolon};
+ghost use Rattle.trees.specs.Batch.{semicolons, batching};
+ghost use Rattle.head.specs.Head.{numbersAt, namesAt};
+ghost use Rattle.head.specs.Index.{Indexed};
+ghost use Rattle.layout.specs.Store.{heldAt};
+ghost use Rattle.store.specs.WholeStore.{wholeAt};
+ghost use Rattle.table.specs.Answers.{progressGiven};
+ghost use Rattle.table.specs.Promises.{Holds};
+ghost use Rattle.trees.specs.Batch.{verdictNumber};
+ghost use Rattle.feeding.specs.Texts.{FedWell, Small};
+use crate::verdicts;
+use layout::Lane;
+use table::Fed;
+use table::Progress;
+
+// Feeds one piece.
+pub(crate) fn feed_piece(
+    s: &mut [u8],
+    starts: &[u8; 128],
+    links: &[u8; 64],
+    l: Lane,
+    piece: &[u8],
+) -> Fed
+    requires { ⌜ wholeAt (now s) ≡ true ⌝ }
+    requires { ⌜ l .0 < numbersAt (now s) .lanes ⌝ }
+    requires { ⌜ Indexed (namesAt (now s)) (now starts) (now links) ⌝ }
+    ensures { λ r. ⌜ FedWell (now (s .entry)) (l .0) (now (piece .entry)) r (now (s .exit)) ⌝ }
+{
+    let n = text_end(piece);
+    lanes::extend_lane(s, l, &piece[..n]);
+    if n == piece.len() {
+        return Fed {
+            taken: n,
+            progress: Progress::MoreWanted,
+        };
+    }
+    let progress = verdicts::finish_text(s, starts, links, l);
+    Fed {
+        taken: n + 1,
+        progress,
+    }
+}
+
+// How many bytes stand before the first semicolon: all, where there is none.
+fn text_end(piece: &[u8]) -> usize
+    ensures { λ r. ⌜ r ≡ length (beforeSemicolon (now (piece .entry))) ⌝ }
+    ensures { λ r. ⌜ r ≤ length (now (piece .entry)) ⌝ }
+{
+    let mut i = 0;
+    while i < piece.len() {
+        if piece[i] == 59 {
+            return i;
+        }
+        i += 1;
+    }
+    i
+}
+
+// How many semicolons a piece has.
+pub(crate) fn count_texts(piece: &[u8]) -> usize
+    ensures { λ r. ⌜ r ≡ semicolons (now (piece .entry)) ⌝ }
+{
+    let mut n = 0;
+    let mut i = 0;
+    while i < piece.len() {
+        if piece[i] == 59 {
+            n += 1;
+        }
+        i += 1;
+    }
+    n
+}
+
+// Feeds a piece of n texts, and what is behind them; writes each verdict.
+pub(crate) fn feed_texts(
+    s: &mut [u8],
+    starts: &[u8; 128],
+    links: &[u8; 64],
+    l: Lane,
+    piece: &[u8],
+    n: usize,
+    verdicts: &mut [u32],
+)
+    requires { ⌜ wholeAt (now s) ≡ true ⌝ }
+    requires { ⌜ l .0 < numbersAt (now s) .lanes ⌝ }
+    requires { ⌜ Indexed (namesAt (now s)) (now starts) (now links) ⌝ }
+    requires { ⌜ n ≡ semicolons (now piece) ⌝ }
+    requires { ⌜ n ≤ length (now verdicts) ⌝ }
+    ensures { λ r. ⌜ Holds (batching n (heldAt (now (s .entry))) (l .0) (now (piece .entry)) .after) (now (s .entry)) (now (s .exit)) ⌝ }
+    ensures { λ r. ⌜ now (verdicts .exit) ≡ batching n (heldAt (now (s .entry))) (l .0) (now (piece .entry)) .verdicts ++ drop n (now (verdicts .entry)) ⌝ }
+{
+    let mut at = 0;
+    let mut i = 0;
+    while i < n {
+        let fed = feed_piece(s, starts, links, l, &piece[at..]);
+        let progress = fed.progress;
+        verdicts[i] = verdict_number(progress);
+        at += fed.taken;
+        i += 1;
+    }
+    feed_piece(s, starts, links, l, &piece[at..]);
+}
+
+// A verdict as a number.
+fn verdict_number(p: Progress) -> u32
+    requires { ⌜ Small (progressGiven p) ⌝ }
+    ensures { λ r. ⌜ r ≡ verdictNumber (progressGiven p) ⌝ }
+{
+    match p {
+        Progress::Refused(r) => table::refusal_number(r),
+        Progress::MoreWanted => 0,
+        Progress::Accepted(t) => 256 + t.0 as u32,
+    }
+}
