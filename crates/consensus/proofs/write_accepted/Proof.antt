@@ -1,0 +1,48 @@
+-- `consensus::write_accepted` meets its contract. Assumes nothing.
+use mathlib.Core.Path.{refl}
+use native.Mathlib.Omega.{arith}
+use borrow.Author.Needs.{needs}
+use Rattle.opening.specs.GivenLaws.{failed, passed}
+use Rattle.store.specs.HeldWholeLaws.{tree-good}
+use Rattle.table.specs.ReadLaws.{long}
+use Rattle.consensus.specs.AskedLaws.{accepted-refused, accepted-missing, accepted-given}
+use Rattle.consensus.proofs.write_accepted.Statement.{statement}
+use Rattle.consensus.proofs.write_accepted.Tie as tie
+
+returns-2 : tie.Need-returns-2
+returns-2 c =
+    let d = c .before .before .before in
+    accepted-missing _ _ (passed _ _ (d .before .is-whole .ensures) (d .if1 .left)) _ (omega arith)
+
+copy-tree-requires : tie.Need-copy-tree-requires
+copy-tree-requires c κs =
+    let d = c .before .before .before .before in
+    (passed _ _ (d .before .is-whole .ensures) (d .if1 .left), (refl, omega arith))
+
+write-list-requires : tie.Need-write-list-requires
+write-list-requires c κs =
+    let d = c .before .before .before .before .before .before .before in
+    let w = passed _ _ (d .before .is-whole .ensures) (d .if1 .left) in
+    let l = c .before .before .copy-tree .ensures in
+    (w, (l .1, rw (l .0) (tree-good _ w _ (omega arith))))
+
+returns-3 : tie.Need-returns-3
+returns-3 c =
+    let a = c .before .before .before in
+    let d = a .before .before .before .before .before .before .before in
+    let out = d .before .before .before .before .args .out .now in
+    let w = passed _ _ (d .before .is-whole .ensures) (d .if1 .left) in
+    accepted-given _ out w _ (omega arith) _ (a .before .before .copy-tree .ensures .0) _ _ (c .before .before .write-list .ensures)
+
+pub write-accepted-spec : {M : Type 1} → statement M
+write-accepted-spec =
+    tie.close
+    (tie.spec
+    (λ c κs. search needs)
+    (λ c. accepted-refused _ _ _ (failed _ _ (c .before .is-whole .ensures) (c .if1 .taken)))
+    (λ c κs. long _ (passed _ _ (c .before .is-whole .ensures) (c .if1 .left)))
+    returns-2
+    copy-tree-requires
+    write-list-requires
+    (λ c. search needs)
+    returns-3)

@@ -1,0 +1,29 @@
+-- What is answered of lent bytes when a tree is to be written: 1 where they are not whole, else what crate trees says of what they hold.
+--
+--   strictAsked s room         the tree of the splits that all trees have, into a buffer of `room` bytes
+--   majorityAsked s room       the tree of the splits that more than half of the trees have
+--   writtenAsked s i room      accepted tree i
+--   textAsked s l room         the tree of the splits l, over the names of the store
+use Prim.Native.Nat.{ℕ}
+use mathlib.Core.List.{List}
+use Rattle.trees.specs.Plain.{Answer}
+use Rattle.trees.specs.Written.{written}
+use Rattle.trees.specs.Questions.{ifRoom, strictOf, majorityOf, writtenOf}
+use Rattle.head.specs.Head.{namesAt}
+use Rattle.table.specs.Promises.{ifWhole}
+
+unfoldable pub strictAsked : List ℕ → ℕ → Answer (List ℕ)
+unfolding ifWhole strictOf
+strictAsked s room = ifWhole s (λ h. strictOf h room)
+
+unfoldable pub majorityAsked : List ℕ → ℕ → Answer (List ℕ)
+unfolding ifWhole majorityOf
+majorityAsked s room = ifWhole s (λ h. majorityOf h room)
+
+unfoldable pub writtenAsked : List ℕ → ℕ → ℕ → Answer (List ℕ)
+unfolding ifWhole writtenOf
+writtenAsked s i room = ifWhole s (λ h. writtenOf h i room)
+
+unfoldable pub textAsked : List ℕ → List ℕ → ℕ → Answer (List ℕ)
+unfolding ifRoom written namesAt
+textAsked s l room = ifRoom room (written (namesAt s) l)
