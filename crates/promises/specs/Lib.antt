@@ -1,0 +1,4 @@
+-- Runs of calls on lent bytes, as the promises allow them, and what they come to; and that each promise leaves one outcome.
+pub mod Steps
+pub mod StepLaws
+pub mod Outcomes
