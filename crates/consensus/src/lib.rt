@@ -21,7 +21,6 @@ use table::Refusal;
 use writer::Text;
 
 mod lists;
-mod rows;
 
 // Writes the tree of the splits that all trees have to the front of out.
 pub fn strict(s: &[u8], out: &mut [u8]) -> Number

@@ -9,7 +9,8 @@ ghost use lib.ListN.{length, take};
 ghost use Rattle.layout.specs.Store.{treesHeldAt, treeAt, heldAt};
 ghost use Rattle.store.specs.WholeStore.{wholeAt};
 ghost use Rattle.consensus.specs.Chosen.{chosen};
-use crate::rows;
+use layout::Split;
+use layout::Tree;
 
 // Puts the splits that at least `least` trees have at the front of the list, in order of mask.
 pub(crate) fn choose(s: &[u8], least: usize, list: &mut [u64; 64]) -> usize
@@ -23,7 +24,7 @@ pub(crate) fn choose(s: &[u8], least: usize, list: &mut [u64; 64]) -> usize
     let mut n = 0;
     let mut k = 0;
     while k < held {
-        let row = rows::row_of(s, k);
+        let row = rows::row_of(s, Split(k));
         if least <= rows::count_at(s, row) {
             list[n] = rows::mask_at(s, row);
             n += 1;
@@ -41,10 +42,10 @@ pub(crate) fn copy_tree(s: &[u8], i: usize, list: &mut [u64; 64]) -> usize
     ensures { λ r. ⌜ take r (now (list .exit)) ≡ treeAt (now (s .entry)) i ⌝ }
     ensures { λ r. ⌜ r ≤ length (now (list .exit)) ⌝ }
 {
-    let n = rows::splits_in(s, i);
+    let n = rows::splits_in(s, Tree(i));
     let mut j = 0;
     while j < n {
-        let row = rows::row_in(s, i, j);
+        let row = rows::row_in(s, Tree(i), j);
         list[j] = rows::mask_at(s, row);
         j += 1;
     }

@@ -7,7 +7,6 @@ pub mod OpenLaws
 pub mod Asked
 pub mod Counts
 pub mod CountsLaws
-pub mod ReadLaws
 pub mod FrontLaws
 pub mod QuestionLaws
 pub mod Filled

@@ -6,8 +6,8 @@ ghost use mathlib.Core.Path.{_≡_};
 ghost use mathlib.Core.Bool.{true};
 ghost use mathlib.Core.List.{_++_};
 ghost use Prim.Native.Nat.{_≤_, _<_};
-ghost use lib.ListN.{length, getD, drop};
-ghost use Rattle.layout.specs.Store.{treesHeldAt, splitsHeldAt, maskAt, countAt, orderAt, masksAt, treeAt};
+ghost use lib.ListN.{length, drop};
+ghost use Rattle.layout.specs.Store.{treesHeldAt, splitsHeldAt, masksAt, treeAt};
 ghost use Rattle.store.specs.WholeStore.{wholeAt};
 ghost use Rattle.table.specs.Answers.{numberGiven, splitGiven};
 ghost use Rattle.table.specs.Promises.{lengthGiven, front};
@@ -49,8 +49,8 @@ pub fn one_split(s: &[u8], k: Split) -> Recorded
     if layout::splits_held(s) <= k.0 {
         return Recorded::Refused(Refusal::NoSuchNumber);
     }
-    let row = row_of(s, k.0);
-    Recorded::Gives(mask_at(s, row), count_at(s, row))
+    let row = rows::row_of(s, Split(k.0));
+    Recorded::Gives(rows::mask_at(s, row), rows::count_at(s, row) as u32)
 }
 
 // Every recorded split and its count, in order of mask, at the fronts of two buffers.
@@ -84,7 +84,7 @@ pub fn tree_splits(s: &[u8], i: Tree, masks: &mut [u64]) -> Number
     if layout::trees_held(s) <= i.0 {
         return Number::Refused(Refusal::NoSuchNumber);
     }
-    let n = splits_in(s, i.0);
+    let n = rows::splits_in(s, Tree(i.0));
     if masks.len() < n {
         return Number::Refused(Refusal::TooShort);
     }
@@ -103,9 +103,9 @@ fn copy_splits(s: &[u8], masks: &mut [u64], counts: &mut [u32])
     let held = layout::splits_held(s);
     let mut k = 0;
     while k < held {
-        let row = row_of(s, k);
-        masks[k] = mask_at(s, row);
-        counts[k] = count_at(s, row);
+        let row = rows::row_of(s, Split(k));
+        masks[k] = rows::mask_at(s, row);
+        counts[k] = rows::count_at(s, row) as u32;
         k += 1;
     }
 }
@@ -117,59 +117,11 @@ fn copy_tree(s: &[u8], i: usize, masks: &mut [u64])
     requires { ⌜ length (treeAt (now s) i) ≤ length (now masks) ⌝ }
     ensures { λ r. ⌜ now (masks .exit) ≡ treeAt (now (s .entry)) i ++ drop (length (treeAt (now (s .entry)) i)) (now (masks .entry)) ⌝ }
 {
-    let n = splits_in(s, i);
+    let n = rows::splits_in(s, Tree(i));
     let mut j = 0;
     while j < n {
-        let row = row_in(s, i, j);
-        masks[j] = mask_at(s, row);
+        let row = rows::row_in(s, Tree(i), j);
+        masks[j] = rows::mask_at(s, row);
         j += 1;
     }
-}
-
-// How many splits tree i has.
-fn splits_in(s: &[u8], i: usize) -> usize
-    requires { ⌜ wholeAt (now s) ≡ true ⌝ }
-    requires { ⌜ i < treesHeldAt (now s) ⌝ }
-    ensures { λ r. ⌜ r ≡ length (treeAt (now (s .entry)) i) ⌝ }
-{
-    layout::number16(s, layout::tree_from(s, Tree(i)))
-}
-
-// The row of the split that stands in place j of tree i.
-fn row_in(s: &[u8], i: usize, j: usize) -> usize
-    requires { ⌜ wholeAt (now s) ≡ true ⌝ }
-    requires { ⌜ i < treesHeldAt (now s) ⌝ }
-    requires { ⌜ j < length (treeAt (now s) i) ⌝ }
-    ensures { λ r. ⌜ maskAt (now (s .entry)) r ≡ getD (treeAt (now (s .entry)) i) j 0 ⌝ }
-    ensures { λ r. ⌜ r < splitsHeldAt (now (s .entry)) ⌝ }
-{
-    layout::number16(s, layout::tree_from(s, Tree(i)) + 2 + 2 * j)
-}
-
-// The row of split number k.
-fn row_of(s: &[u8], k: usize) -> usize
-    requires { ⌜ wholeAt (now s) ≡ true ⌝ }
-    requires { ⌜ k < splitsHeldAt (now s) ⌝ }
-    ensures { λ r. ⌜ r ≡ orderAt (now (s .entry)) k ⌝ }
-    ensures { λ r. ⌜ r < splitsHeldAt (now (s .entry)) ⌝ }
-{
-    layout::number16(s, layout::order_from(s) + 2 * k)
-}
-
-// The mask of the split in a row.
-fn mask_at(s: &[u8], row: usize) -> u64
-    requires { ⌜ wholeAt (now s) ≡ true ⌝ }
-    requires { ⌜ row < splitsHeldAt (now s) ⌝ }
-    ensures { λ r. ⌜ r ≡ maskAt (now (s .entry)) row ⌝ }
-{
-    fields::get64(s, layout::masks_from(s) + 8 * row)
-}
-
-// The count of the split in a row.
-fn count_at(s: &[u8], row: usize) -> u32
-    requires { ⌜ wholeAt (now s) ≡ true ⌝ }
-    requires { ⌜ row < splitsHeldAt (now s) ⌝ }
-    ensures { λ r. ⌜ r ≡ countAt (now (s .entry)) row ⌝ }
-{
-    fields::get32(s, layout::counts_from(s) + 4 * row)
 }

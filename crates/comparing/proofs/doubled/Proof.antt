@@ -2,7 +2,7 @@
 use native.Mathlib.Omega.{arith}
 use borrow.Author.Needs.{needs}
 use Rattle.opening.specs.GivenLaws.{failed, passed}
-use Rattle.table.specs.ReadLaws.{long}
+use Rattle.rows.specs.ReadLaws.{long}
 use Rattle.comparing.specs.CompareLaws.{doubled-refused, doubled-first, doubled-second, doubled-given}
 use Rattle.comparing.proofs.doubled.Statement.{statement}
 use Rattle.comparing.proofs.doubled.Tie as tie

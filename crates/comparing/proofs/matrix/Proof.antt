@@ -2,7 +2,7 @@
 use native.Mathlib.Omega.{arith}
 use borrow.Author.Needs.{needs}
 use Rattle.opening.specs.GivenLaws.{failed, passed}
-use Rattle.table.specs.ReadLaws.{long}
+use Rattle.rows.specs.ReadLaws.{long}
 use Rattle.comparing.specs.CompareLaws.{square-of, entries-few, matrix-refused, matrix-short, matrix-given}
 use Rattle.comparing.proofs.matrix.Statement.{statement}
 use Rattle.comparing.proofs.matrix.Tie as tie

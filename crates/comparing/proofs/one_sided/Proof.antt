@@ -2,7 +2,7 @@
 use native.Mathlib.Omega.{arith}
 use borrow.Author.Needs.{needs}
 use Rattle.opening.specs.GivenLaws.{failed, passed}
-use Rattle.table.specs.ReadLaws.{long}
+use Rattle.rows.specs.ReadLaws.{long}
 use Rattle.comparing.specs.CompareLaws.{one-sided-refused, one-sided-first, one-sided-second, one-sided-given}
 use Rattle.comparing.proofs.one_sided.Statement.{statement}
 use Rattle.comparing.proofs.one_sided.Tie as tie

@@ -2,7 +2,7 @@
 use mathlib.Core.Path.{sym, _∙_}
 use borrow.Author.Needs.{needs}
 use Rattle.opening.specs.GivenLaws.{failed, passed}
-use Rattle.table.specs.ReadLaws.{long}
+use Rattle.rows.specs.ReadLaws.{long}
 use Rattle.consensus.specs.FewLaws.{strict-tree, strict-chosen}
 use Rattle.consensus.specs.AskedLaws.{strict-refused, strict-none, strict-given}
 use Rattle.consensus.proofs.strict.Statement.{statement}

@@ -4,7 +4,7 @@ use native.Mathlib.Omega.{arith}
 use borrow.Author.Needs.{needs}
 use Rattle.opening.specs.GivenLaws.{failed, passed}
 use Rattle.store.specs.HeldWholeLaws.{tree-good}
-use Rattle.table.specs.ReadLaws.{long}
+use Rattle.rows.specs.ReadLaws.{long}
 use Rattle.consensus.specs.AskedLaws.{accepted-refused, accepted-missing, accepted-given}
 use Rattle.consensus.proofs.write_accepted.Statement.{statement}
 use Rattle.consensus.proofs.write_accepted.Tie as tie

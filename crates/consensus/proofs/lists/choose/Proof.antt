@@ -4,7 +4,7 @@ use mathlib.Core.Path.{_≡_, _∙_}
 use mathlib.Core.Logic.{⊎-elim}
 use native.Mathlib.Omega.{arith}
 use lib.ListN.{length, length-set}
-use Rattle.table.specs.ReadLaws.{long}
+use Rattle.rows.specs.ReadLaws.{long}
 use Rattle.consensus.specs.Chosen.{Chose, ReadSplit}
 use Rattle.consensus.specs.ChooseLaws.{choose-start, choose-end, choose-takes, choose-leaves, choose-room}
 use Rattle.consensus.proofs.lists.choose.Statement.{statement}

@@ -9,7 +9,7 @@ use Rattle.store.specs.OrderLaws.{masks-length, number-mask}
 use Rattle.store.specs.SplitLaws.{split-read}
 use Rattle.table.specs.Counts.{countsAt}
 use Rattle.table.specs.CountsLaws.{counts-length, number-count, row-count}
-use Rattle.table.specs.ReadLaws.{long}
+use Rattle.rows.specs.ReadLaws.{long, count-small}
 use Rattle.table.specs.FrontLaws.{copied-length, copied-more, copied-all}
 use Rattle.table.proofs.questions.copy_splits.Statement.{statement}
 use Rattle.table.proofs.questions.copy_splits.Tie as tie
@@ -84,6 +84,9 @@ copy-splits-spec =
     (λ c. omega arith)
     mask-room
     (λ c κs. (c .before .before .before .before .before .before .before .before .pre .0, c .before .row-of .ensures .1))
+    (λ c.
+    let b = c .before .before .before .before .before .before .before .before .shared-slice-known .given in
+    omega (arith, count-small _ _ _ (λ i. omega (arith, b i)) (c .count-at .ensures)))
     (λ c. omega arith)
     count-room
     (λ c. omega arith)

@@ -2,7 +2,7 @@
 use native.Mathlib.Omega.{arith}
 use borrow.Author.Needs.{needs}
 use Rattle.opening.specs.GivenLaws.{failed, passed}
-use Rattle.table.specs.ReadLaws.{long}
+use Rattle.rows.specs.ReadLaws.{long, count-small}
 use Rattle.table.specs.QuestionLaws.{split-refused, split-missing, split-given}
 use Rattle.table.proofs.questions.one_split.Statement.{statement}
 use Rattle.table.proofs.questions.one_split.Tie as tie
@@ -23,6 +23,11 @@ count-at-requires : tie.Need-count-at-requires
 count-at-requires c κs =
     (passed _ _ (c .before .before .before .before .before .before .is-whole .ensures) (c .before .before .before .before .before .if1 .left), c .before .row-of .ensures .1)
 
+count-fits : tie.Need-cast-t11
+count-fits c =
+    let b = c .before .before .before .before .before .before .before .before .shared-slice-known .given in
+    omega (arith, count-small _ _ _ (λ i. omega (arith, b i)) (c .count-at .ensures))
+
 returns-3 : tie.Need-returns-3
 returns-3 c =
     let w = passed _ _ (c .before .before .before .before .before .before .before .is-whole .ensures) (c .before .before .before .before .before .before .if1 .left) in
@@ -39,4 +44,5 @@ one-split-spec =
     row-of-requires
     mask-at-requires
     count-at-requires
+    count-fits
     returns-3)

@@ -1,7 +1,7 @@
 -- `table::questions::split_count` meets its contract. Assumes nothing.
 use borrow.Author.Needs.{needs}
 use Rattle.opening.specs.GivenLaws.{failed, passed}
-use Rattle.table.specs.ReadLaws.{long}
+use Rattle.rows.specs.ReadLaws.{long}
 use Rattle.table.specs.QuestionLaws.{splits-refused, splits-given}
 use Rattle.table.proofs.questions.split_count.Statement.{statement}
 use Rattle.table.proofs.questions.split_count.Tie as tie

@@ -3,7 +3,7 @@ use mathlib.Core.Logic.{inl, inr}
 use native.Mathlib.Omega.{arith}
 use borrow.Author.Needs.{needs}
 use Rattle.opening.specs.GivenLaws.{failed, passed}
-use Rattle.table.specs.ReadLaws.{long}
+use Rattle.rows.specs.ReadLaws.{long}
 use Rattle.table.specs.FilledLaws.{list-refused, list-short, list-given}
 use Rattle.table.proofs.questions.split_list.Statement.{statement}
 use Rattle.table.proofs.questions.split_list.Tie as tie

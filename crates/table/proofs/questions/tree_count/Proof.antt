@@ -1,7 +1,7 @@
 -- `table::questions::tree_count` meets its contract. Assumes nothing.
 use borrow.Author.Needs.{needs}
 use Rattle.opening.specs.GivenLaws.{failed, passed}
-use Rattle.table.specs.ReadLaws.{long}
+use Rattle.rows.specs.ReadLaws.{long}
 use Rattle.table.specs.QuestionLaws.{trees-refused, trees-given}
 use Rattle.table.proofs.questions.tree_count.Statement.{statement}
 use Rattle.table.proofs.questions.tree_count.Tie as tie

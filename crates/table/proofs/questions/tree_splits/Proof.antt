@@ -2,7 +2,7 @@
 use native.Mathlib.Omega.{arith}
 use borrow.Author.Needs.{needs}
 use Rattle.opening.specs.GivenLaws.{failed, passed}
-use Rattle.table.specs.ReadLaws.{long}
+use Rattle.rows.specs.ReadLaws.{long}
 use Rattle.table.specs.FilledLaws.{tree-refused, tree-missing, tree-short, tree-given}
 use Rattle.table.proofs.questions.tree_splits.Statement.{statement}
 use Rattle.table.proofs.questions.tree_splits.Tie as tie

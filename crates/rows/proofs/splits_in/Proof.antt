@@ -1,8 +1,8 @@
--- `table::questions::splits_in` meets its contract. Assumes nothing.
+-- `rows::splits_in` meets its contract. Assumes nothing.
 use native.Mathlib.Omega.{arith}
-use Rattle.table.specs.ReadLaws.{long, tree-small, tree-inside, length-read}
-use Rattle.table.proofs.questions.splits_in.Statement.{statement}
-use Rattle.table.proofs.questions.splits_in.Tie as tie
+use Rattle.rows.specs.ReadLaws.{long, tree-small, tree-inside, length-read}
+use Rattle.rows.proofs.splits_in.Statement.{statement}
+use Rattle.rows.proofs.splits_in.Tie as tie
 
 inside : tie.Need-number16-requires
 inside c κs = let p = c .before .before .pre in omega (arith, tree-inside _ (p .0) _ (p .1), c .tree-from .ensures .0)

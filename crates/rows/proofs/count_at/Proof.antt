@@ -1,9 +1,9 @@
--- `consensus::rows::count_at` meets its contract. Assumes nothing.
+-- `rows::count_at` meets its contract. Assumes nothing.
 use native.Mathlib.Omega.{arith}
 use borrow.Author.Needs.{needs}
-use Rattle.table.specs.ReadLaws.{long, split-small, count-inside, count-read}
-use Rattle.consensus.proofs.rows.count_at.Statement.{statement}
-use Rattle.consensus.proofs.rows.count_at.Tie as tie
+use Rattle.rows.specs.ReadLaws.{long, split-small, count-inside, count-read}
+use Rattle.rows.proofs.count_at.Statement.{statement}
+use Rattle.rows.proofs.count_at.Tie as tie
 
 small : tie.Need-mul-get32
 small c = let p = c .before .before .pre in omega (arith, split-small _ (p .0) _ (p .1))

@@ -1,11 +1,11 @@
--- `consensus::rows::row_in` meets its contract. Assumes nothing.
+-- `rows::row_in` meets its contract. Assumes nothing.
 use mathlib.Core.Path.{_≡_}
 use native.Mathlib.Omega.{arith}
 use borrow.Author.Needs.{needs}
 use Rattle.layout.specs.StoreLaws.{entryAt}
-use Rattle.table.specs.ReadLaws.{long, tree-small, tree-inside, tree-most, entry-below, entry-mask}
-use Rattle.consensus.proofs.rows.row_in.Statement.{statement}
-use Rattle.consensus.proofs.rows.row_in.Tie as tie
+use Rattle.rows.specs.ReadLaws.{long, tree-small, tree-inside, tree-most, entry-below, entry-mask}
+use Rattle.rows.proofs.row_in.Statement.{statement}
+use Rattle.rows.proofs.row_in.Tie as tie
 
 small : tie.Need-mul-number16
 small c = let p = c .before .before .pre in omega (arith, p .1 .1, tree-most _ (p .0) _ (p .1 .0))
@@ -22,7 +22,7 @@ returns : tie.Need-returns
 returns c =
     let a = c .before .before .before .args in
     let p = c .before .before .before .pre in
-    let e : c .number16 .result ≡ entryAt (a .s .now) (a .i) (a .j) = rw (← c .before .tree-from .ensures .0) (c .number16 .ensures .0) in
+    let e : c .number16 .result ≡ entryAt (a .s .now) (a .i .0) (a .j) = rw (← c .before .tree-from .ensures .0) (c .number16 .ensures .0) in
     (rw e (entry-mask _ (p .0) _ (p .1 .0) _ (p .1 .1)), rw e (entry-below _ (p .0) _ (p .1 .0) _ (p .1 .1)))
 
 pub row-in-spec : {M : Type 1} → statement M

@@ -1,9 +1,9 @@
--- `table::questions::mask_at` meets its contract. Assumes nothing.
+-- `rows::mask_at` meets its contract. Assumes nothing.
 use native.Mathlib.Omega.{arith}
 use Rattle.store.specs.SplitLaws.{mask-read}
-use Rattle.table.specs.ReadLaws.{long, split-small, mask-inside}
-use Rattle.table.proofs.questions.mask_at.Statement.{statement}
-use Rattle.table.proofs.questions.mask_at.Tie as tie
+use Rattle.rows.specs.ReadLaws.{long, split-small, mask-inside}
+use Rattle.rows.proofs.mask_at.Statement.{statement}
+use Rattle.rows.proofs.mask_at.Tie as tie
 
 small : tie.Need-mul-get64
 small c = let p = c .before .before .pre in omega (arith, split-small _ (p .0) _ (p .1))

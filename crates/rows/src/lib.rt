@@ -8,20 +8,21 @@ ghost use Prim.Native.Nat.{_<_};
 ghost use lib.ListN.{length, getD};
 ghost use Rattle.layout.specs.Store.{treesHeldAt, splitsHeldAt, maskAt, countAt, orderAt, treeAt};
 ghost use Rattle.store.specs.WholeStore.{wholeAt};
+use layout::Split;
 use layout::Tree;
 
 // The row of split number k.
-pub(crate) fn row_of(s: &[u8], k: usize) -> usize
+pub fn row_of(s: &[u8], k: Split) -> usize
     requires { ⌜ wholeAt (now s) ≡ true ⌝ }
-    requires { ⌜ k < splitsHeldAt (now s) ⌝ }
-    ensures { λ r. ⌜ r ≡ orderAt (now (s .entry)) k ⌝ }
+    requires { ⌜ k .0 < splitsHeldAt (now s) ⌝ }
+    ensures { λ r. ⌜ r ≡ orderAt (now (s .entry)) (k .0) ⌝ }
     ensures { λ r. ⌜ r < splitsHeldAt (now (s .entry)) ⌝ }
 {
-    layout::number16(s, layout::order_from(s) + 2 * k)
+    layout::number16(s, layout::order_from(s) + 2 * k.0)
 }
 
 // The mask of the split in a row.
-pub(crate) fn mask_at(s: &[u8], row: usize) -> u64
+pub fn mask_at(s: &[u8], row: usize) -> u64
     requires { ⌜ wholeAt (now s) ≡ true ⌝ }
     requires { ⌜ row < splitsHeldAt (now s) ⌝ }
     ensures { λ r. ⌜ r ≡ maskAt (now (s .entry)) row ⌝ }
@@ -30,7 +31,7 @@ pub(crate) fn mask_at(s: &[u8], row: usize) -> u64
 }
 
 // The count of the split in a row.
-pub(crate) fn count_at(s: &[u8], row: usize) -> usize
+pub fn count_at(s: &[u8], row: usize) -> usize
     requires { ⌜ wholeAt (now s) ≡ true ⌝ }
     requires { ⌜ row < splitsHeldAt (now s) ⌝ }
     ensures { λ r. ⌜ r ≡ countAt (now (s .entry)) row ⌝ }
@@ -39,21 +40,21 @@ pub(crate) fn count_at(s: &[u8], row: usize) -> usize
 }
 
 // How many splits tree i has.
-pub(crate) fn splits_in(s: &[u8], i: usize) -> usize
+pub fn splits_in(s: &[u8], i: Tree) -> usize
     requires { ⌜ wholeAt (now s) ≡ true ⌝ }
-    requires { ⌜ i < treesHeldAt (now s) ⌝ }
-    ensures { λ r. ⌜ r ≡ length (treeAt (now (s .entry)) i) ⌝ }
+    requires { ⌜ i .0 < treesHeldAt (now s) ⌝ }
+    ensures { λ r. ⌜ r ≡ length (treeAt (now (s .entry)) (i .0)) ⌝ }
 {
-    layout::number16(s, layout::tree_from(s, Tree(i)))
+    layout::number16(s, layout::tree_from(s, i))
 }
 
 // The row of the split that stands in place j of tree i.
-pub(crate) fn row_in(s: &[u8], i: usize, j: usize) -> usize
+pub fn row_in(s: &[u8], i: Tree, j: usize) -> usize
     requires { ⌜ wholeAt (now s) ≡ true ⌝ }
-    requires { ⌜ i < treesHeldAt (now s) ⌝ }
-    requires { ⌜ j < length (treeAt (now s) i) ⌝ }
-    ensures { λ r. ⌜ maskAt (now (s .entry)) r ≡ getD (treeAt (now (s .entry)) i) j 0 ⌝ }
+    requires { ⌜ i .0 < treesHeldAt (now s) ⌝ }
+    requires { ⌜ j < length (treeAt (now s) (i .0)) ⌝ }
+    ensures { λ r. ⌜ maskAt (now (s .entry)) r ≡ getD (treeAt (now (s .entry)) (i .0)) j 0 ⌝ }
     ensures { λ r. ⌜ r < splitsHeldAt (now (s .entry)) ⌝ }
 {
-    layout::number16(s, layout::tree_from(s, Tree(i)) + 2 + 2 * j)
+    layout::number16(s, layout::tree_from(s, i) + 2 + 2 * j)
 }

@@ -1,4 +1,4 @@
--- What the questions read in a whole store lies inside the lent bytes. Assumes nothing.
+-- What is read of a whole store lies inside the lent bytes. Assumes nothing.
 --
 --   head-passes, long                         the head is in order, and lent
 --   split-small                               a split's number and row are below 4,096
@@ -7,13 +7,15 @@
 --   tree-small, tree-inside, tree-most        a tree's number, where it ends, and how many splits it has at most
 --   entry-below, entry-mask                   the row in place j of a tree's list is one of the rows, and its mask the tree's
 --   count-read, length-read                   a count and a tree's length, as the code reads them
-use Prim.Native.Nat.{ℕ, _+_, _*_, _≤_, _<_}
+--   count-small                               a count that is read is below 2 ^ 32
+use Prim.Native.Nat.{ℕ, _+_, _*_, _≤_, _<_, _^_}
 use native.Mathlib.Omega.{arith}
 use mathlib.Core.Path.{_≡_, sym}
 use mathlib.Core.Bool.{true}
 use mathlib.Core.List.{List}
 use lib.ListN.{length, getD}
 use Rattle.fields.specs.Field.{number}
+use Rattle.fields.specs.FieldLaws.{number-below}
 use Rattle.layout.specs.Store.{treesHeldAt, splitsHeldAt, treeFrom, masksFrom, countsFrom, orderFrom, maskAt, countAt, orderAt, listAt, treeAt}
 use Rattle.layout.specs.StoreLaws.{count-is, entryAt}
 use Rattle.store.specs.WholeStore.{goodHead, wholeAt}
@@ -89,3 +91,6 @@ module _ (s : List ℕ) (k at x : ℕ) where
 
   pub length-read : at ≡ treeFrom s k → x ≡ number 2 s at → x ≡ length (treeAt s k)
   length-read e q = rw (tree-length s k, ← e) q
+
+pub count-small : (s : List ℕ) (k x : ℕ) → ((i : ℕ) → getD s i 0 < 256) → x ≡ countAt s k → x < 2 ^ 32
+count-small s k x bytes e = omega (arith, e, count-is s k, number-below 4 s (countsFrom s + 4 * k) bytes)
