@@ -3,7 +3,7 @@
 --   listed-step, listed-most  how many trees list a split: one tree more, and never more than there are trees
 --   listed-same               it depends on the trees' lists alone
 --   one-most                  a test counts at most one
---   member-last               membership, with one number more at the end
+--   front-member, front-other membership in the first numbers of a list, one more at a time
 --   counted-none              no tree
 --   part-none, part-more, part-all     one turn of the loop over a tree's list
 --   part-most                 a count never exceeds the trees' number
@@ -59,7 +59,7 @@ listed-same s t k (suc n) h = rw (h n (omega arith), listed-same s t k n (λ i l
 
 -- ---- the first numbers of a list
 
-pub member-last : (k x : ℕ) (l : List ℕ) → member k (l ++ (x ∷ [])) ≡ (member k l || eqb k x)
+member-last : (k x : ℕ) (l : List ℕ) → member k (l ++ (x ∷ [])) ≡ (member k l || eqb k x)
 unfolding member
 member-last k x [] = or-false (eqb k x)
 member-last k x (y ∷ l) = ap (λ (b : Bool). eqb k y || b) (member-last k x l) ∙ sym (or-assoc (eqb k y) (member k l) (eqb k x))
@@ -72,10 +72,10 @@ front-below f (x ∷ l) (suc j) y r h (inl e) = rw e (r .0 _ (mem-map f l _ (mem
 front-below f (x ∷ l) (suc j) y r h (inr m) = front-below f l j y (r .1) (omega arith) m
 
 module _ (l : List ℕ) (j k : ℕ) (h : j < length l) where
-  front-member : member k (take (j + 1) l) ≡ (member k (take j l) || eqb k (getD l j 0))
+  pub front-member : member k (take (j + 1) l) ≡ (member k (take j l) || eqb k (getD l j 0))
   front-member = rw (add-one j, take-suc l j 0 h) (member-last k (getD l j 0) (take j l))
 
-  front-other : (k ≡ getD l j 0 → ⊥) → oneIf (member k (take (j + 1) l)) ≡ oneIf (member k (take j l))
+  pub front-other : (k ≡ getD l j 0 → ⊥) → oneIf (member k (take (j + 1) l)) ≡ oneIf (member k (take j l))
   front-other n = ap oneIf (front-member ∙ rw (ne-eqb _ _ n) (or-false (member k (take j l))))
 
   front-here : (f : ℕ → ℕ) → Rising (map f l) → k ≡ getD l j 0 → oneIf (member k (take (j + 1) l)) ≡ oneIf (member k (take j l)) + 1

@@ -2,6 +2,7 @@
 --
 --   SameBetween s t a b     the bytes from a up to b of s and t are equal
 --   number-frame, run-frame     a number and a run of bytes, where the bytes are equal
+--   map-same                two functions on a list, where they agree on its members
 --   lane-length-frame, lane-frame     a lane, where its own bytes are equal
 --   tree-from-same, masks-from-same, size-same     where things begin, where the numbers are equal
 --   entries-same, list-same, tree-same     a tree, where its own bytes and its masks are equal
@@ -46,7 +47,7 @@ run-frame s t b n f g h =
     let k : i < n = omega arith in
     rw (getD-take n (drop b s), getD-take n (drop b t), getD-drop b s, getD-drop b t) (h (b + i) (omega arith) (omega arith)))
 
-map-same : (f g : ℕ → ℕ) (l : List ℕ) → ((k : ℕ) → Mem k l → f k ≡ g k) → map f l ≡ map g l
+pub map-same : (f g : ℕ → ℕ) (l : List ℕ) → ((k : ℕ) → Mem k l → f k ≡ g k) → map f l ≡ map g l
 map-same f g [] h = refl
 map-same f g (x ∷ l) h = ap₂ (λ (y : ℕ) (r : List ℕ). y ∷ r) (h x (inl refl)) (map-same f g l (λ k q. h k (inr q)))
 
