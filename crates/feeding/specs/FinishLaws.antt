@@ -30,6 +30,7 @@ use Rattle.fields.specs.Field.{number}
 use Rattle.head.specs.Head.{numbersAt, firstAt, secondAt, namesAt, openingAt}
 use Rattle.layout.specs.Store.{treesHeldAt, laneFrom, sizeAt, heldAt}
 use Rattle.store.specs.WholeStore.{wholeAt}
+use Rattle.store.specs.ListTestLaws.{length-map}
 use Rattle.store.specs.RecordedAtLaws.{trees-length}
 use Rattle.store.specs.HeldWholeLaws.{opening-facts}
 use Rattle.lanes.specs.Lanes.{LaneIs}
@@ -118,10 +119,6 @@ map-at : (f : ℕ → ℕ) (x r : List ℕ) (j : ℕ) → j < length x → getD 
 map-at f [] r j h = absurd (omega arith)
 map-at f (y ∷ x) r zero h = refl
 map-at f (y ∷ x) r (suc j) h = map-at f x r j (omega arith)
-
-length-map : (f : ℕ → ℕ) (l : List ℕ) → length (map f l) ≡ length l
-length-map f [] = refl
-length-map f (x ∷ l) = ap suc (length-map f l)
 
 module _ (s u text x : List ℕ) (k : ℕ) (ms ps is ms′ ps′ is′ : List ℕ)
     (w : wholeAt s ≡ true) (o : openingAt u ≡ openingAt s) (q : judged (openingAt s .names) text ≡ gives x) (e : k ≡ length x)

@@ -23,21 +23,12 @@ use Rattle.store.specs.WholeStore.{wholeAt}
 use Rattle.store.specs.WholeFacts.{whole-at-facts}
 use Rattle.store.specs.Sound.{sound-whole}
 use Rattle.store.specs.ListTests.{oneIf}
-use Rattle.store.specs.ListTestLaws.{mem-getD}
+use Rattle.store.specs.ListTestLaws.{length-map, map-at, mem-getD}
 use Rattle.store.specs.RecordedAtLaws.{trees-length}
 use Rattle.store.specs.UpToLaws.{less-or-not}
 use Rattle.listing.specs.Listed.{Listed, Rows}
 use Rattle.recording.specs.Recording.{Recordable, Recorded, Grown}
 use Rattle.recording.specs.GrownLaws.{numbers-held}
-
-length-map : (f : ℕ → ℕ) (l : List ℕ) → length (map f l) ≡ length l
-length-map f [] = refl
-length-map f (x ∷ l) = ap suc (length-map f l)
-
-map-at : (f : ℕ → ℕ) (l : List ℕ) (j : ℕ) → j < length l → getD (map f l) j 0 ≡ f (getD l j 0)
-map-at f [] j h = absurd (omega arith)
-map-at f (x ∷ l) zero h = refl
-map-at f (x ∷ l) (suc j) h = map-at f l j (omega arith)
 
 -- what is in a list stands somewhere
 mem-at : (l : List ℕ) (k : ℕ) → Mem k l → (i : ℕ) × (i < length l) × (getD l i 0 ≡ k)
