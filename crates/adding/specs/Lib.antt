@@ -4,7 +4,6 @@ pub mod Steps
 pub mod InsertLaws
 pub mod NumberLaws
 pub mod RowLaws
-pub mod HeadKeptLaws
 pub mod Grown
 pub mod Put
 pub mod PutLaws

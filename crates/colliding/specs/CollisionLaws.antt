@@ -22,6 +22,7 @@ use Rattle.layout.specs.StoreLaws.{split-is}
 use Rattle.store.specs.WholeStore.{wholeAt}
 use Rattle.store.specs.WholeFacts.{SplitsAt, whole-at-facts}
 use Rattle.store.specs.ListTests.{oneIf}
+use Rattle.store.specs.CountLaws.{one-most}
 use Rattle.store.specs.Chain.{placeIn}
 use Rattle.store.specs.ChainTests.{equal-or-not}
 use Rattle.colliding.specs.Collisions.{Placed, Numbered, alike, alikeTo, countFrom, pairsFrom}
@@ -73,11 +74,6 @@ module _ (s : List ℕ) (whole : wholeAt s ≡ true) where
       }
 
 -- ---- counts and pairs, a number at a time
-
-one-most : (b : Bool) → oneIf b ≤ 1
-unfolding oneIf
-one-most true = omega arith
-one-most false = omega arith
 
 module _ (t : ℕ → Bool) where
   pub count-more : (j n : ℕ) → j < n → countFrom t j (n - j) ≡ oneIf (t j) + countFrom t (j + 1) (n - (j + 1))

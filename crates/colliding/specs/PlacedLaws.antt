@@ -1,11 +1,11 @@
 -- The places of the rows, as they are noted along the chains. Assumes nothing.
 --
 --   whole-head, held-most, places-most     a whole store's head is in order; it has at most 4,096 splits and 8,192 places
---   link-read, start-read          what is read
+--   link-read, start-read          what is read, passed on from the laws of the chains
 --   highest-has, highest-over      the highest row of a place has it, and none above
 --   placed-none, placed-all        no place is noted; every place is
 --   part-starts, part-more, part-ends     one place: its start, a row along it, its end
-use Prim.Native.Nat.{ℕ, zero, suc, _+_, _*_, _≤_, _<_}
+use Prim.Native.Nat.{ℕ, zero, suc, _+_, _≤_, _<_}
 use native.Mathlib.Omega.{arith}
 use mathlib.Core.Path.{_≡_, refl, sym, ap, _∙_}
 use mathlib.Core.Logic.{_⊎_, inl, inr}
@@ -16,9 +16,8 @@ use lib.ListN.{getD, set, replicate, length-set, length-replicate}
 use lib.Seq.{getD-set-same, getD-set-other}
 use borrow.Author.Tests.{eqb-true, eqb-false}
 use Rattle.trees.specs.Plain.{if_then_else_}
-use Rattle.fields.specs.Field.{number}
 use Rattle.head.specs.Head.{numbersAt}
-use Rattle.layout.specs.Store.{splitsHeldAt, linksFrom, placesFrom, maskAt, linkAt, startAt}
+use Rattle.layout.specs.Store.{splitsHeldAt, maskAt, linkAt, startAt}
 use Rattle.store.specs.WholeStore.{highestBelow, wholeAt}
 use Rattle.store.specs.WholeFacts.{ChainsAt, whole-at-facts, facts-head}
 use Rattle.store.specs.GoodHeadLaws.{GoodHead, good-head}
@@ -26,6 +25,7 @@ use Rattle.store.specs.UpToLaws.{less-or-not}
 use Rattle.store.specs.Chain.{placeIn}
 use Rattle.store.specs.ChainLaws.{highest-most, place-below}
 use Rattle.store.specs.ChainTests.{equal-or-not}
+pub use Rattle.store.specs.ChainTests.{link-read, start-read}
 use Rattle.colliding.specs.Collisions.{Placed, PlacedPart}
 
 -- ---- a whole store
@@ -39,17 +39,6 @@ module _ (s : List ℕ) (whole : wholeAt s ≡ true) where
 
   pub places-most : numbersAt s .places ≤ 8192
   places-most = let g = whole-head in omega (arith, g .ranges .most-places, g .ranges .most-splits)
-
--- ---- what is read
-
-module _ (s : List ℕ) (k at x : ℕ) where
-  pub link-read : at ≡ linksFrom s → x ≡ number 2 s (at + 2 * k) → x ≡ linkAt s k
-  unfolding linkAt
-  link-read e q = q ∙ rw e
-
-  pub start-read : at ≡ placesFrom s → x ≡ number 2 s (at + 2 * k) → x ≡ startAt s k
-  unfolding startAt
-  start-read e q = q ∙ rw e
 
 -- ---- the highest row of a place
 

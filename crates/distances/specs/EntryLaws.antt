@@ -10,18 +10,16 @@
 use Prim.Native.Nat.{ℕ, suc, _+_, _*_, _/_, _%_, _≤_, _<_}
 use native.Mathlib.Nat.{mul-le-mul, mul-le-mul-right, suc-mul, mod-lt, div-lt-iff-lt-mul, div-add-mod'}
 use native.Mathlib.Omega.{arith}
-use mathlib.Core.Path.{_≡_, refl, ap, ap₂, sym, _∙_}
+use mathlib.Core.Path.{_≡_, ap, ap₂, sym, _∙_}
 use mathlib.Core.Logic.{_⊎_, inl, inr}
-use mathlib.Core.Bool.{Bool, true, false}
 use mathlib.Core.List.{List, _++_}
-use lib.Dec.{eqb}
 use lib.ListN.{length, getD, set, take, drop, length-set, take-append-drop}
 use lib.Seq.{length-take-le, getD-set-same, getD-set-other, getD-take, drop-set-lt, ext-getD}
-use borrow.Author.Tests.{eqb-true, eqb-false}
 use Rattle.trees.specs.Distance.{doubled, matrix}
 use Rattle.theorems.specs.DistanceLaws.{doubled-sym}
 use Rattle.layout.specs.Store.{treesHeldAt, treeAt, heldAt}
 use Rattle.store.specs.UpToLaws.{less-or-not}
+use Rattle.store.specs.ChainTests.{equal-or-not}
 use Rattle.store.specs.RecordedAtLaws.{trees-length, tree-at}
 use Rattle.distances.specs.Entries.{Written, Filled}
 use Rattle.distances.specs.MatrixLaws.{matrix-length, matrix-at}
@@ -57,13 +55,6 @@ entry-same n a b c d h f e =
     (r, omega (arith, q))
 
 -- ---- one pair more
-
-same-or-other : (a b : ℕ) → (a ≡ b) ⊎ (a ≡ b → ⊥)
-same-or-other a b = go (eqb a b) refl
-  where
-    go : (t : Bool) → eqb a b ≡ t → (a ≡ b) ⊎ (a ≡ b → ⊥)
-    go true e = inl (eqb-true a b e)
-    go false e = inr (eqb-false a b e)
 
 module _ (s : List ℕ) where
   pub filled-none : (out : List ℕ) → Filled s 0 0 out
@@ -103,7 +94,7 @@ module _ (s : List ℕ) where
     here-column = getD-set-same one (j * n + i) d 0 (omega (arith, one-length, entry-below n j i k (omega arith)))
 
     here-row : getD two (i * n + j) 0 ≡ d
-    here-row = go (same-or-other (i * n + j) (j * n + i))
+    here-row = go (equal-or-not (i * n + j) (j * n + i))
       where
         go : (i * n + j ≡ j * n + i) ⊎ (i * n + j ≡ j * n + i → ⊥) → getD two (i * n + j) 0 ≡ d
         go (inl x) = ap (λ (p : ℕ). getD two p 0) x ∙ here-column
@@ -118,7 +109,7 @@ module _ (s : List ℕ) where
         ∙ getD-set-other out (i * n + j) (a * n + b) d 0 (λ x. let r = entry-same n a b i j l k x in u (r .0) (r .1))
 
     filled-more : Filled s i (j + 1) two
-    filled-more = record { entries = λ a b l m x. go a b l m x (same-or-other a i) (same-or-other b j) }
+    filled-more = record { entries = λ a b l m x. go a b l m x (equal-or-not a i) (equal-or-not b j) }
       where
         old : (a b : ℕ) → a ≤ b → b < n → (a < i) ⊎ ((a ≡ i) × (b < j)) → (a ≡ i → b ≡ j → ⊥) → Written s two a b
         old a b l m x u =

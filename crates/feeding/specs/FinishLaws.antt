@@ -11,9 +11,9 @@
 --   finish-room        a text that gives splits: refused for want of room, or recorded
 use Prim.Native.Nat.{ℕ, zero, suc, _+_, _≤_, _<_}
 use native.Mathlib.Omega.{arith}
-use mathlib.Core.Path.{_≡_, refl, sym, ap, ap₂, subst, _∙_}
-use mathlib.Core.Logic.{inl, inr}
-use mathlib.Core.Bool.{true, false, true≢false}
+use mathlib.Core.Path.{_≡_, refl, sym, ap, subst, _∙_}
+use mathlib.Core.Logic.{inr}
+use mathlib.Core.Bool.{true, true≢false}
 use mathlib.Core.List.{List, [], _∷_, _++_, map}
 use lib.ListN.{length, getD, take, drop, length-append, length-drop}
 use lib.Seq.{take-append-seam}
@@ -21,15 +21,14 @@ use Rattle.trees.specs.Plain.{Answer, refused, gives}
 use Rattle.trees.specs.Hash.{place, identifier}
 use Rattle.trees.specs.Opening.{Opening, storeSize}
 use Rattle.trees.specs.Held.{Held, Lane, holding, overrun, laneOf, withLane, withTree, roomFor, withRoom, verdict, finished, recording, accepted}
-use Rattle.trees.specs.Whole.{goodTree}
 use Rattle.trees.specs.Verdict.{judged}
 use Rattle.theorems.specs.VerdictLaws.{judged-good}
 use Rattle.theorems.specs.FewLaws.{few-splits}
-use Rattle.theorems.specs.OpeningLaws.{GoodOpening}
 use Rattle.fields.specs.Field.{number}
-use Rattle.head.specs.Head.{numbersAt, firstAt, secondAt, namesAt, openingAt}
+use Rattle.head.specs.Head.{numbersAt, firstAt, secondAt, openingAt}
 use Rattle.layout.specs.Store.{treesHeldAt, laneFrom, sizeAt, heldAt}
 use Rattle.store.specs.WholeStore.{wholeAt}
+use Rattle.store.specs.ListTestLaws.{length-map}
 use Rattle.store.specs.RecordedAtLaws.{trees-length}
 use Rattle.store.specs.HeldWholeLaws.{opening-facts}
 use Rattle.lanes.specs.Lanes.{LaneIs}
@@ -43,7 +42,7 @@ use Rattle.table.specs.Answers.{progressGiven}
 use Rattle.table.specs.Promises.{Holds}
 use Rattle.table.specs.declared.Progress.{Progress}
 use Rattle.feeding.specs.Feeding.{isAccepted}
-use Rattle.feeding.specs.Texts.{Left, verdictOn, Finished, Judgeable, Accepts}
+use Rattle.feeding.specs.Texts.{verdictOn, Finished, Judgeable, Accepts}
 use Rattle.feeding.specs.HoldLaws.{size-held, lane-below, lane-holds}
 
 -- ---- the verdict
@@ -118,10 +117,6 @@ map-at : (f : ℕ → ℕ) (x r : List ℕ) (j : ℕ) → j < length x → getD 
 map-at f [] r j h = absurd (omega arith)
 map-at f (y ∷ x) r zero h = refl
 map-at f (y ∷ x) r (suc j) h = map-at f x r j (omega arith)
-
-length-map : (f : ℕ → ℕ) (l : List ℕ) → length (map f l) ≡ length l
-length-map f [] = refl
-length-map f (x ∷ l) = ap suc (length-map f l)
 
 module _ (s u text x : List ℕ) (k : ℕ) (ms ps is ms′ ps′ is′ : List ℕ)
     (w : wholeAt s ≡ true) (o : openingAt u ≡ openingAt s) (q : judged (openingAt s .names) text ≡ gives x) (e : k ≡ length x)

@@ -11,12 +11,13 @@ use mathlib.Core.Path.{_≡_, sym, ap, _∙_}
 use mathlib.Core.Bool.{true}
 use mathlib.Core.List.{List}
 use Rattle.fields.specs.Field.{number}
-use Rattle.layout.specs.Store.{splitsHeldAt, masksFrom, linksFrom, placesFrom, maskAt, linkAt, startAt}
-use Rattle.layout.specs.StoreLaws.{mask-is, link-is, start-is}
+use Rattle.layout.specs.Store.{splitsHeldAt, masksFrom, linksFrom, placesFrom, maskAt, startAt}
+use Rattle.layout.specs.StoreLaws.{mask-is, start-is}
 use Rattle.store.specs.WholeStore.{wholeAt}
 use Rattle.store.specs.WholeFacts.{whole-at-facts, facts-head}
 use Rattle.store.specs.GoodHeadLaws.{GoodHead, good-head}
 use Rattle.store.specs.Chain.{placeIn, lookAt}
+use Rattle.store.specs.ChainTests.{link-read}
 use Rattle.store.specs.ChainLaws.{place-below, link-falls, start-most, look-starts, look-ends, look-here, look-next}
 use Rattle.finding.specs.declared.Found.the-variants.{Row, Nothing}
 use Rattle.finding.specs.Rows.{FoundAs}
@@ -43,11 +44,8 @@ module _ (s : List ℕ) (m : ℕ) (whole : wholeAt s ≡ true) where
     here = omega arith
 
     module _ (at l : ℕ) (a : at ≡ linksFrom s) (r : l ≡ number 2 s (at + 2 * (e - 1))) where
-      link-read : l ≡ linkAt s (e - 1)
-      link-read = r ∙ rw a (sym (link-is s (e - 1)))
-
       pub walk-falls : l < e
-      walk-falls = omega (arith, link-read, link-falls s whole (e - 1) walk-row)
+      walk-falls = omega (arith, link-read s (e - 1) at l a r, link-falls s whole (e - 1) walk-row)
 
     module _ (at x : ℕ) (a : at ≡ masksFrom s) (r : x ≡ number 8 s (at + 8 * (e - 1))) where
       mask-read : x ≡ maskAt s (e - 1)
@@ -59,7 +57,7 @@ module _ (s : List ℕ) (m : ℕ) (whole : wholeAt s ≡ true) where
 
       pub walk-next : (x ≡ m → ⊥) → (to l : ℕ) → to ≡ linksFrom s → l ≡ number 2 s (to + 2 * (e - 1)) → Walk s m l
       walk-next d to l t q =
-          let f = link-read to l t q in
+          let f = link-read s (e - 1) to l t q in
           record {
             within = omega (arith, walk-falls to l t q, walk .within);
             undecided = ap (lookAt s m) f ∙ sym (look-next s m whole (e - 1) walk-row (λ z. d (mask-read ∙ z))) ∙ sym (ap (lookAt s m) here) ∙ walk .undecided;

@@ -18,10 +18,10 @@ use Rattle.layout.specs.Store.{treesHeldAt, splitsHeldAt, treeFrom, countsFrom,
 use Rattle.layout.specs.StoreLaws.{count-is}
 use Rattle.store.specs.Sound.{Sound}
 use Rattle.store.specs.PartFrameLaws.{number-frame}
+use Rattle.store.specs.CountLaws.{listed-most}
 use Rattle.listing.specs.Listed.{Rows}
 use Rattle.listing.specs.Entering.{Apart, RowsWritten, Countable, CountsAdded, Entered}
 use Rattle.listing.specs.RowLaws.{rising-different}
-use Rattle.listing.specs.CountLaws.{listed-most}
 use Rattle.listing.specs.NextTreeLaws.{list-behind-head, list-end, list-before-masks, masks-before-counts, few-trees, counts-before-links, count-before-links, list-inside, count-inside}
 
 module _ (s rs : List ℕ) (sound : Sound s) (room : treesHeldAt s < numbersAt s .treeRoom) (r : Rows s rs) where

@@ -15,9 +15,11 @@ use Rattle.fields.specs.Field.{number, put}
 use Rattle.fields.specs.FieldLaws.{put-length, put-outside, number-put, number-put-outside}
 use Rattle.store.specs.ListTests.{oneIf}
 use Rattle.store.specs.ListTestLaws.{mem-getD}
+use Rattle.store.specs.ChainTests.{equal-or-not}
+use Rattle.store.specs.CountLaws.{front-other}
 use Rattle.store.specs.UpToLaws.{less-or-not}
 use Rattle.listing.specs.Entering.{RowsWritten, Countable, CountsAdded}
-use Rattle.listing.specs.RowLaws.{same-or-other, front-mem, next-mem, front-other, front-here, front-new}
+use Rattle.listing.specs.RowLaws.{front-mem, next-mem, front-here, front-new}
 
 -- ---- the loop that writes the rows
 
@@ -74,7 +76,7 @@ module _ (s : List ℕ) (from : ℕ) (l : List ℕ) where
     pub added-more : (v : ℕ) → v ≡ number 4 u (from + 4 * getD l j 0) → CountsAdded s from (take (j + 1) l) (put 4 u (from + 4 * getD l j 0) (v + 1))
     added-more v e = record {
       size = put-length 4 u (from + 4 * getD l j 0) (v + 1) ∙ a .size;
-      counts = λ k. one k (same-or-other k (getD l j 0));
+      counts = λ k. one k (equal-or-not k (getD l j 0));
       outside =
           λ i f.
           put-outside 4 u (from + 4 * getD l j 0) (v + 1) i (f (getD l j 0) (next-mem l j h))
@@ -98,4 +100,4 @@ module _ (s : List ℕ) (from : ℕ) (l : List ℕ) where
         one : (k : ℕ) → (k ≡ getD l j 0) ⊎ (k ≡ getD l j 0 → ⊥)
             → number 4 (put 4 u (from + 4 * getD l j 0) (v + 1)) (from + 4 * k) ≡ number 4 s (from + 4 * k) + oneIf (member k (take (j + 1) l))
         one k (inl q) = rw q here
-        one k (inr q) = other k q (less-or-not k (getD l j 0)) ∙ a .counts k ∙ rw (front-other l j h k q)
+        one k (inr q) = other k q (less-or-not k (getD l j 0)) ∙ a .counts k ∙ rw (front-other l j k h q)

@@ -7,15 +7,13 @@
 --   mask-same, identifier-same, link-same, order-same       the fields of a split, but its count
 --   counts-from-same                                        where the counts begin
 --   masks-same                                              the recorded masks
---   start-same, highest-same, place-same                    the chains
+--   start-same, highest-kept, place-same                    the chains
 --   lane-bytes, lane-same                                   the lanes
-use Prim.Native.Nat.{ℕ, zero, suc, _+_, _*_, _≤_, _<_}
+use Prim.Native.Nat.{ℕ, _+_, _*_, _≤_, _<_}
 use native.Mathlib.Omega.{arith}
-use mathlib.Core.Path.{_≡_, refl, sym, ap, ap₂, _∙_}
+use mathlib.Core.Path.{_≡_, refl, sym, ap, _∙_}
 use mathlib.Core.List.{List}
-use lib.Dec.{eqb}
 use lib.ListN.{length, getD}
-use Rattle.trees.specs.Plain.{if_then_else_}
 use Rattle.fields.specs.Field.{number}
 use Rattle.head.specs.Head.{numbersAt, firstAt, secondAt, openingAt}
 use Rattle.head.specs.HeadLaws.{upTo-same}
@@ -24,11 +22,11 @@ use Rattle.layout.specs.StoreLaws.{lane-from, tree-from, identifiers-from, coun
 use Rattle.store.specs.WholeStore.{highestBelow}
 use Rattle.store.specs.Sound.{Sound}
 use Rattle.store.specs.Chain.{placeIn}
-use Rattle.store.specs.ChainLaws.{highest-none, highest-step}
+use Rattle.store.specs.ChainLaws.{highest-same}
 use Rattle.store.specs.PartFrameLaws.{SameBetween, number-frame, masks-from-same, lane-frame}
+use Rattle.store.specs.HeadKeptLaws.{numbers-kept, first-kept, second-kept, opening-kept}
 use Rattle.listing.specs.Entering.{Entered}
 use Rattle.listing.specs.NextTreeLaws.{list-behind-head, list-end, list-before-masks, ranges, list-inside}
-use Rattle.listing.specs.OpeningLaws.{numbers-kept, first-kept, second-kept, opening-kept}
 
 module _ (s rs t : List ℕ) (sound : Sound s) (room : treesHeldAt s < numbersAt s .treeRoom) (e : Entered s rs t) where
   low : SameBetween s t 0 10
@@ -44,7 +42,7 @@ module _ (s rs t : List ℕ) (sound : Sound s) (room : treesHeldAt s < numbersAt
   -- ---- the head
 
   pub numbers-same : numbersAt s ≡ numbersAt t
-  numbers-same = numbers-kept s t low high
+  numbers-same = numbers-kept s t low
 
   pub splits-held-same : splitsHeldAt s ≡ splitsHeldAt t
   splits-held-same =
@@ -132,12 +130,8 @@ module _ (s rs t : List ℕ) (sound : Sound s) (room : treesHeldAt s < numbersAt
     pub place-same : (k : ℕ) → k < splitsHeldAt s → placeIn s (maskAt s k) ≡ placeIn t (maskAt t k)
     place-same k l = rw (first-same bytes, numbers-same, mask-same k l)
 
-    pub highest-same : (p n : ℕ) → n ≤ splitsHeldAt s → highestBelow s p n ≡ highestBelow t p n
-    highest-same p zero l = highest-none s p ∙ sym (highest-none t p)
-    highest-same p (suc n) l =
-        highest-step s p n
-        ∙ ap₂ (λ (q x : ℕ). if eqb q p then suc n else x) (place-same n l) (highest-same p n (omega arith))
-        ∙ sym (highest-step t p n)
+    pub highest-kept : (p n : ℕ) → n ≤ splitsHeldAt s → highestBelow s p n ≡ highestBelow t p n
+    highest-kept p n l = highest-same s t p n (λ k h. place-same k (omega arith))
 
   -- ---- the lanes
 

@@ -3,10 +3,8 @@ pub mod Listed
 pub mod Entering
 pub mod NextTreeLaws
 pub mod RowLaws
-pub mod CountLaws
 pub mod EnteringLaws
 pub mod EnteredLaws
-pub mod OpeningLaws
 pub mod KeptLaws
 pub mod TreeLaws
 pub mod ListedLaws

@@ -24,8 +24,8 @@ use Rattle.store.specs.PartFrameLaws.{size-same, lane-length-frame}
 use Rattle.listing.specs.Listed.{Listed, Rows}
 use Rattle.listing.specs.Entering.{Entered}
 use Rattle.listing.specs.NextTreeLaws.{links-before-end}
-use Rattle.listing.specs.KeptLaws.{numbers-same, splits-held-same, long-head, second-same, opening-same, mask-same, identifier-same, link-same, order-same, start-same, masks-same, place-same, highest-same, lane-bytes, lane-same}
-use Rattle.listing.specs.TreeLaws.{trees-held-more, entries-same, list-same, tree-same, entries-new, list-new, tree-new, count-more, listed-more, trees-more}
+use Rattle.listing.specs.KeptLaws.{numbers-same, splits-held-same, long-head, second-same, opening-same, mask-same, identifier-same, link-same, order-same, start-same, masks-same, place-same, highest-kept, lane-bytes, lane-same}
+use Rattle.listing.specs.TreeLaws.{trees-held-more, entries-kept, list-kept, tree-kept, entries-new, list-new, tree-new, count-more, listed-more, trees-more}
 
 module _ (s rs t : List ℕ) (sound : Sound s) (room : treesHeldAt s < numbersAt s .treeRoom) (r : Rows s rs) (e : Entered s rs t) where
   numbers : numbersAt s ≡ numbersAt t
@@ -43,10 +43,10 @@ module _ (s rs t : List ℕ) (sound : Sound s) (room : treesHeldAt s < numbersAt
   old-list i h =
       let f = sound .lists i h in
       record {
-        few = rw (← entries-same s rs t sound room e i h) (f .few);
-        numbers-below = λ k q. rw (← held) (f .numbers-below k (rw (list-same s rs t sound room e i h) q));
-        tree-rising = rw (← tree-same s rs t sound room e i h) (f .tree-rising);
-        agreeing = rw (← tree-same s rs t sound room e i h) (f .agreeing);
+        few = rw (← entries-kept s rs t sound room e i h) (f .few);
+        numbers-below = λ k q. rw (← held) (f .numbers-below k (rw (list-kept s rs t sound room e i h) q));
+        tree-rising = rw (← tree-kept s rs t sound room e i h) (f .tree-rising);
+        agreeing = rw (← tree-kept s rs t sound room e i h) (f .agreeing);
       }
 
   new-list : ListAt t (treesHeldAt s)
@@ -111,14 +111,14 @@ module _ (s rs t : List ℕ) (sound : Sound s) (room : treesHeldAt s < numbersAt
               let q : k < splitsHeldAt s = rw held l in
               sym (link-same s rs t sound room e k)
               ∙ sound .chains .links k q
-              ∙ highest-same s rs t sound room e bytes _ k (omega arith)
+              ∙ highest-kept s rs t sound room e bytes _ k (omega arith)
               ∙ ap (λ (x : ℕ). highestBelow t x k) (place-same s rs t sound room e bytes k q);
           starts =
               λ p l.
               let q : p < numbersAt s .places = rw numbers l in
               sym (start-same s rs t sound room e p)
               ∙ sound .chains .starts p q
-              ∙ highest-same s rs t sound room e bytes p (splitsHeldAt s) (omega arith)
+              ∙ highest-kept s rs t sound room e bytes p (splitsHeldAt s) (omega arith)
               ∙ rw held;
         }
 

@@ -3,19 +3,17 @@
 --   rising-different                      numbers whose masks rise are different
 --   row-below, row-small                  a row of a tree is that of a recorded split
 --   front-mem, next-mem                   the first numbers of a list, and the next
---   front-other, front-here, front-new    membership in the first numbers, one more at a time
---   same-or-other                         two numbers compared
+--   front-here, front-new                 membership in the first numbers, one more at a time
 use Prim.Native.Nat.{ℕ, zero, suc, _+_, _<_}
 use native.Mathlib.Numerals.{add-one}
 use native.Mathlib.Omega.{arith}
-use mathlib.Core.Path.{_≡_, refl, sym, ap, _∙_}
-use mathlib.Core.Logic.{_⊎_, inl, inr}
-use mathlib.Core.Bool.{Bool, true, false, _||_, or-true, or-false, or-assoc}
-use mathlib.Core.List.{List, [], _∷_, _++_, map}
-use lib.Dec.{eqb}
+use mathlib.Core.Path.{_≡_, refl, sym, ap}
+use mathlib.Core.Logic.{inl, inr}
+use mathlib.Core.Bool.{or-true}
+use mathlib.Core.List.{List, [], _∷_, map}
 use lib.ListN.{length, getD, take}
 use lib.Seq.{take-suc}
-use borrow.Author.Tests.{eqb-true, eqb-false, eq-eqb, ne-eqb}
+use borrow.Author.Tests.{eq-eqb}
 use Rattle.trees.specs.Plain.{member}
 use Rattle.theorems.specs.ListLaws.{Mem, mem-left, mem-right, member-not}
 use Rattle.theorems.specs.RisingLaws.{Rising}
@@ -24,16 +22,10 @@ use Rattle.store.specs.WholeFacts.{HeadAt}
 use Rattle.store.specs.UpToLaws.{mem-map}
 use Rattle.store.specs.ListTests.{oneIf}
 use Rattle.store.specs.ListTestLaws.{mem-getD}
+use Rattle.store.specs.CountLaws.{front-member}
 use Rattle.listing.specs.Listed.{Rows}
 use Rattle.listing.specs.Entering.{Different}
 use Rattle.listing.specs.NextTreeLaws.{few-splits}
-
-pub same-or-other : (a b : ℕ) → (a ≡ b) ⊎ (a ≡ b → ⊥)
-same-or-other a b = go (eqb a b) refl
-  where
-    go : (t : Bool) → eqb a b ≡ t → (a ≡ b) ⊎ (a ≡ b → ⊥)
-    go true e = inl (eqb-true a b e)
-    go false e = inr (eqb-false a b e)
 
 -- ---- all different
 
@@ -57,11 +49,6 @@ module _ (s rs : List ℕ) (r : Rows s rs) where
 
 -- ---- the first numbers of a list
 
-member-last : (k x : ℕ) (l : List ℕ) → member k (l ++ (x ∷ [])) ≡ (member k l || eqb k x)
-unfolding member
-member-last k x [] = or-false (eqb k x)
-member-last k x (y ∷ l) = ap (λ (b : Bool). eqb k y || b) (member-last k x l) ∙ sym (or-assoc (eqb k y) (member k l) (eqb k x))
-
 -- a member of the first numbers stands before the next
 front-place : (l : List ℕ) (j x : ℕ) → Mem x (take j l) → (i : ℕ) × (i < j) × (x ≡ getD l i 0)
 front-place [] zero x m = absurd m
@@ -77,15 +64,9 @@ module _ (l : List ℕ) (j : ℕ) (h : j < length l) where
   pub next-mem : Mem (getD l j 0) (take (j + 1) l)
   next-mem = rw (add-one j, take-suc l j 0 h) (mem-right (getD l j 0) (take j l) (getD l j 0 ∷ []) (inl refl))
 
-  front-member : (k : ℕ) → member k (take (j + 1) l) ≡ (member k (take j l) || eqb k (getD l j 0))
-  front-member k = rw (add-one j, take-suc l j 0 h) (member-last k (getD l j 0) (take j l))
-
-  pub front-other : (k : ℕ) → (k ≡ getD l j 0 → ⊥) → oneIf (member k (take (j + 1) l)) ≡ oneIf (member k (take j l))
-  front-other k n = ap oneIf (front-member k ∙ rw (ne-eqb _ _ n) (or-false (member k (take j l))))
-
   pub front-here : oneIf (member (getD l j 0) (take (j + 1) l)) ≡ 1
   unfolding oneIf
-  front-here = rw (front-member (getD l j 0), eq-eqb (getD l j 0) (getD l j 0) refl) (ap oneIf (or-true (member (getD l j 0) (take j l))))
+  front-here = rw (front-member l j (getD l j 0) h, eq-eqb (getD l j 0) (getD l j 0) refl) (ap oneIf (or-true (member (getD l j 0) (take j l))))
 
   pub front-new : Different l → oneIf (member (getD l j 0) (take j l)) ≡ 0
   unfolding oneIf

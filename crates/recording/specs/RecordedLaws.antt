@@ -2,42 +2,33 @@
 --
 --   rows-listed      the rows are those of recorded splits whose masks are the tree's
 --   recorded         when they are listed, the tree is recorded
-use Prim.Native.Nat.{ℕ, zero, suc, _+_, _≤_, _<_}
+use Prim.Native.Nat.{ℕ, suc, _≤_, _<_}
 use native.Mathlib.Omega.{arith}
-use mathlib.Core.Path.{_≡_, refl, sym, ap, ap₂, _∙_}
+use mathlib.Core.Path.{_≡_, sym, ap, ap₂, _∙_}
 use mathlib.Core.Logic.{_⊎_, inl, inr}
 use mathlib.Core.Bool.{true}
-use mathlib.Core.List.{List, [], _∷_, map}
+use mathlib.Core.List.{List, _∷_, map}
 use lib.ListN.{length, getD, take}
 use lib.Seq.{getD-take, length-take-le, ext-getD}
 use Rattle.trees.specs.Plain.{every, member}
 use Rattle.trees.specs.Mask.{proper}
 use Rattle.trees.specs.Opening.{storeSize}
 use Rattle.trees.specs.Held.{withTree}
-use Rattle.trees.specs.Whole.{rising, agreeInPairs, goodTree}
+use Rattle.trees.specs.Whole.{rising, goodTree}
 use Rattle.theorems.specs.ListLaws.{and-left, and-right, Mem, mem-member}
-use Rattle.theorems.specs.RisingLaws.{Rising, rising-true}
+use Rattle.theorems.specs.RisingLaws.{rising-true}
 use Rattle.head.specs.Head.{numbersAt}
-use Rattle.layout.specs.Store.{treesHeldAt, splitsHeldAt, sizeAt, maskAt, countAt, heldAt}
+use Rattle.layout.specs.Store.{treesHeldAt, splitsHeldAt, sizeAt, maskAt, countAt}
 use Rattle.store.specs.WholeStore.{wholeAt}
 use Rattle.store.specs.WholeFacts.{whole-at-facts}
 use Rattle.store.specs.Sound.{sound-whole}
 use Rattle.store.specs.ListTests.{oneIf}
-use Rattle.store.specs.ListTestLaws.{mem-getD}
+use Rattle.store.specs.ListTestLaws.{length-map, map-at, mem-getD}
 use Rattle.store.specs.RecordedAtLaws.{trees-length}
 use Rattle.store.specs.UpToLaws.{less-or-not}
 use Rattle.listing.specs.Listed.{Listed, Rows}
 use Rattle.recording.specs.Recording.{Recordable, Recorded, Grown}
 use Rattle.recording.specs.GrownLaws.{numbers-held}
-
-length-map : (f : ℕ → ℕ) (l : List ℕ) → length (map f l) ≡ length l
-length-map f [] = refl
-length-map f (x ∷ l) = ap suc (length-map f l)
-
-map-at : (f : ℕ → ℕ) (l : List ℕ) (j : ℕ) → j < length l → getD (map f l) j 0 ≡ f (getD l j 0)
-map-at f [] j h = absurd (omega arith)
-map-at f (x ∷ l) zero h = refl
-map-at f (x ∷ l) (suc j) h = map-at f l j (omega arith)
 
 -- what is in a list stands somewhere
 mem-at : (l : List ℕ) (k : ℕ) → Mem k l → (i : ℕ) × (i < length l) × (getD l i 0 ≡ k)

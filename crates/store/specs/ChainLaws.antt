@@ -1,6 +1,7 @@
 -- "Every split is met exactly once along its hash place", and what a look along a chain finds. Assumes nothing.
 --
 --   highest-none, highest-step, highest-here, highest-lower, highest-most     `highestBelow`, a split at a time
+--   highest-same                it depends on the places of the splits below alone
 --   place-below                 a place is below the number of places
 --   start-most, link-falls      the entries of the chains
 --   met-all, met-exactly        the splits met along a place are those that have it
@@ -11,7 +12,7 @@
 use Prim.Native.Nat.{ℕ, zero, suc, _≤_, _<_}
 use native.Mathlib.Nat.{mod-lt}
 use native.Mathlib.Omega.{arith}
-use mathlib.Core.Path.{_≡_, refl, sym, ap, _∙_, subst}
+use mathlib.Core.Path.{_≡_, refl, sym, ap, ap₂, _∙_, subst}
 use mathlib.Core.Logic.{_⊎_, inl, inr, _↔_}
 use mathlib.Core.Bool.{Bool, true, false}
 use mathlib.Core.List.{List, [], _∷_}
@@ -51,6 +52,13 @@ module _ (s : List ℕ) (p : ℕ) where
   unfolding highestBelow
   highest-most zero = omega arith
   highest-most (suc n) = let h = highest-most n in by-test (λ (x : ℕ). x ≤ suc n) (eqb (placeIn s (maskAt s n)) p) (λ e. omega arith) (λ e. omega arith)
+
+pub highest-same : (s t : List ℕ) (p n : ℕ) → ((k : ℕ) → k < n → placeIn s (maskAt s k) ≡ placeIn t (maskAt t k)) → highestBelow s p n ≡ highestBelow t p n
+highest-same s t p zero h = highest-none s p ∙ sym (highest-none t p)
+highest-same s t p (suc n) h =
+    highest-step s p n
+    ∙ ap₂ (λ (q x : ℕ). if eqb q p then suc n else x) (h n (omega arith)) (highest-same s t p n (λ k l. h k (omega arith)))
+    ∙ sym (highest-step t p n)
 
 -- ---- the splits of a place, the highest first
 

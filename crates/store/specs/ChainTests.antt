@@ -1,5 +1,7 @@
 -- Laws of the chains of the places: how the loops test them. Assumes nothing.
 --
+--   equal-or-not                         two numbers compared
+--   link-read, start-read                a link and a start, as they are read
 --   place-read                           the place of split k, as it is computed
 --   highest-none, highest-here, highest-other     `highestBelow`, a split at a time
 --   heights-none, heights-more           the highest split of each place, as a loop keeps it
@@ -64,31 +66,32 @@ module _ (s : List ℕ) where
 
   -- ---- links and starts
 
-  module _ (k at x p y : ℕ) (a : at ≡ linksFrom s) (i : x ≡ number 2 s (at + 2 * k)) (e : p ≡ placeAt s k) (j : y ≡ highestBelow s p k) where
-    link-read : x ≡ linkAt s k
+  module _ (k at x : ℕ) where
+    pub link-read : at ≡ linksFrom s → x ≡ number 2 s (at + 2 * k) → x ≡ linkAt s k
     unfolding linkAt
-    link-read = i ∙ rw a
+    link-read a i = i ∙ rw a
 
+    pub start-read : at ≡ placesFrom s → x ≡ number 2 s (at + 2 * k) → x ≡ startAt s k
+    unfolding startAt
+    start-read a i = i ∙ rw a
+
+  module _ (k at x p y : ℕ) (a : at ≡ linksFrom s) (i : x ≡ number 2 s (at + 2 * k)) (e : p ≡ placeAt s k) (j : y ≡ highestBelow s p k) where
     pub link-good : x ≡ y → goodLink s k ≡ true
     unfolding goodLink placeAt
-    link-good d = eq-eqb _ _ (sym link-read ∙ d ∙ j ∙ rw e)
+    link-good d = eq-eqb _ _ (sym (link-read k at x a i) ∙ d ∙ j ∙ rw e)
 
     pub link-bad : (x ≡ y → ⊥) → goodLink s k ≡ false
     unfolding goodLink placeAt
-    link-bad f = ne-eqb _ _ (λ d. f (link-read ∙ d ∙ sym (j ∙ rw e)))
+    link-bad f = ne-eqb _ _ (λ d. f (link-read k at x a i ∙ d ∙ sym (j ∙ rw e)))
 
   module _ (p at x y : ℕ) (a : at ≡ placesFrom s) (i : x ≡ number 2 s (at + 2 * p)) (j : y ≡ highestBelow s p (splitsHeldAt s)) where
-    start-read : x ≡ startAt s p
-    unfolding startAt
-    start-read = i ∙ rw a
-
     pub start-good : x ≡ y → goodStart s p ≡ true
     unfolding goodStart
-    start-good d = eq-eqb _ _ (sym start-read ∙ d ∙ j)
+    start-good d = eq-eqb _ _ (sym (start-read p at x a i) ∙ d ∙ j)
 
     pub start-bad : (x ≡ y → ⊥) → goodStart s p ≡ false
     unfolding goodStart
-    start-bad f = ne-eqb _ _ (λ d. f (start-read ∙ d ∙ sym j))
+    start-bad f = ne-eqb _ _ (λ d. f (start-read p at x a i ∙ d ∙ sym j))
 
   pub good-chains : goodChains s ≡ (allBelow (goodLink s) (splitsHeldAt s) && allBelow (goodStart s) (numbersAt s .places))
   unfolding goodChains

@@ -1,5 +1,9 @@
 -- The laws of the counts, as the code adds and compares them. Assumes nothing.
 --
+--   listed-step, listed-most  how many trees list a split: one tree more, and never more than there are trees
+--   listed-same               it depends on the trees' lists alone
+--   one-most                  a test counts at most one
+--   front-member, front-other membership in the first numbers of a list, one more at a time
 --   counted-none              no tree
 --   part-none, part-more, part-all     one turn of the loop over a tree's list
 --   part-most                 a count never exceeds the trees' number
@@ -15,7 +19,7 @@ use native.Mathlib.Omega.{arith}
 use lib.Dec.{leb, eqb}
 use lib.ListN.{length, getD, set, take, replicate, length-set, length-replicate}
 use lib.Seq.{take-suc, take-all, getD-set-same, getD-set-other}
-use borrow.Author.Tests.{eq-eqb, ne-eqb, eqb-true, eqb-false, le-leb}
+use borrow.Author.Tests.{eq-eqb, ne-eqb, le-leb}
 use Rattle.trees.specs.Plain.{if_then_else_, member}
 use Rattle.theorems.specs.ListLaws.{Mem, member-not}
 use Rattle.theorems.specs.RisingLaws.{Rising}
@@ -25,11 +29,12 @@ use Rattle.layout.specs.StoreLaws.{tree-is}
 use Rattle.store.specs.WholeStore.{listed, goodCount}
 use Rattle.store.specs.ListTests.{oneIf, CountedPart, Counted}
 use Rattle.store.specs.ListTestLaws.{mem-getD}
+use Rattle.store.specs.ChainTests.{equal-or-not}
 use Rattle.store.specs.UpToLaws.{mem-map}
 
 -- ---- one tree more
 
-listed-step : (s : List ℕ) (k t : ℕ) → listed s k (suc t) ≡ listed s k t + oneIf (member k (listAt s t))
+pub listed-step : (s : List ℕ) (k t : ℕ) → listed s k (suc t) ≡ listed s k t + oneIf (member k (listAt s t))
 unfolding listed oneIf
 listed-step s k t = go (member k (listAt s t))
   where
@@ -37,15 +42,20 @@ listed-step s k t = go (member k (listAt s t))
     go true = omega arith
     go false = omega arith
 
-one-most : (b : Bool) → oneIf b ≤ 1
+pub one-most : (b : Bool) → oneIf b ≤ 1
 unfolding oneIf
 one-most true = omega arith
 one-most false = omega arith
 
-listed-most : (s : List ℕ) (k t : ℕ) → listed s k t ≤ t
+pub listed-most : (s : List ℕ) (k t : ℕ) → listed s k t ≤ t
 unfolding listed
 listed-most s k zero = omega arith
 listed-most s k (suc t) = omega (arith, listed-step s k t, one-most (member k (listAt s t)), listed-most s k t)
+
+pub listed-same : (s t : List ℕ) (k n : ℕ) → ((i : ℕ) → i < n → listAt s i ≡ listAt t i) → listed s k n ≡ listed t k n
+unfolding listed
+listed-same s t k zero h = refl
+listed-same s t k (suc n) h = rw (h n (omega arith), listed-same s t k n (λ i l. h i (omega arith)))
 
 -- ---- the first numbers of a list
 
@@ -62,10 +72,10 @@ front-below f (x ∷ l) (suc j) y r h (inl e) = rw e (r .0 _ (mem-map f l _ (mem
 front-below f (x ∷ l) (suc j) y r h (inr m) = front-below f l j y (r .1) (omega arith) m
 
 module _ (l : List ℕ) (j k : ℕ) (h : j < length l) where
-  front-member : member k (take (j + 1) l) ≡ (member k (take j l) || eqb k (getD l j 0))
+  pub front-member : member k (take (j + 1) l) ≡ (member k (take j l) || eqb k (getD l j 0))
   front-member = rw (add-one j, take-suc l j 0 h) (member-last k (getD l j 0) (take j l))
 
-  front-other : (k ≡ getD l j 0 → ⊥) → oneIf (member k (take (j + 1) l)) ≡ oneIf (member k (take j l))
+  pub front-other : (k ≡ getD l j 0 → ⊥) → oneIf (member k (take (j + 1) l)) ≡ oneIf (member k (take j l))
   front-other n = ap oneIf (front-member ∙ rw (ne-eqb _ _ n) (or-false (member k (take j l))))
 
   front-here : (f : ℕ → ℕ) → Rising (map f l) → k ≡ getD l j 0 → oneIf (member k (take (j + 1) l)) ≡ oneIf (member k (take j l)) + 1
@@ -75,13 +85,6 @@ module _ (l : List ℕ) (j k : ℕ) (h : j < length l) where
       rw (front-member, n, eq-eqb k (getD l j 0) e)
 
 -- ---- the counts of a part
-
-same-or-other : (a b : ℕ) → (a ≡ b) ⊎ (a ≡ b → ⊥)
-same-or-other a b = go (eqb a b) refl
-  where
-    go : (t : Bool) → eqb a b ≡ t → (a ≡ b) ⊎ (a ≡ b → ⊥)
-    go true e = inl (eqb-true a b e)
-    go false e = inr (eqb-false a b e)
 
 module _ (s : List ℕ) (t : ℕ) where
   pub part-none : (c : List ℕ) → Counted s t c → CountedPart s t 0 c
@@ -100,7 +103,7 @@ module _ (s : List ℕ) (t : ℕ) where
 
   module _ (j : ℕ) (c : List ℕ) (p : CountedPart s t j c) (r : Rising (treeAt s t)) (h : j < length (listAt s t)) where
     pub part-more : (x : ℕ) → getD (listAt s t) j 0 ≡ x → x < 4096 → CountedPart s t (j + 1) (set c x (getD c x 0 + 1))
-    part-more x e f = record { size = length-set c x _ ∙ p .size; entries = λ k l. go k l (same-or-other k x) }
+    part-more x e f = record { size = length-set c x _ ∙ p .size; entries = λ k l. go k l (equal-or-not k x) }
       where
         go : (k : ℕ) → k < splitsHeldAt s → (k ≡ x) ⊎ (k ≡ x → ⊥)
             → getD (set c x (getD c x 0 + 1)) k 0 ≡ listed s k t + oneIf (member k (take (j + 1) (listAt s t)))

@@ -6,25 +6,24 @@
 --   size-kept               bytes that are equal below the size have one size
 --   whole-kept, held-frame  whole bytes stay whole, and hold the same, where the bytes below the size are equal
 --   whole-frame             bytes that are equal below the size are whole together
-use Prim.Native.Nat.{ℕ, zero, suc, _+_, _≤_, _<_}
+use Prim.Native.Nat.{ℕ, _+_, _≤_, _<_}
 use native.Mathlib.Omega.{arith}
-use mathlib.Core.Path.{_≡_, refl, sym, ap, ap₂, _∙_}
+use mathlib.Core.Path.{_≡_, refl, sym, ap, _∙_}
 use mathlib.Core.Bool.{true}
 use mathlib.Core.List.{List}
-use lib.Dec.{eqb}
 use lib.ListN.{length, getD}
-use Rattle.trees.specs.Plain.{if_then_else_}
 use Rattle.trees.specs.Opening.{Numbers}
 use Rattle.theorems.specs.OpeningLaws.{good-opening}
 use Rattle.fields.specs.Field.{number}
 use Rattle.head.specs.Head.{numbersAt, openingAt, firstAt, secondAt, upTo}
 use Rattle.head.specs.HeadLaws.{upTo-same, numbers-same, first-same, second-same, head-same}
 use Rattle.layout.specs.Store.{treesHeldAt, splitsHeldAt, laneFrom, treeFrom, sizeAt, laneAt, maskAt, orderAt, splitAt, masksAt, listAt, treeAt, heldAt}
-use Rattle.store.specs.WholeStore.{listed, highestBelow, wholeAt}
+use Rattle.store.specs.WholeStore.{highestBelow, wholeAt}
 use Rattle.store.specs.WholeFacts.{HeadAt, SplitsAt, ListAt, CountAt, ChainsAt, WholeAt, whole-at-facts, facts-whole-at}
 use Rattle.store.specs.UpToLaws.{bool-same}
 use Rattle.store.specs.Chain.{placeIn}
-use Rattle.store.specs.ChainLaws.{highest-none, highest-step}
+use Rattle.store.specs.ChainLaws.{highest-same}
+use Rattle.store.specs.CountLaws.{listed-same}
 use Rattle.layout.specs.StoreLaws.{lane-from, masks-from, size-is, trees-held-is, splits-held-is, split-is, masks-is}
 use Rattle.store.specs.PartFrameLaws.{SameBetween, number-frame, lane-length-frame, lane-frame, size-same, mask-frame, identifier-frame, count-frame, link-frame, order-frame, start-frame, entries-frame, list-frame, tree-frame}
 
@@ -122,29 +121,20 @@ module _ (s t : List ℕ) (h : (i : ℕ) → i < 4096 → getD s i 0 ≡ getD t 
           agreeing = rw (← tree-kept i l) (f .agreeing);
         }
 
-    listed-frame : (k n : ℕ) → n ≤ treesHeldAt s → listed s k n ≡ listed t k n
-    unfolding listed
-    listed-frame k zero l = refl
-    listed-frame k (suc n) l = rw (list-kept n l, listed-frame k n (omega arith))
-
     count-facts-frame : (k : ℕ) → k < splitsHeldAt s → CountAt t k
     count-facts-frame k l =
         let f = w .counts k l in
         let e = count-frame s t numbers b k (split-fits k l) in
         record {
           some-tree = rw (← e) (f .some-tree);
-          counted = sym e ∙ f .counted ∙ listed-frame k (treesHeldAt s) (omega arith) ∙ rw trees-held-frame;
+          counted = sym e ∙ f .counted ∙ listed-same s t k (treesHeldAt s) list-kept ∙ rw trees-held-frame;
         }
 
     place-frame : (k : ℕ) → k < splitsHeldAt s → placeIn s (maskAt s k) ≡ placeIn t (maskAt t k)
     place-frame k l = rw (first-frame, numbers, mask-kept k l)
 
     highest-frame : (p n : ℕ) → n ≤ splitsHeldAt s → highestBelow s p n ≡ highestBelow t p n
-    highest-frame p zero l = highest-none s p ∙ sym (highest-none t p)
-    highest-frame p (suc n) l =
-        highest-step s p n
-        ∙ ap₂ (λ (q x : ℕ). if eqb q p then suc n else x) (place-frame n l) (highest-frame p n (omega arith))
-        ∙ sym (highest-step t p n)
+    highest-frame p n l = highest-same s t p n (λ k q. place-frame k (omega arith))
 
     chains-frame : ChainsAt t
     chains-frame =

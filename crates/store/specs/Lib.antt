@@ -11,6 +11,7 @@ pub mod HeldWholeLaws
 pub mod Chain
 pub mod ChainLaws
 pub mod PartFrameLaws
+pub mod HeadKeptLaws
 pub mod FrameLaws
 pub mod SumLaws
 pub mod GoodHeadLaws

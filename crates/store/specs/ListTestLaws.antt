@@ -1,5 +1,6 @@
 -- The laws of a tree's list as the code tests it, and of a lane. Assumes nothing.
 --
+--   length-map, map-at                             a list with a function on each
 --   list-length, list-at, tree-length, tree-at     a tree's list and splits, one by one
 --   mem-getD                                       what stands in a list is a member
 --   rows-more, rows-high, rows-end                 one turn of the loop over the rows
@@ -37,11 +38,11 @@ use Rattle.store.specs.NeighbourLaws.{rise-neighbours, neighbours-rise}
 
 -- ---- one by one
 
-length-map : (f : ℕ → ℕ) (l : List ℕ) → length (map f l) ≡ length l
+pub length-map : (f : ℕ → ℕ) (l : List ℕ) → length (map f l) ≡ length l
 length-map f [] = refl
 length-map f (x ∷ l) = ap suc (length-map f l)
 
-map-at : (f : ℕ → ℕ) (l : List ℕ) (j : ℕ) → j < length l → getD (map f l) j 0 ≡ f (getD l j 0)
+pub map-at : (f : ℕ → ℕ) (l : List ℕ) (j : ℕ) → j < length l → getD (map f l) j 0 ≡ f (getD l j 0)
 map-at f [] j h = absurd (omega arith)
 map-at f (x ∷ l) zero h = refl
 map-at f (x ∷ l) (suc j) h = map-at f l j (omega arith)

@@ -1,9 +1,11 @@
 -- What each part of a store depends on: the opening's numbers and its own bytes. Assumes nothing.
 --
 --   SameBetween s t a b     the bytes from a up to b of s and t are equal
---   number-frame            a number, where its bytes are equal
+--   number-frame, run-frame     a number and a run of bytes, where the bytes are equal
+--   map-same                two functions on a list, where they agree on its members
 --   lane-length-frame, lane-frame     a lane, where its own bytes are equal
 --   tree-from-same, masks-from-same, size-same     where things begin, where the numbers are equal
+--   entries-same, list-same, tree-same     a tree, where its own bytes and its masks are equal
 --   mask-frame, identifier-frame, count-frame, link-frame, order-frame, start-frame     a field, where the bytes behind the lanes are equal too
 --   entries-frame, list-frame, tree-frame     a tree, where they are
 use Prim.Native.Nat.{ℕ, _+_, _*_, _≤_, _<_}
@@ -35,7 +37,7 @@ SameBetween s t a b = (i : ℕ) → a ≤ i → i < b → getD s i 0 ≡ getD t 
 pub number-frame : (s t : List ℕ) (k a c : ℕ) → a ≡ c → SameBetween s t a (a + k) → number k s a ≡ number k t c
 number-frame s t k a c e h = number-same k s t a c (λ i l. h (a + i) (omega arith) (omega arith) ∙ rw e)
 
-run-frame : (s t : List ℕ) (b n : ℕ) → b + n ≤ length s → b + n ≤ length t → SameBetween s t b (b + n) → take n (drop b s) ≡ take n (drop b t)
+pub run-frame : (s t : List ℕ) (b n : ℕ) → b + n ≤ length s → b + n ≤ length t → SameBetween s t b (b + n) → take n (drop b s) ≡ take n (drop b t)
 run-frame s t b n f g h =
     let p = length-drop b s in
     let q = length-drop b t in
@@ -45,7 +47,7 @@ run-frame s t b n f g h =
     let k : i < n = omega arith in
     rw (getD-take n (drop b s), getD-take n (drop b t), getD-drop b s, getD-drop b t) (h (b + i) (omega arith) (omega arith)))
 
-map-same : (f g : ℕ → ℕ) (l : List ℕ) → ((k : ℕ) → Mem k l → f k ≡ g k) → map f l ≡ map g l
+pub map-same : (f g : ℕ → ℕ) (l : List ℕ) → ((k : ℕ) → Mem k l → f k ≡ g k) → map f l ≡ map g l
 map-same f g [] h = refl
 map-same f g (x ∷ l) h = ap₂ (λ (y : ℕ) (r : List ℕ). y ∷ r) (h x (inl refl)) (map-same f g l (λ k q. h k (inr q)))
 
@@ -66,7 +68,7 @@ module _ (s t : List ℕ) (l : ℕ) (h : SameBetween s t (laneFrom l) (laneFrom 
           let n : number 2 s (laneFrom l) ≤ 4096 = omega (arith, eqb-false (number 2 s (laneFrom l)) 4097 e) in
           ap holding (run-frame s t (laneFrom l + 8) (number 2 s (laneFrom l)) (omega arith) (omega arith) (λ i a b. h i (omega arith) (omega arith)))
 
--- ---- the bytes behind the lanes
+-- ---- where the opening's numbers are equal
 
 module _ (s t : List ℕ) (n : numbersAt s ≡ numbersAt t) where
   pub tree-from-same : (i : ℕ) → treeFrom s i ≡ treeFrom t i
@@ -77,6 +79,27 @@ module _ (s t : List ℕ) (n : numbersAt s ≡ numbersAt t) where
 
   pub size-same : sizeAt s ≡ sizeAt t
   size-same = size-is s ∙ rw (n, masks-from-same, ← size-is t)
+
+  -- ---- a tree, by its own 128 bytes
+
+  module _ (i : ℕ) (b : SameBetween s t (treeFrom s i) (treeFrom s i + 128)) where
+    entry : (j : ℕ) → j + 2 ≤ 128 → number 2 s (treeFrom s i + j) ≡ number 2 t (treeFrom t i + j)
+    entry j l = number-frame s t 2 (treeFrom s i + j) (treeFrom t i + j) (rw (tree-from-same i)) (λ x p q. b x (omega arith) (omega arith))
+
+    pub entries-same : entriesAt s i ≡ entriesAt t i
+    entries-same = rw (add-zero (treeFrom s i), add-zero (treeFrom t i)) at (entry 0 (omega arith))
+
+    entry-same : (j : ℕ) → j < 63 → entryAt s i j ≡ entryAt t i j
+    entry-same j l = rw (add-assoc (treeFrom s i), add-assoc (treeFrom t i)) (entry (2 + 2 * j) (omega arith))
+
+    pub list-same : entriesAt s i ≤ 62 → listAt s i ≡ listAt t i
+    list-same l =
+        list-is s i ∙ upTo-same (entryAt s i) (entryAt t i) (entriesAt s i) (λ j q. entry-same j (omega arith)) ∙ rw (entries-same, ← list-is t i)
+
+    pub tree-same : entriesAt s i ≤ 62 → ((k : ℕ) → Mem k (listAt s i) → maskAt s k ≡ maskAt t k) → treeAt s i ≡ treeAt t i
+    tree-same l f = tree-is s i ∙ map-same (maskAt s) (maskAt t) (listAt s i) f ∙ rw (list-same l, ← tree-is t i)
+
+  -- ---- the bytes behind the lanes
 
   module _ (b : SameBetween s t (treeFrom s 0) (sizeAt s)) where
     behind : (k a c : ℕ) → a ≡ c → treeFrom s 0 ≤ a → a + k ≤ sizeAt s → number k s a ≡ number k t c
@@ -121,24 +144,18 @@ module _ (s t : List ℕ) (n : numbersAt s ≡ numbersAt t) where
 
     -- ---- a tree
 
-    -- a number among the 128 bytes of tree i
-    entry : (i k j : ℕ) → i < numbersAt s .treeRoom → j + k ≤ 128 → number k s (treeFrom s i + j) ≡ number k t (treeFrom t i + j)
-    entry i k j h l =
+    tree-bytes : (i : ℕ) → i < numbersAt s .treeRoom → SameBetween s t (treeFrom s i) (treeFrom s i + 128)
+    tree-bytes i h j p q =
         let a = tree-from s 0 in
         let c = tree-from s i in
         let d = masks-from s in
-        behind k (treeFrom s i + j) (treeFrom t i + j) (rw (tree-from-same i)) (omega arith) (omega (arith, size-is s))
+        b j (omega arith) (omega (arith, size-is s))
 
     pub entries-frame : (i : ℕ) → i < numbersAt s .treeRoom → entriesAt s i ≡ entriesAt t i
-    entries-frame i h = rw (add-zero (treeFrom s i), add-zero (treeFrom t i)) at (entry i 2 0 h (omega arith))
-
-    entry-frame : (i j : ℕ) → i < numbersAt s .treeRoom → j < 63 → entryAt s i j ≡ entryAt t i j
-    entry-frame i j h l = rw (add-assoc (treeFrom s i), add-assoc (treeFrom t i)) (entry i 2 (2 + 2 * j) h (omega arith))
+    entries-frame i h = entries-same i (tree-bytes i h)
 
     pub list-frame : (i : ℕ) → i < numbersAt s .treeRoom → entriesAt s i ≤ 62 → listAt s i ≡ listAt t i
-    list-frame i h l =
-        list-is s i ∙ upTo-same (entryAt s i) (entryAt t i) (entriesAt s i) (λ j q. entry-frame i j h (omega arith)) ∙ rw (entries-frame i h, ← list-is t i)
+    list-frame i h l = list-same i (tree-bytes i h) l
 
     pub tree-frame : (i : ℕ) → i < numbersAt s .treeRoom → entriesAt s i ≤ 62 → ((k : ℕ) → Mem k (listAt s i) → k < numbersAt s .splitRoom) → treeAt s i ≡ treeAt t i
-    tree-frame i h l f =
-        tree-is s i ∙ map-same (maskAt s) (maskAt t) (listAt s i) (λ k q. mask-frame k (f k q)) ∙ rw (list-frame i h l, ← tree-is t i)
+    tree-frame i h l f = tree-same i (tree-bytes i h) l (λ k q. mask-frame k (f k q))

@@ -4,24 +4,13 @@
 --   first-kept, second-kept, opening-kept     the opening, where those from 16 up to 4,096 are equal too
 use Prim.Native.Nat.{ℕ, _+_, _*_, _≤_, _<_}
 use native.Mathlib.Omega.{arith}
-use mathlib.Core.Path.{_≡_, refl, sym, _∙_}
+use mathlib.Core.Path.{_≡_, refl}
 use mathlib.Core.List.{List}
-use lib.ListN.{length, getD, take, drop, length-drop}
-use lib.Seq.{length-take-le, getD-take, getD-drop, ext-getD}
+use lib.ListN.{length, getD}
 use Rattle.fields.specs.Field.{number}
 use Rattle.head.specs.Head.{numbersAt, nameAt, namesAt, firstAt, secondAt, openingAt}
 use Rattle.head.specs.HeadLaws.{upTo-same}
-use Rattle.store.specs.PartFrameLaws.{SameBetween, number-frame}
-
-run-kept : (s t : List ℕ) (b n : ℕ) → b + n ≤ length s → b + n ≤ length t → SameBetween s t b (b + n) → take n (drop b s) ≡ take n (drop b t)
-run-kept s t b n f g h =
-    let p = length-drop b s in
-    let q = length-drop b t in
-    let u : length (take n (drop b s)) ≡ n = length-take-le n (drop b s) (omega arith) in
-    let v : length (take n (drop b t)) ≡ n = length-take-le n (drop b t) (omega arith) in
-    ext-getD 0 _ _ (u ∙ sym v) (λ i l.
-    let k : i < n = omega arith in
-    rw (getD-take n (drop b s), getD-take n (drop b t), getD-drop b s, getD-drop b t) (h (b + i) (omega arith) (omega arith)))
+use Rattle.store.specs.PartFrameLaws.{SameBetween, number-frame, run-frame}
 
 module _ (s t : List ℕ) (h : SameBetween s t 0 10) where
   number-kept : (a : ℕ) → a + 2 ≤ 10 → number 2 s a ≡ number 2 t a
@@ -38,13 +27,14 @@ module _ (s t : List ℕ) (h : SameBetween s t 0 10) where
         number-kept 8 (omega arith),
       )
 
+  -- with at most 64 taxa, and bytes below 256, so that a name of any length ends inside
   module _ (b : SameBetween s t 16 4096) (f : 4096 ≤ length s) (g : 4096 ≤ length t) (bytes : (i : ℕ) → getD s i 0 < 256) (few : numbersAt s .taxa ≤ 64) where
     name-kept : (i : ℕ) → i < 64 → nameAt s i ≡ nameAt t i
     unfolding nameAt
     name-kept i l =
         let n = bytes (16 + 33 * i) in
         rw (← b (16 + 33 * i) (omega arith) (omega arith))
-        (run-kept s t (17 + 33 * i) (getD s (16 + 33 * i) 0) (omega arith) (omega arith) (λ j p q. b j (omega arith) (omega arith)))
+        (run-frame s t (17 + 33 * i) (getD s (16 + 33 * i) 0) (omega arith) (omega arith) (λ j p q. b j (omega arith) (omega arith)))
 
     constant-kept : (k a : ℕ) → 16 ≤ a → a + k ≤ 4096 → number k s a ≡ number k t a
     constant-kept k a p q = number-frame s t k a a refl (λ i l r. b i (omega arith) (omega arith))
