@@ -20,12 +20,7 @@ use table::Progress;
 use table::Refusal;
 
 // The verdict on the text of a lane, which is empty afterwards.
-pub(crate) fn finish_text(
-    s: &mut [u8],
-    starts: &[u8; 128],
-    links: &[u8; 64],
-    l: Lane,
-) -> Progress
+pub(crate) fn finish_text(s: &mut [u8], starts: &[u8; 128], links: &[u8; 64], l: Lane) -> Progress
     requires { ⌜ wholeAt (now s) ≡ true ⌝ }
     requires { ⌜ l .0 < numbersAt (now s) .lanes ⌝ }
     requires { ⌜ Indexed (namesAt (now s)) (now starts) (now links) ⌝ }
@@ -39,7 +34,16 @@ pub(crate) fn finish_text(
     let mut masks = [0u64; 64];
     let mut places = [0u64; 64];
     let mut identifiers = [0u64; 64];
-    let judged = judge_lane(s, starts, links, l, n, &mut masks, &mut places, &mut identifiers);
+    let judged = judge_lane(
+        s,
+        starts,
+        links,
+        l,
+        n,
+        &mut masks,
+        &mut places,
+        &mut identifiers,
+    );
     lanes::empty_lane(s, l);
     match judged {
         Judged::Refused(k) => Progress::Refused(refusal_of(k)),

@@ -76,8 +76,7 @@ unfolding Steps ending answers
 steps-follow [] s heard t w q = (rw (q .1) w, ap heldAt (q .1), q .0)
 steps-follow (c ∷ cs) s heard t w q =
     let x = step-follows s w c (q .0) (q .2) (q .4) in
-    let y = steps-follow cs (q .2) (q .1) t (x .0) (q .5) in
-    (
+    let y = steps-follow cs (q .2) (q .1) t (x .0) (q .5) in (
       y .0,
       y .1 ∙ ap (λ (h : Held). ending h cs) (x .1),
       q .3 ∙ ap₂ (λ (a : Heard) (l : List Heard). a ∷ l) (x .2) (y .2 ∙ ap (λ (h : Held). answers h cs) (x .1)),
