@@ -1,4 +1,7 @@
 -- Runs of calls on lent bytes, as the promises allow them, and what they come to; and that each promise leaves one outcome.
 pub mod Steps
 pub mod StepLaws
+pub mod RunLaws
+pub mod BatchLaws
 pub mod Outcomes
+pub mod InnerOutcomes

@@ -74,11 +74,11 @@ pub refusal-one : (a b : Refusal) → refusalNumber a ≡ refusalNumber b → a 
 refusal-one a b e = sym (numbered a) ∙ ap refusalOf e ∙ numbered b
 
 -- what an answer refuses with, and what it gives; 0 and x otherwise
-refusalIn : {A : Type 0} → Answer A → ℕ
+unfoldable pub refusalIn : {A : Type 0} → Answer A → ℕ
 refusalIn (refused k) = k
 refusalIn (gives x) = 0
 
-valueOr : {A : Type 0} → A → Answer A → A
+unfoldable pub valueOr : {A : Type 0} → A → Answer A → A
 valueOr y (refused k) = y
 valueOr y (gives x) = x
 
@@ -86,7 +86,7 @@ isGiven : {A : Type 0} → Answer A → Bool
 isGiven (refused k) = false
 isGiven (gives x) = true
 
-gives≢refused : {A : Type 0} (x : A) (k : ℕ) → _≡_ {A = Answer A} (gives x) (refused k) → ⊥
+pub gives≢refused : {A : Type 0} (x : A) (k : ℕ) → _≡_ {A = Answer A} (gives x) (refused k) → ⊥
 unfolding isGiven
 gives≢refused {A} x k e = true≢false (ap (λ (a : Answer A). isGiven a) e)
 
