@@ -26,7 +26,8 @@ pub fn tree_count(s: &[u8]) -> Number
     if !store::is_whole(s) {
         return Number::Refused(Refusal::NotWhole);
     }
-    Number::Gives(layout::trees_held(s))
+    let trees = layout::trees_held(s);
+    Number::Gives(trees)
 }
 
 // How many splits are recorded.
@@ -36,7 +37,8 @@ pub fn split_count(s: &[u8]) -> Number
     if !store::is_whole(s) {
         return Number::Refused(Refusal::NotWhole);
     }
-    Number::Gives(layout::splits_held(s))
+    let splits = layout::splits_held(s);
+    Number::Gives(splits)
 }
 
 // The mask and the count of split number k.
