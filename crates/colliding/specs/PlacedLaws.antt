@@ -1,7 +1,6 @@
 -- The places of the rows, as they are noted along the chains. Assumes nothing.
 --
 --   whole-head, held-most, places-most     a whole store's head is in order; it has at most 4,096 splits and 8,192 places
---   link-read, start-read          what is read, passed on from the laws of the chains
 --   highest-has, highest-over      the highest row of a place has it, and none above
 --   placed-none, placed-all        no place is noted; every place is
 --   part-starts, part-more, part-ends     one place: its start, a row along it, its end
@@ -25,7 +24,6 @@ use Rattle.store.specs.UpToLaws.{less-or-not}
 use Rattle.store.specs.Chain.{placeIn}
 use Rattle.store.specs.ChainLaws.{highest-most, place-below}
 use Rattle.store.specs.ChainTests.{equal-or-not}
-pub use Rattle.store.specs.ChainTests.{link-read, start-read}
 use Rattle.colliding.specs.Collisions.{Placed, PlacedPart}
 
 -- ---- a whole store

@@ -14,7 +14,7 @@ use mathlib.Core.List.{List, [], _∷_, map}
 use lib.Dec.{eqb}
 use lib.ListN.{length}
 use borrow.Author.Tests.{eqb-true, eqb-false, ne-eqb}
-use Rattle.trees.specs.Plain.{if_then_else_, member}
+use Rattle.trees.specs.Plain.{member}
 use Rattle.trees.specs.Distance.{oneSided}
 use Rattle.theorems.specs.ListLaws.{Mem, member-mem, mem-member, member-not, not-member}
 use Rattle.theorems.specs.RisingLaws.{Rising}

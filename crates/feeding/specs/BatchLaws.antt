@@ -4,6 +4,7 @@
 --   Going ..           i texts are fed, up to the place `at` of the piece; what is left of it decides the rest
 --   going-none, going-more     no text yet, and one more
 --   going-lane, going-index, going-part     what feeding the rest asks
+--   taken-fits         a text that was taken ends in the piece
 --   gone-holds, gone-verdicts     and behind the last text
 --   batched-length     the verdicts' buffer is as long as before
 --   batch-not-whole, batch-no-lane, batch-short, batch-done     what each return of the code promises
@@ -19,12 +20,11 @@ use lib.Seq.{take-all, take-suc-set, drop-set-lt, drop-drop}
 use borrow.Author.Tests.{lt-ltb, le-ltb}
 use Rattle.trees.specs.Plain.{if_then_else_, member, Answer, refused, gives}
 use Rattle.trees.specs.Opening.{Opening, storeSize}
-use Rattle.trees.specs.Held.{Held, laneOf, withLane, longer, verdict, moreWanted, accepted, beforeSemicolon, finished, finishing, feeding}
+use Rattle.trees.specs.Held.{Held, laneOf, longer, verdict, beforeSemicolon, finished, finishing, feeding}
 use Rattle.trees.specs.Held as held
-use Rattle.trees.specs.Batch.{semicolons, verdictNumber, Batched, withVerdict, batching, batch}
+use Rattle.trees.specs.Batch.{semicolons, verdictNumber, withVerdict, batching, batch}
 use Rattle.theorems.specs.WrittenFedLaws.{feedingBy, feeding-by}
 use Rattle.theorems.specs.OwnLaneLaws.{feeding-opening}
-use Rattle.theorems.specs.ListLaws.{by-test}
 use Rattle.head.specs.Head.{numbersAt, namesAt, openingAt}
 use Rattle.head.specs.Index.{Indexed}
 use Rattle.layout.specs.Store.{sizeAt, heldAt}
@@ -35,7 +35,6 @@ use Rattle.store.specs.HeldWholeLaws.{held-numbers, opening-facts}
 use Rattle.table.specs.Answers.{refusalNumber, numberGiven, progressGiven}
 use Rattle.table.specs.Promises.{ifWhole, Holds}
 use Rattle.table.specs.declared.Refusal.the-variants as why
-use Rattle.table.specs.declared.Number.{Number}
 use Rattle.table.specs.declared.Number.the-variants as number
 use Rattle.table.specs.declared.Fed.{Fed}
 use Rattle.feeding.specs.Feeding.{batchOf, BatchedAs}

@@ -4,16 +4,13 @@
 --   closed-done        and where it is neither 6 nor 7
 --   close-not-whole, close-no-lane, close-lane     what each return of the code promises
 use Prim.Native.Nat.{ℕ, _≤_, _<_}
-use native.Mathlib.Omega.{arith}
 use mathlib.Core.Path.{_≡_, refl, sym, ap, _∙_}
 use mathlib.Core.Bool.{Bool, true, false}
 use mathlib.Core.List.{List, []}
-use lib.Dec.{ltb}
 use borrow.Author.Tests.{lt-ltb, le-ltb}
 use Rattle.trees.specs.Plain.{if_then_else_, every, Answer, refused, gives}
 use Rattle.trees.specs.Text.{isBlank}
-use Rattle.trees.specs.Held.{Held, Lane, holding, overrun, Closed, laneOf, withLane, closed, closing}
-use Rattle.theorems.specs.ListLaws.{if-true, if-false}
+use Rattle.trees.specs.Held.{Lane, holding, overrun, Closed, laneOf, withLane, closed, closing}
 use Rattle.head.specs.Head.{numbersAt}
 use Rattle.layout.specs.Store.{heldAt}
 use Rattle.store.specs.WholeStore.{wholeAt}

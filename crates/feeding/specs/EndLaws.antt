@@ -2,16 +2,14 @@
 --
 --   end-here, end-more, end-none     how many bytes stand before the first semicolon
 --   before-take        the bytes before it are the piece's first
---   end-most           they are at most all
 --   ended, unended, end-inside, end-all     a piece has a semicolon exactly where they are not all
 --   texts-here, texts-more, texts-none     how many semicolons there are
 --   one-text           behind the first text there is one fewer
 --   no-text            a piece without a semicolon has none
-use Prim.Native.Nat.{ℕ, zero, suc, _+_, _≤_, _<_}
+use Prim.Native.Nat.{ℕ, suc, _+_, _≤_, _<_}
 use native.Mathlib.Numerals.{add-one}
 use native.Mathlib.Omega.{arith}
 use mathlib.Core.Path.{_≡_, refl, sym, ap, _∙_}
-use mathlib.Core.Logic.{_⊎_, inl, inr}
 use mathlib.Core.Bool.{Bool, true, false, _||_, true≢false}
 use mathlib.Core.List.{List, [], _∷_}
 use lib.Dec.{eqb}
@@ -21,7 +19,7 @@ use borrow.Author.Tests.{eqb-true, eqb-false, eq-eqb, ne-eqb}
 use Rattle.trees.specs.Plain.{if_then_else_, keep, member}
 use Rattle.trees.specs.Held.{beforeSemicolon}
 use Rattle.trees.specs.Batch.{semicolons}
-use Rattle.theorems.specs.ListLaws.{by-test, if-true, if-false}
+use Rattle.theorems.specs.ListLaws.{if-true, if-false}
 
 -- ---- the first semicolon
 
@@ -49,11 +47,6 @@ before-take (b ∷ p) = go (eqb b 59) (before-take p)
         → take (length (if t then [] else b ∷ beforeSemicolon p)) (b ∷ p) ≡ (if t then [] else b ∷ beforeSemicolon p)
     go true e = refl
     go false e = ap (λ (l : List ℕ). b ∷ l) e
-
-pub end-most : (p : List ℕ) → length (beforeSemicolon p) ≤ length p
-unfolding beforeSemicolon
-end-most [] = omega arith
-end-most (b ∷ p) = by-test (λ (l : List ℕ). length l ≤ suc (length p)) (eqb b 59) (λ e. omega arith) (λ e. omega (arith, end-most p))
 
 eqb-flip : (a b : ℕ) → eqb a b ≡ eqb b a
 eqb-flip a b = go (eqb b a) refl
@@ -120,11 +113,6 @@ module _ (p : List ℕ) (i : ℕ) where
   pub texts-none : length p ≤ i → semicolons (drop i p) ≡ 0
   unfolding semicolons keep
   texts-none h = rw (drop-of-length-le p h)
-
-pub texts-most : (p : List ℕ) → semicolons p ≤ length p
-unfolding semicolons keep
-texts-most [] = omega arith
-texts-most (b ∷ p) = by-test (λ (l : List ℕ). length l ≤ suc (length p)) (eqb 59 b) (λ e. omega (arith, texts-most p)) (λ e. omega (arith, texts-most p))
 
 pub no-text : (p : List ℕ) → member 59 p ≡ false → semicolons p ≡ 0
 unfolding semicolons keep member

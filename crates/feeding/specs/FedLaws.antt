@@ -9,11 +9,10 @@ use Prim.Native.Nat.{ℕ, suc, _+_, _≤_, _<_}
 use native.Mathlib.Numerals.{add-one}
 use native.Mathlib.Omega.{arith}
 use mathlib.Core.Path.{_≡_, refl, sym, ap, subst, _∙_}
-use mathlib.Core.Logic.{inl, inr}
+use mathlib.Core.Logic.{inr}
 use mathlib.Core.Bool.{true, false}
 use mathlib.Core.List.{List, []}
-use lib.Dec.{ltb}
-use lib.ListN.{length, getD, set, take}
+use lib.ListN.{length, take}
 use lib.Seq.{getD-set-same, set-set}
 use borrow.Author.Tests.{lt-ltb, le-ltb}
 use Rattle.trees.specs.Plain.{if_then_else_, member, Answer, refused, gives}
@@ -28,7 +27,6 @@ use Rattle.store.specs.WholeStore.{wholeAt}
 use Rattle.store.specs.HeldWholeLaws.{held-numbers, texts-length, opening-facts}
 use Rattle.lanes.specs.Lanes.{LaneIs}
 use Rattle.table.specs.Answers.{refusalNumber, progressGiven}
-use Rattle.table.specs.Promises.{Holds}
 use Rattle.table.specs.declared.Refusal.the-variants as why
 use Rattle.table.specs.declared.Progress.{Progress}
 use Rattle.table.specs.declared.Progress.the-variants as progress

@@ -29,6 +29,7 @@ use Rattle.table.specs.declared.Fed.{Fed}
 use Rattle.table.specs.declared.Finish.{Finish}
 use Rattle.table.specs.declared.Number.{Number}
 
+-- the call comes to a lane: "checks 1, then 5"
 unfoldable pub reached : List ℕ → ℕ → Bool
 unfolding wholeAt numbersAt
 reached s l = wholeAt s && ltb l (numbersAt s .lanes)
@@ -46,6 +47,7 @@ unfoldable pub batchOf : List ℕ → ℕ → List ℕ → ℕ → Answer Batche
 unfolding ifWhole batch
 batchOf s l p room = ifWhole s (λ h. batch h l p room)
 
+-- "accepted, with the tree's number"
 unfoldable pub isAccepted : Answer held.Progress → Bool
 isAccepted (refused k) = false
 isAccepted (gives moreWanted) = false

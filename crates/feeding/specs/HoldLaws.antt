@@ -1,19 +1,18 @@
 -- What a store holds when one of its lanes has changed, and what a call finds that is refused. Assumes nothing.
 --
+--   size-held, lane-below     the size of what is held is the store's, and a lane ends below it
 --   lane-holds         a lane changed: the rest is held as before, and bytes past the size are kept
 --   not-whole, no-lane, in-place     whether the lent bytes are whole and have the lane
---   Untouched, untouched     a refused call finds everything as it leaves it
+--   both-ways          a test that fails does not pass
 use Prim.Native.Nat.{ℕ, _+_, _≤_, _<_}
 use native.Mathlib.Omega.{arith}
-use mathlib.Core.Path.{_≡_, refl, sym, ap, _∙_}
-use mathlib.Core.Logic.{inl, inr}
-use mathlib.Core.Bool.{Bool, true, false, _&&_, and-false, true≢false}
+use mathlib.Core.Path.{_≡_, sym, ap, _∙_}
+use mathlib.Core.Logic.{inr}
+use mathlib.Core.Bool.{Bool, true, false, and-false, true≢false}
 use mathlib.Core.List.{List}
-use lib.Dec.{ltb}
-use lib.ListN.{length, getD}
 use borrow.Author.Tests.{lt-ltb, le-ltb}
 use Rattle.trees.specs.Opening.{storeSize}
-use Rattle.trees.specs.Held.{Held, Lane, withLane}
+use Rattle.trees.specs.Held.{Lane, withLane}
 use Rattle.theorems.specs.ListLaws.{and-true}
 use Rattle.head.specs.Head.{numbersAt}
 use Rattle.layout.specs.Store.{laneFrom, sizeAt, heldAt}

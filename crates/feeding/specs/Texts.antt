@@ -1,9 +1,10 @@
 -- What the steps of feeding do in a whole store.
 --
 --   Left h s l a t          the lent bytes t hold h; where the answer a accepts no tree they are as in s outside the lane l
---   Fedwell s l p r t       feeding a piece to a lane that is there
+--   FedWell s l p r t       feeding a piece to a lane that is there
+--   verdictOn s l           the verdict on the text of lane l
 --   Finished s l r t        the verdict on the lane's text, and the lane empty
---   Judgeable s t n ms ps is     the first n of ms are the splits t of a text; ps and is have their places and identifiers
+--   Judgeable s n ms ps is  the first n of ms are the splits of a text; ps and is have their places and identifiers
 --   Small a                 the number of an accepted tree is at most 1,024
 --   Accepts a s r t         the verdict a as to room: refused and nothing changed, or the tree recorded
 use Prim.Native.Nat.{ℕ, _≤_, _<_}

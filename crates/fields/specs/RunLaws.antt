@@ -82,17 +82,6 @@ module _ (s : List ℕ) (to : ℕ) (t : List ℕ) (from n : ℕ) where
 
   -- ---- a number after the copy
 
-  -- a number at a, inside the run, is the source's at b, where a lies as far behind `to` as b behind `from`
-  pub number-copied-inside : (k a b : ℕ) → to + n ≤ length s → from + n ≤ length t → to ≤ a → a + k ≤ to + n → a + from ≡ b + to
-      → number k (copied s to t from n) a ≡ number k t b
-  number-copied-inside k a b f g p q d =
-      number-same k _ _ a b (λ i l. copied-inside (a + i) (b + i) f g (omega arith) (omega arith) (omega arith))
-
-  -- a number before or behind the run is kept
-  pub number-copied-outside : (k a : ℕ) → (a + k ≤ to) ⊎ (to + n ≤ a) → number k (copied s to t from n) a ≡ number k s a
-  number-copied-outside k a (inl h) = number-same k _ _ a a (λ i l. copied-outside (a + i) (inl (omega arith)))
-  number-copied-outside k a (inr h) = number-same k _ _ a a (λ i l. copied-outside (a + i) (inr (omega arith)))
-
   -- ---- a copy as the loops make it
 
   -- one byte more at the end

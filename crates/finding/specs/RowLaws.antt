@@ -7,22 +7,17 @@
 --   row-at                       the row of the j-th mask
 --   row-found                    a row that the store has is that of the mask's split
 --   row-new                      any other row is that of a new mask, and is as far behind the store's rows as there are new masks before it
---   row-known, row-missing       a mask that the store has goes to a row that it has, and any other to one that it has not
 --   row-below                    a row is below the number of splits and of new masks together
---   new-length                   the rows that the store has not are as many as the new masks
 use Prim.Native.Nat.{ℕ, zero, suc, _+_, _≤_, _<_}
 use native.Mathlib.Omega.{arith}
-use mathlib.Core.Path.{_≡_, refl, sym, ap, _∙_}
-use mathlib.Core.Bool.{true, false, true≢false}
+use mathlib.Core.Path.{_≡_, refl, ap, _∙_}
+use mathlib.Core.Bool.{true, false}
 use mathlib.Core.List.{List, [], _∷_, _++_}
 use mathlib.Core.Option.{Option, none, some}
-use lib.Dec.{leb}
 use lib.ListN.{length, getD, take, drop, length-append}
 use lib.Seq.{split-at}
-use borrow.Author.Tests.{le-leb, lt-leb}
-use Rattle.trees.specs.Plain.{keep, member}
+use Rattle.trees.specs.Plain.{member}
 use Rattle.trees.specs.Held.{newSplits}
-use Rattle.theorems.specs.ListLaws.{if-true, if-false}
 use Rattle.layout.specs.Store.{splitsHeldAt, maskAt, masksAt, heldAt}
 use Rattle.store.specs.WholeStore.{wholeAt}
 use Rattle.store.specs.Chain.{look}
@@ -124,13 +119,6 @@ module _ (s : List ℕ) (whole : wholeAt s ≡ true) (t : List ℕ) (j : ℕ) (h
       go (some k) e = rw (row-some k e) (look-finds s (getD t j 0) whole k .0 e .1)
       go none e = absurd (omega (arith, row-none e))
 
-  pub row-known : member (getD t j 0) (masksAt s) ≡ true → getD (rowsFor s (splitsHeldAt s) t) j 0 < splitsHeldAt s
-  row-known d = go (look s (getD t j 0)) refl
-    where
-      go : (o : Option ℕ) → look s (getD t j 0) ≡ o → rowIn s t j < splitsHeldAt s
-      go (some k) e = rw (row-some k e) (look-finds s (getD t j 0) whole k .0 e .0)
-      go none e = absurd (true≢false (sym d ∙ look-nothing s (getD t j 0) whole .0 e))
-
   pub row-new : splitsHeldAt s ≤ getD (rowsFor s (splitsHeldAt s) t) j 0
       → (member (getD t j 0) (masksAt s) ≡ false)
       × (getD (rowsFor s (splitsHeldAt s) t) j 0 ≡ splitsHeldAt s + length (newSplits (heldAt s) (take j t)))
@@ -139,9 +127,6 @@ module _ (s : List ℕ) (whole : wholeAt s ≡ true) (t : List ℕ) (j : ℕ) (h
       go : (o : Option ℕ) → look s (getD t j 0) ≡ o → (member (getD t j 0) (masksAt s) ≡ false) × (rowIn s t j ≡ splitsHeldAt s + newIn s (take j t))
       go (some k) e = absurd (omega (arith, row-some k e, look-finds s (getD t j 0) whole k .0 e .0))
       go none e = (look-nothing s (getD t j 0) whole .0 e, row-none e)
-
-  pub row-missing : member (getD t j 0) (masksAt s) ≡ false → splitsHeldAt s ≤ getD (rowsFor s (splitsHeldAt s) t) j 0
-  row-missing d = omega (arith, row-none (look-nothing s (getD t j 0) whole .1 d))
 
   pub row-below : getD (rowsFor s (splitsHeldAt s) t) j 0 < splitsHeldAt s + length (newSplits (heldAt s) t)
   row-below = go (look s (getD t j 0)) refl
@@ -155,42 +140,3 @@ module _ (s : List ℕ) (whole : wholeAt s ≡ true) (t : List ℕ) (j : ℕ) (h
       go : (o : Option ℕ) → look s (getD t j 0) ≡ o → rowIn s t j < splitsHeldAt s + newIn s t
       go (some k) e = omega (arith, row-some k e, look-finds s (getD t j 0) whole k .0 e .0)
       go none e = omega (arith, row-none e, parts, ap length (new-missing s whole (getD t j 0) (drop (suc j) t) e))
-
--- ---- how many rows the store has not
-
--- how many numbers of a list are n or more
-abbrev fromOn : ℕ → List ℕ → ℕ
-fromOn n l = length (keep (leb n) l)
-
-fromOn-less : (n k : ℕ) (l : List ℕ) → k < n → fromOn n (k ∷ l) ≡ fromOn n l
-unfolding keep
-fromOn-less n k l h = ap length (if-false _ _ (lt-leb n k h))
-
-fromOn-more : (n k : ℕ) (l : List ℕ) → n ≤ k → fromOn n (k ∷ l) ≡ suc (fromOn n l)
-unfolding keep
-fromOn-more n k l h = ap length (if-true _ _ (le-leb n k h))
-
-module _ (s : List ℕ) (whole : wholeAt s ≡ true) where
-  -- wherever the new ones are counted on from
-  new-rows : (next : ℕ) (t : List ℕ) → splitsHeldAt s ≤ next → fromOn (splitsHeldAt s) (rowsFor s next t) ≡ newIn s t
-  unfolding keep
-  new-rows next [] h = rw (rows-none s next, new-none s)
-  new-rows next (m ∷ t) h = go (look s m) refl (new-rows next t h) (new-rows (suc next) t (omega arith))
-    where
-      go : (o : Option ℕ) → look s m ≡ o
-          → fromOn (splitsHeldAt s) (rowsFor s next t) ≡ newIn s t
-          → fromOn (splitsHeldAt s) (rowsFor s (suc next) t) ≡ newIn s t
-          → fromOn (splitsHeldAt s) (rowsFor s next (m ∷ t)) ≡ newIn s (m ∷ t)
-      go (some k) e f g =
-          ap (fromOn (splitsHeldAt s)) (rows-found s next m t k e)
-          ∙ fromOn-less (splitsHeldAt s) k (rowsFor s next t) (look-finds s m whole k .0 e .0)
-          ∙ f
-          ∙ sym (count-found s whole m t k e)
-      go none e f g =
-          ap (fromOn (splitsHeldAt s)) (rows-missing s next m t e)
-          ∙ fromOn-more (splitsHeldAt s) next (rowsFor s (suc next) t) h
-          ∙ ap suc g
-          ∙ sym (count-missing s whole m t e)
-
-  pub new-length : (t : List ℕ) → length (keep (leb (splitsHeldAt s)) (rowsFor s (splitsHeldAt s) t)) ≡ length (newSplits (heldAt s) t)
-  new-length t = new-rows (splitsHeldAt s) t (omega arith)

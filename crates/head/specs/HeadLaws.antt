@@ -1,7 +1,6 @@
 -- The laws of a store's head. Assumes nothing.
 --
 --   upTo-length, upTo-at, upTo-same     a list made by `upTo`
---   taxa-at                             the number of taxa, as it lies in the bytes
 --   names-length, first-length, second-length     each list has an element for each taxon
 --   names-at, first-at, second-at       the element of taxon i
 --   name-slice                          a name is a slice of the bytes
@@ -54,10 +53,6 @@ module _ {A : Type 0} where
 -- ---- the element of each taxon
 
 module _ (s : List ℕ) where
-  pub taxa-at : numbersAt s .taxa ≡ number 2 s 0
-  unfolding numbersAt
-  taxa-at = refl
-
   pub names-length : length (namesAt s) ≡ numbersAt s .taxa
   unfolding namesAt numbersAt
   names-length = upTo-length (nameAt s) (number 2 s 0)

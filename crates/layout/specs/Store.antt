@@ -20,7 +20,7 @@ use Rattle.trees.specs.Plain.{if_then_else_}
 use Rattle.trees.specs.Opening.{storeSize}
 use Rattle.trees.specs.Held.{Held, Lane, holding, overrun}
 use Rattle.fields.specs.Field.{number}
-use Rattle.head.specs.Head.{upTo, fromTo, numbersAt, openingAt}
+use Rattle.head.specs.Head.{upTo, numbersAt, openingAt}
 
 -- ---- the head has these two numbers beside the opening's
 

@@ -5,13 +5,13 @@
 --   batching-ends, batching-hears     a batch holds and answers what these calls do
 --   batch-follows         so does a batch on whole bytes, as its promise allows
 use Prim.Native.Nat.{ℕ, zero, suc}
-use mathlib.Core.Path.{_≡_, refl, sym, ap, ap₂, _∙_}
+use mathlib.Core.Path.{_≡_, refl, ap, _∙_}
 use mathlib.Core.Bool.{true}
 use mathlib.Core.List.{List, [], _∷_, map}
 use lib.ListN.{take, drop}
-use Rattle.trees.specs.Plain.{Answer, refused, gives}
+use Rattle.trees.specs.Plain.{gives}
 use Rattle.trees.specs.Held.{Held, feeding}
-use Rattle.trees.specs.Batch.{verdictNumber, Batched, withVerdict, semicolons, batching, batch}
+use Rattle.trees.specs.Batch.{verdictNumber, withVerdict, batching}
 use Rattle.trees.specs.Runs.{Call, feed, Heard, fed, closed, answer, next, answers, ending}
 use Rattle.layout.specs.Store.{heldAt}
 use Rattle.store.specs.WholeStore.{wholeAt}

@@ -6,23 +6,20 @@
 --   added-once, listed-once, recorded-once     a split added, a tree listed, a tree recorded
 --   judged-once         the verdict on a text, and the three lists
 --   wrote-once          a tree written
-use Prim.Native.Nat.{ℕ, _≤_, _<_}
+use Prim.Native.Nat.{ℕ, _<_}
 use native.Mathlib.Omega.{arith}
-use mathlib.Core.Path.{_≡_, refl, sym, ap, ap₂, _∙_}
+use mathlib.Core.Path.{_≡_, refl, sym, ap, _∙_}
 use mathlib.Core.Bool.{Bool, true, false, true≢false}
 use mathlib.Core.List.{List, [], _++_, map}
 use mathlib.Core.Option.{Option, none, some}
-use lib.ListN.{length, getD, drop}
-use Rattle.trees.specs.Plain.{Answer, refused, gives}
+use lib.ListN.{length, drop}
 use Rattle.trees.specs.Hash.{place, identifier}
 use Rattle.trees.specs.Opening.{Opening}
 use Rattle.trees.specs.Held.{Lane}
-use Rattle.trees.specs.Verdict.{judged}
 use Rattle.layout.specs.Store.{splitsHeldAt, sizeAt, maskAt, heldAt}
 use Rattle.store.specs.WholeStore.{wholeAt}
 use Rattle.store.specs.WholeFacts.{whole-at-facts}
 use Rattle.store.specs.OrderLaws.{mask-same}
-use Rattle.store.specs.Chain.{look}
 use Rattle.finding.specs.Rows.{FoundAs}
 use Rattle.finding.specs.declared.Found.{Found}
 use Rattle.finding.specs.declared.Found.the-variants.{Row, Nothing}

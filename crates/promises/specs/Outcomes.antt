@@ -2,6 +2,7 @@
 -- lent bytes outside the store. Assumes nothing.
 --
 --   refusal-one, finish-one, number-one, split-one, progress-one     answers that mean the same are the same
+--   refusalIn, valueOr, gives≢refused     the parts of an answer
 --   answered-once          a promise that is an equation: every question's, for its answer and for its buffers
 --   SameStore n t u        what two lent bytes hold, how many they are, and those past the size n, are the same
 --   opened-refused-once, opened-once, fed-once, closed-once, batched-refused-once, batched-once     the calls that change a store

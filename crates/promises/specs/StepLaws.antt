@@ -4,22 +4,20 @@
 --   opening-follows          from one accepted opening on
 --   same-verdicts            so the verdicts and the trees are those of the whole texts, one after another
 use Prim.Native.Nat.{ℕ}
-use mathlib.Core.Path.{_≡_, refl, sym, ap, ap₂, subst, _∙_}
-use mathlib.Core.Bool.{Bool, true, false, _&&_}
+use mathlib.Core.Path.{_≡_, refl, sym, ap, ap₂, _∙_}
+use mathlib.Core.Bool.{Bool, true, false}
 use mathlib.Core.List.{List, [], _∷_}
 use lib.Dec.{ltb}
-use Rattle.trees.specs.Plain.{Answer, gives}
+use Rattle.trees.specs.Plain.{gives}
 use Rattle.trees.specs.Opening.{Opening}
-use Rattle.trees.specs.Held.{Held, Closed, opened, feeding, closing}
+use Rattle.trees.specs.Held.{Held, opened, feeding, closing}
 use Rattle.trees.specs.Held as held
 use Rattle.trees.specs.Runs.{Call, feed, close, Heard, fed, closed, answer, next, answers, ending, verdicts, wholeTexts}
 use Rattle.theorems.specs.LaneLaws.{lanes-make-no-difference}
-use Rattle.theorems.specs.WrittenFedLaws.{feedingBy, feeding-by}
-use Rattle.head.specs.Head.{numbersAt}
+use Rattle.theorems.specs.WrittenFedLaws.{feeding-by}
 use Rattle.layout.specs.Store.{heldAt}
 use Rattle.store.specs.WholeStore.{wholeAt}
 use Rattle.store.specs.HeldWholeLaws.{held-numbers}
-use Rattle.table.specs.Answers.{finishGiven, progressGiven}
 use Rattle.table.specs.Promises.{OpenedAs}
 use Rattle.table.specs.declared.Finish.{Finish}
 use Rattle.feeding.specs.Feeding.{reached, fedOf, closedOf, FedAs, ClosedAs}

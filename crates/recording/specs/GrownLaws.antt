@@ -8,28 +8,26 @@
 use Prim.Native.Nat.{ℕ, zero, suc, _+_, _≤_, _<_}
 use native.Mathlib.Numerals.{add-one}
 use native.Mathlib.Omega.{arith}
-use mathlib.Core.Path.{_≡_, refl, sym, ap, ap₂, subst, _∙_}
+use mathlib.Core.Path.{_≡_, refl, sym, ap, _∙_}
 use mathlib.Core.Logic.{_⊎_, inl, inr}
-use mathlib.Core.Bool.{Bool, true, false, true≢false}
+use mathlib.Core.Bool.{true, false, true≢false}
 use mathlib.Core.List.{List, [], _∷_, _++_}
-use mathlib.Core.Option.{Option, none, some}
 use lib.ListN.{length, getD, take, length-append}
 use lib.Seq.{take-suc, take-take, getD-take, length-take-le}
 use Rattle.trees.specs.Plain.{every, member}
 use Rattle.trees.specs.Mask.{proper}
-use Rattle.trees.specs.Hash.{place, identifier}
+use Rattle.trees.specs.Hash.{identifier}
 use Rattle.trees.specs.Opening.{storeSize}
 use Rattle.trees.specs.Held.{Held, newSplits}
-use Rattle.trees.specs.Whole.{rising, agreeInPairs, goodTree}
-use Rattle.theorems.specs.ListLaws.{and-left, and-right, Mem, every-at, member-not, mem-member}
+use Rattle.trees.specs.Whole.{goodTree}
+use Rattle.theorems.specs.ListLaws.{and-left, and-right, every-at, member-not, mem-member}
 use Rattle.theorems.specs.RisingLaws.{Rising, rising-true}
 use Rattle.head.specs.Head.{numbersAt, firstAt, secondAt, openingAt}
-use Rattle.layout.specs.Store.{treesHeldAt, splitsHeldAt, sizeAt, maskAt, masksAt, countAt, heldAt}
+use Rattle.layout.specs.Store.{splitsHeldAt, sizeAt, maskAt, masksAt, heldAt}
 use Rattle.store.specs.WholeStore.{wholeAt}
 use Rattle.store.specs.WholeFacts.{whole-at-facts}
-use Rattle.store.specs.Sound.{Sound, whole-sound}
+use Rattle.store.specs.Sound.{whole-sound}
 use Rattle.store.specs.OrderLaws.{masks-mem, mem-masks}
-use Rattle.store.specs.HeldWholeLaws.{held-numbers}
 use Rattle.store.specs.Chain.{placeIn}
 use Rattle.store.specs.ChainLaws.{look-finds, look-nothing}
 use Rattle.store.specs.ListTestLaws.{mem-getD}

@@ -1,6 +1,5 @@
 -- The laws of the head's test, in the order of the code. Assumes nothing.
 --
---   label-rest            a label byte
 --   head-short, head-refused, head-small, head-trees, head-splits     the head
 --   opening-range, opening-constants, opening-names, opening-ranges   the opening that it holds
 --   constants-first       the constants: the second list's are any
@@ -10,19 +9,18 @@
 --   numbers-read          the five numbers, one by one
 --   name-run              a name, whose length was read
 use mathlib.Core.Path.{_≡_, _∙_}
-use mathlib.Core.Bool.{true, false, _&&_, _||_, not, or-false}
+use mathlib.Core.Bool.{true, false, _&&_, _||_, not}
 use mathlib.Core.List.{List, []}
 use mathlib.Core.Logic.{_⊎_, inl, inr, ⊎-elim}
 use Prim.Native.Nat.{ℕ, _+_, _-_, _*_, _^_, _≤_, _<_}
 use native.Mathlib.Nat.{eq-zero-or-pos}
 use native.Mathlib.Numerals.{add-one}
 use native.Mathlib.Omega.{arith}
-use lib.Dec.{leb, ltb, eqb}
+use lib.Dec.{leb, ltb}
 use lib.ListN.{length, getD, drop, drop-of-length-le, List·getD-eq-default}
 use lib.Seq.{slice, drop-cons}
-use borrow.Author.Tests.{le-leb, lt-leb, eq-eqb, ne-eqb}
-use Rattle.trees.specs.Plain.{every, member, sameBytes, inNames}
-use Rattle.trees.specs.Text.{isLabelByte}
+use borrow.Author.Tests.{le-leb, lt-leb, eq-eqb}
+use Rattle.trees.specs.Plain.{every, sameBytes, inNames}
 use Rattle.trees.specs.Names.{isName, different, goodNames}
 use Rattle.trees.specs.Opening.{inRange, goodConstants}
 use Rattle.trees.specs.Whole.{goodOpening}
@@ -50,25 +48,6 @@ upTo-below f m n z b i =
   where
     le-or-lt : (a b : ℕ) → (a ≤ b) ⊎ (b < a)
     le-or-lt a b = ⊎-elim (λ (e : a - b ≡ 0). inl (omega arith)) (λ (h : 0 < a - b). inr (omega arith)) (eq-zero-or-pos (a - b))
-
--- ---- a label byte: none of the marks
-
-pub label-rest : (b : ℕ) → 33 ≤ b → b ≤ 126 → (b ≡ 40 → ⊥) → (b ≡ 41 → ⊥) → (b ≡ 91 → ⊥) → (b ≡ 93 → ⊥) → (b ≡ 39 → ⊥) → (b ≡ 58 → ⊥)
-    → (b ≡ 59 → ⊥) → isLabelByte b ≡ not (eqb b 44)
-unfolding isLabelByte member
-label-rest b l h a₁ a₂ a₃ a₄ a₅ a₆ a₇ =
-    rw (
-      le-leb 33 b l,
-      le-leb b 126 h,
-      ne-eqb b 40 a₁,
-      ne-eqb b 41 a₂,
-      ne-eqb b 91 a₃,
-      ne-eqb b 93 a₄,
-      ne-eqb b 39 a₅,
-      ne-eqb b 58 a₆,
-      ne-eqb b 59 a₇,
-      or-false,
-    )
 
 -- ---- the head
 

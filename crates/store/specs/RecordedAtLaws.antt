@@ -11,14 +11,13 @@
 use Prim.Native.Nat.{ℕ, zero, suc, _≤_, _<_}
 use native.Mathlib.Omega.{arith}
 use mathlib.Core.Path.{_≡_, refl, sym, ap, _∙_, subst}
-use mathlib.Core.Logic.{_⊎_, inl, inr}
 use mathlib.Core.Bool.{Bool, true, false}
 use mathlib.Core.List.{List, []}
 use lib.ListN.{length, getD}
 use Rattle.trees.specs.Plain.{if_then_else_, member}
 use Rattle.trees.specs.Consensus.{recorded, count}
 use Rattle.theorems.specs.ListLaws.{Mem, member-mem, mem-member}
-use Rattle.theorems.specs.RisingLaws.{Rising, rising-true, rising-same, recorded-rising, recorded-mem, mem-recorded}
+use Rattle.theorems.specs.RisingLaws.{rising-same, recorded-rising, recorded-mem, mem-recorded}
 use Rattle.head.specs.Head.{upTo}
 use Rattle.head.specs.HeadLaws.{upTo-length, upTo-at}
 use Rattle.layout.specs.Store.{treesHeldAt, splitsHeldAt, maskAt, splitAt, masksAt, countAt, listAt, treeAt, heldAt}

@@ -3,8 +3,8 @@
 --   less-or-not                   two numbers compared
 --   upTo-mem, mem-upTo            the members of a list made by `upTo`
 --   upTo-more                     one more at the end
---   upTo-rises, rising-upTo       such a list rises exactly when the function does
---   map-mem, mem-map, map-rising  a list whose members are replaced
+--   upTo-rises                    where such a list rises, the function does
+--   map-mem, mem-map              a list whose members are replaced
 --   bool-same                     two tests are equal where each passes with the other
 --   count-append                  the count behind one more tree
 use Prim.Native.Nat.{ℕ, zero, suc, _+_, _≤_, _<_}
@@ -84,23 +84,9 @@ module _ (f : ℕ → ℕ) where
       go (inl l) g = g l b (omega arith)
       go (inr l) g = let e : i ≡ k = omega arith in rw e (r .0 (f j) (mem-from f (suc k) n j (omega arith) (omega arith)))
 
-  rising-from : (k n : ℕ) → ((i j : ℕ) → k ≤ i → i < j → j < k + n → f i < f j) → Rising (fromTo f k n)
-  unfolding fromTo
-  rising-from k zero g = tt
-  rising-from k (suc n) g = (
-    λ y h.
-        let r = from-mem f (suc k) n y h in
-        rw (r .3) (g k (r .0) (omega arith) (r .1) (omega (arith, r .2))),
-    rising-from (suc k) n (λ i j a b c. g i j (omega arith) b (omega arith)),
-  )
-
   pub upTo-rises : (n : ℕ) → Rising (upTo f n) → (i j : ℕ) → i < j → j < n → f i < f j
   unfolding upTo
   upTo-rises n r i j a b = from-rises 0 n r i j (omega arith) a (omega arith)
-
-  pub rising-upTo : (n : ℕ) → ((i j : ℕ) → i < j → j < n → f i < f j) → Rising (upTo f n)
-  unfolding upTo
-  rising-upTo n g = rising-from 0 n (λ i j a b c. g i j b (omega arith))
 
 -- ---- a list whose members are replaced
 
@@ -112,15 +98,6 @@ module _ (f : ℕ → ℕ) where
   pub mem-map : (l : List ℕ) (k : ℕ) → Mem k l → Mem (f k) (map f l)
   mem-map (x ∷ l) k (inl e) = inl (ap f e)
   mem-map (x ∷ l) k (inr h) = inr (mem-map l k h)
-
-  pub map-rising : (l : List ℕ) → Rising l → ((i j : ℕ) → Mem i l → Mem j l → i < j → f i < f j) → Rising (map f l)
-  map-rising [] r g = tt
-  map-rising (x ∷ l) r g = (
-    λ y h.
-        let q = map-mem l y h in
-        rw (q .2) (g x (q .0) (inl refl) (inr (q .1)) (r .0 (q .0) (q .1))),
-    map-rising l (r .1) (λ i j a b. g i j (inr a) (inr b)),
-  )
 
 -- ---- counts
 

@@ -7,20 +7,18 @@
 --   ChainsAt s                      every link and every start is right
 --   WholeAt s                       all of it
 --   whole-at-facts, facts-whole-at  the test gives the facts, and the facts the test
-use Prim.Native.Nat.{ℕ, zero, suc, _≤_, _<_}
-use native.Mathlib.Omega.{arith}
-use mathlib.Core.Path.{_≡_, refl, sym, ap₂, _∙_}
-use mathlib.Core.Logic.{_⊎_, inl, inr}
-use mathlib.Core.Bool.{Bool, true, false, _&&_, true≢false}
+use Prim.Native.Nat.{ℕ, _≤_, _<_}
+use mathlib.Core.Path.{_≡_}
+use mathlib.Core.Bool.{true}
 use mathlib.Core.List.{List}
 use lib.Dec.{leb, ltb, eqb}
 use lib.ListN.{length}
-use borrow.Author.Tests.{leb-true, le-leb, ltb-true, ltb-false, lt-ltb, eqb-true, eq-eqb}
+use borrow.Author.Tests.{leb-true, le-leb, ltb-true, lt-ltb, eqb-true, eq-eqb}
 use Rattle.trees.specs.Plain.{every}
 use Rattle.trees.specs.Mask.{proper}
 use Rattle.trees.specs.Hash.{place, identifier}
 use Rattle.trees.specs.Whole.{rising, agreeInPairs, goodOpening}
-use Rattle.theorems.specs.ListLaws.{and-left, and-right, and-true, Mem, every-at, every-intro}
+use Rattle.theorems.specs.ListLaws.{and-true, Mem, every-at, every-intro}
 use Rattle.theorems.specs.OpeningLaws.{both}
 use Rattle.fields.specs.Field.{number}
 use Rattle.head.specs.Head.{numbersAt, firstAt, secondAt, openingAt}

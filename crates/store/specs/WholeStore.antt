@@ -3,22 +3,22 @@
 --   allBelow p n       every number below n passes the test p
 --   goodSplits         "recorded masks are proper for n and all different"; "its identifier right where one is stored"
 --   goodList           "each tree lists recorded splits, rising and agreeing in pairs"
---   goodCounts         "each count is the number of trees listing that split, at least 1"
+--   goodCount          "each count is the number of trees listing that split, at least 1"
 --   goodChains         "every split is met exactly once along its hash place": a place's chain starts at its highest row, and each
 --                      row's link leads to the next lower one of the place
---   goodLanes          "each lane's length is in range"
+--   goodLaneAt         "each lane's length is in range"
 --   wholeAt s          the lent bytes s are a whole collection
 use Prim.Native.Nat.{ℕ, zero, suc}
 use mathlib.Core.Bool.{Bool, true, _&&_}
 use mathlib.Core.List.{List}
 use lib.Dec.{leb, ltb, eqb}
 use lib.ListN.{length}
-use Rattle.trees.specs.Plain.{if_then_else_, every, keep, member}
+use Rattle.trees.specs.Plain.{if_then_else_, every, member}
 use Rattle.trees.specs.Mask.{proper}
 use Rattle.trees.specs.Hash.{place, identifier}
 use Rattle.trees.specs.Whole.{rising, agreeInPairs, goodOpening}
 use Rattle.fields.specs.Field.{number}
-use Rattle.head.specs.Head.{numbersAt, firstAt, secondAt, openingAt, upTo}
+use Rattle.head.specs.Head.{numbersAt, firstAt, secondAt, openingAt}
 use Rattle.layout.specs.Store.{treesHeldAt, splitsHeldAt, treeFrom, laneFrom, sizeAt, maskAt, masksAt, identifierAt, countAt, linkAt, startAt, orderAt, listAt, treeAt}
 
 unfoldable pub allBelow : (ℕ → Bool) → ℕ → Bool

@@ -1,10 +1,9 @@
 -- The laws of the text of a node's branches, one child at a time. Assumes nothing.
 --
 --   child-leaf, child-inner             the text of a child
---   text-steps                          the text of branches is the same for any number of steps above m + r
 --   text-none, text-last, text-more     it is none, one child's, or a child's and others' behind a comma
 --   text-length                         the first child's is no longer
-use Prim.Native.Nat.{ℕ, suc, _+_, _≤_, _<_}
+use Prim.Native.Nat.{ℕ, _≤_}
 use native.Mathlib.Omega.{arith}
 use mathlib.Core.Path.{_≡_, refl, sym, ap, _∙_}
 use mathlib.Core.Bool.{Bool, true, false}
@@ -14,10 +13,10 @@ use lib.ListN.{length, getD, length-append}
 use borrow.Author.Tests.{eqb-true, eqb-false, eq-eqb, ne-eqb}
 use Rattle.trees.specs.Mask.{without}
 use Rattle.trees.specs.Tree.{Nodes, leaf, inner}
-use Rattle.trees.specs.Written.{branches, shown, parted}
+use Rattle.trees.specs.Written.{shown, parted}
 use Rattle.theorems.specs.ListLaws.{if-true, if-false}
 use Rattle.writer.specs.Branch.{grown, branchText, childMask, childText, Ready, Step}
-use Rattle.writer.specs.BranchLaws.{rest-ready, first-step, enough, grown-none, grown-leaf, grown-inner}
+use Rattle.writer.specs.BranchLaws.{rest-ready, first-step, grown-none, grown-leaf, grown-inner}
 
 -- ---- a child
 
@@ -39,11 +38,6 @@ shown-leaf w t = refl
 shown-inner : (c t : Nodes) → shown (inner c t) ≡ (40 ∷ (shown c ++ 41 ∷ [])) ++ parted t (shown t)
 unfolding shown
 shown-inner c t = ap (λ (l : List ℕ). 40 ∷ l) (sym (append-assoc (shown c) (41 ∷ []) (parted t (shown t))))
-
-pub text-steps : (n : ℕ) (ns : List (List ℕ)) (s : List ℕ) (f m r : ℕ) → Ready n ns s m r → m + r < f
-    → shown (branches f ns s m r) ≡ branchText ns s m r
-unfolding branchText grown
-text-steps n ns s f m r p h = ap shown (enough n ns s f (suc (m + r)) m r p h (omega arith))
 
 module _ (ns : List (List ℕ)) (s : List ℕ) (m r : ℕ) (z : r ≡ 0) where
   parted-none : (l : List ℕ) → parted (grown ns s m r) l ≡ l

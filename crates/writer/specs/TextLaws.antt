@@ -2,7 +2,7 @@
 --
 --   wrote-nothing     there is too little room
 --   wrote-all         the text, made elsewhere, is copied
-use Prim.Native.Nat.{ℕ, _+_, _≤_, _<_}
+use Prim.Native.Nat.{ℕ, _≤_, _<_}
 use native.Mathlib.Nat.{zero-add}
 use native.Mathlib.Omega.{arith}
 use mathlib.Core.Path.{_≡_, sym, _∙_}

@@ -5,7 +5,8 @@ use native.Mathlib.Omega.{arith}
 use Rattle.store.specs.ChainLaws.{link-falls}
 use Rattle.store.specs.GoodHeadLaws.{start-fits, link-fits}
 use Rattle.colliding.specs.Collisions.{PlacedPart}
-use Rattle.colliding.specs.PlacedLaws.{whole-head, held-most, places-most, start-read, link-read, part-starts, part-more, part-ends}
+use Rattle.store.specs.ChainTests.{start-read, link-read}
+use Rattle.colliding.specs.PlacedLaws.{whole-head, held-most, places-most, part-starts, part-more, part-ends}
 use Rattle.colliding.proofs.note_place.Statement.{statement}
 use Rattle.colliding.proofs.note_place.Tie as tie
 

@@ -1,8 +1,7 @@
 -- `feeding::close` meets its contract: each return is a law. Assumes nothing.
-use mathlib.Core.Path.{_≡_, refl, sym, ap, _∙_}
+use mathlib.Core.Path.{sym, _∙_}
 use native.Mathlib.Omega.{arith}
 use borrow.Author.Needs.{needs}
-use borrow.Author.Tests.{not-true, not-false}
 use Rattle.trees.specs.Held.{laneOf, closed}
 use Rattle.opening.specs.GivenLaws.{failed, passed}
 use Rattle.layout.specs.Store.{heldAt}

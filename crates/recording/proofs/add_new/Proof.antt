@@ -1,9 +1,8 @@
 -- `recording::add_new` meets its contract. The loop's invariant: the new ones of the first j masks stand. Assumes nothing.
 use Prim.Native.Nat.{_≤_, _-_}
-use mathlib.Core.Path.{_≡_, sym}
+use mathlib.Core.Path.{_≡_}
 use mathlib.Core.Logic.{⊎-elim}
 use native.Mathlib.Omega.{arith}
-use borrow.Author.Needs.{needs}
 use Rattle.recording.specs.Recording.{Grown}
 use Rattle.recording.specs.GrownLaws.{grown-none, grown-old, grown-new, room-for, proper-in, not-yet, place-in, identifier-in}
 use Rattle.recording.proofs.add_new.Statement.{statement}

@@ -1,6 +1,6 @@
 -- `feeding::texts::feed_texts` meets its contract. The loop's invariant: i texts are fed, and the rest decides. Assumes nothing.
 use Prim.Native.Nat.{_-_}
-use mathlib.Core.Path.{_≡_, sym, subst, _∙_}
+use mathlib.Core.Path.{sym, subst, _∙_}
 use native.Mathlib.Omega.{arith}
 use borrow.Author.Needs.{needs}
 use Rattle.feeding.specs.Texts.{Small}

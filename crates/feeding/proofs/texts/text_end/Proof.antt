@@ -1,6 +1,6 @@
 -- `feeding::texts::text_end` meets its contract. The loop's invariant: the bytes so far, and those of the rest. Assumes nothing.
 use Prim.Native.Nat.{_+_, _≤_, _-_}
-use mathlib.Core.Path.{_≡_, refl, sym, _∙_}
+use mathlib.Core.Path.{_≡_}
 use native.Mathlib.Omega.{arith}
 use lib.ListN.{length, drop}
 use Rattle.trees.specs.Held.{beforeSemicolon}

@@ -1,6 +1,5 @@
 -- `feeding::verdicts::finish_text` meets its contract: 6, the text's own refusal, or the tree if there is room. Assumes nothing.
-use Prim.Native.Nat.{_≤_}
-use mathlib.Core.Path.{_≡_, refl, sym, ap, _∙_}
+use mathlib.Core.Path.{refl, sym, ap, _∙_}
 use native.Mathlib.Omega.{arith}
 use borrow.Author.Needs.{needs}
 use Rattle.trees.specs.Plain.{refused}

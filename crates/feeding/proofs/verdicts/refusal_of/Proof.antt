@@ -1,7 +1,5 @@
 -- `feeding::verdicts::refusal_of` meets its contract: each number in turn. Assumes nothing.
-use mathlib.Core.Path.{_≡_, sym}
 use native.Mathlib.Omega.{arith}
-use borrow.Author.Needs.{needs}
 use Rattle.table.specs.Answers.{refusalNumber}
 use Rattle.feeding.proofs.verdicts.refusal_of.Statement.{statement}
 use Rattle.feeding.proofs.verdicts.refusal_of.Tie as tie
