@@ -1,11 +1,12 @@
 -- Laws of the members of one list that another lacks. Assumes nothing.
 --
 --   oneSided-none        all of a list's members are lacking from no list at all
+--   oneSided-most        at most all are lacking
 --   oneSided-map         lists whose members are replaced by others, different for different members
 --   oneSided-skip        a list lacks as much with one more member that is not asked for
 --   oneSided-once        and one less with one that is asked for once
 --   oneSided-balance     what a has and b has not, beside b, is as much as what b has and a has not, beside a
-use Prim.Native.Nat.{ℕ, suc, _+_}
+use Prim.Native.Nat.{ℕ, suc, _+_, _≤_}
 use native.Mathlib.Omega.{arith}
 use mathlib.Core.Path.{_≡_, refl, ap, sym, _∙_}
 use mathlib.Core.Logic.{inl, inr}
@@ -14,7 +15,7 @@ use mathlib.Core.List.{List, [], _∷_, map}
 use lib.Dec.{eqb}
 use lib.ListN.{length}
 use borrow.Author.Tests.{eqb-true, eqb-false, ne-eqb}
-use Rattle.trees.specs.Plain.{member}
+use Rattle.trees.specs.Plain.{if_then_else_, member}
 use Rattle.trees.specs.Distance.{oneSided}
 use Rattle.theorems.specs.ListLaws.{Mem, member-mem, mem-member, member-not, not-member}
 use Rattle.theorems.specs.RisingLaws.{Rising}
@@ -24,6 +25,15 @@ oneSided-none : (a : List ℕ) → oneSided a [] ≡ length a
 unfolding oneSided member
 oneSided-none [] = refl
 oneSided-none (m ∷ a) = ap suc (oneSided-none a)
+
+pub oneSided-most : (a b : List ℕ) → oneSided a b ≤ length a
+unfolding oneSided
+oneSided-most [] b = omega arith
+oneSided-most (m ∷ a) b = go (member m b) (oneSided-most a b)
+  where
+    go : (t : Bool) → oneSided a b ≤ length a → (if t then oneSided a b else suc (oneSided a b)) ≤ suc (length a)
+    go true h = omega arith
+    go false h = omega arith
 
 pub oneSided-map : (f : ℕ → ℕ) (a b : List ℕ) → ((k : ℕ) → Mem k a → member (f k) (map f b) ≡ member k b) → oneSided (map f a) (map f b) ≡ oneSided a b
 unfolding oneSided

@@ -6,8 +6,8 @@
 --   marks-made                     a list's marks, put where there are none
 --   marksOf-length, marksOf-at     the marks of a list
 --   marks-gone                     a list's marks, taken away
---   unmarked-none, unmarked-some, unmarked-end     one turn of the loop that counts
---   unmarked-lacks                 the rows without a mark are those that the marked list lacks
+--   sum-more, sum-end              one turn of the loop that sums
+--   sum-lacks                      the sum of the marks is how many rows the marked list lacks
 use Prim.Native.Nat.{ℕ, suc, _+_, _≤_, _<_}
 use native.Mathlib.Numerals.{add-one}
 use native.Mathlib.Omega.{arith}
@@ -22,7 +22,8 @@ use borrow.Author.Tests.{eqb-true, eqb-false, ne-eqb}
 use Rattle.trees.specs.Plain.{if_then_else_, member}
 use Rattle.trees.specs.Distance.{oneSided}
 use Rattle.theorems.specs.ListLaws.{Mem}
-use Rattle.distances.specs.Marks.{marked, noMarks, marksOf, unmarked}
+use Rattle.theorems.specs.DistanceLaws.{oneSided-has, oneSided-lacks}
+use Rattle.distances.specs.Marks.{marked, noMarks, marksOf, markSum}
 
 -- ---- the marks after a list's rows are marked
 
@@ -54,57 +55,55 @@ marked-end v l m j h = rw (drop-of-length-le l h)
 
 pub none-length : length noMarks ≡ 4096
 unfolding noMarks
-none-length = length-replicate {A = ℕ} 4096 0
+none-length = length-replicate {A = ℕ} 4096 1
 
-none-at : (x : ℕ) → x < 4096 → getD noMarks x 0 ≡ 0
+none-at : (x : ℕ) → x < 4096 → getD noMarks x 0 ≡ 1
 unfolding noMarks
-none-at x h = getD-replicate {A = ℕ} 4096 x 0 0 h
+none-at x h = getD-replicate {A = ℕ} 4096 x 1 0 h
 
-pub marks-made : (l m : List ℕ) → m ≡ noMarks → marked 1 l m ≡ marksOf l
+pub marks-made : (l m : List ℕ) → m ≡ noMarks → marked 0 l m ≡ marksOf l
 unfolding marksOf
-marks-made l m e = ap (marked 1 l) e
+marks-made l m e = ap (marked 0 l) e
 
 pub marksOf-length : (l : List ℕ) → length (marksOf l) ≡ 4096
 unfolding marksOf
-marksOf-length l = marked-length 1 l noMarks ∙ none-length
+marksOf-length l = marked-length 0 l noMarks ∙ none-length
 
-pub marksOf-at : (l : List ℕ) (x : ℕ) → x < 4096 → getD (marksOf l) x 0 ≡ (if member x l then 1 else 0)
+pub marksOf-at : (l : List ℕ) (x : ℕ) → x < 4096 → getD (marksOf l) x 0 ≡ (if member x l then 0 else 1)
 unfolding marksOf
-marksOf-at l x h = marked-at 1 l noMarks x (omega (arith, none-length)) ∙ ap (λ (y : ℕ). if member x l then 1 else y) (none-at x h)
+marksOf-at l x h = marked-at 0 l noMarks x (omega (arith, none-length)) ∙ ap (λ (y : ℕ). if member x l then 0 else y) (none-at x h)
 
-pub marks-gone : (l : List ℕ) → marked 0 l (marksOf l) ≡ noMarks
+pub marks-gone : (l : List ℕ) → marked 1 l (marksOf l) ≡ noMarks
 marks-gone l =
-    let n = marked-length 0 l (marksOf l) ∙ marksOf-length l in
-    ext-getD 0 (marked 0 l (marksOf l)) noMarks (n ∙ sym none-length)
+    let n = marked-length 1 l (marksOf l) ∙ marksOf-length l in
+    ext-getD 0 (marked 1 l (marksOf l)) noMarks (n ∙ sym none-length)
     (λ x h.
     let f : x < 4096 = omega arith in
-    marked-at 0 l (marksOf l) x (omega (arith, marksOf-length l)) ∙ rw (marksOf-at l x f) (same (member x l)) ∙ sym (none-at x f))
+    marked-at 1 l (marksOf l) x (omega (arith, marksOf-length l)) ∙ rw (marksOf-at l x f) (same (member x l)) ∙ sym (none-at x f))
   where
-    same : (b : Bool) → _≡_ {A = ℕ} (if b then 0 else if b then 1 else 0) 0
+    same : (b : Bool) → _≡_ {A = ℕ} (if b then 1 else if b then 0 else 1) 1
     same true = refl
     same false = refl
 
--- ---- the rows without a mark
+-- ---- the sum of the marks
 
-module _ (m l : List ℕ) (j k : ℕ) (h : j < length l) (q : k ≡ getD l j 0) where
-  pub unmarked-none : getD m k 0 ≡ 0 → unmarked m (drop j l) ≡ suc (unmarked m (drop (j + 1) l))
-  unfolding unmarked
-  unmarked-none e = rw (drop-cons l j 0 h, ← q, e, add-one j)
+pub sum-more : (m l : List ℕ) (j k : ℕ) → j < length l → k ≡ getD l j 0 → markSum m (drop j l) ≡ getD m k 0 + markSum m (drop (j + 1) l)
+unfolding markSum
+sum-more m l j k h q = rw (drop-cons l j 0 h, ← q, add-one j)
 
-  pub unmarked-some : (getD m k 0 ≡ 0 → ⊥) → unmarked m (drop j l) ≡ unmarked m (drop (j + 1) l)
-  unfolding unmarked
-  unmarked-some n = rw (drop-cons l j 0 h, ← q, ne-eqb (getD m k 0) 0 n, add-one j)
+pub sum-end : (m l : List ℕ) (j : ℕ) → length l ≤ j → markSum m (drop j l) ≡ 0
+unfolding markSum
+sum-end m l j h = rw (drop-of-length-le l h)
 
-pub unmarked-end : (m l : List ℕ) (j : ℕ) → length l ≤ j → unmarked m (drop j l) ≡ 0
-unfolding unmarked
-unmarked-end m l j h = rw (drop-of-length-le l h)
-
-pub unmarked-lacks : (a b : List ℕ) → ((k : ℕ) → Mem k a → k < 4096) → unmarked (marksOf b) a ≡ oneSided a b
-unfolding unmarked oneSided
-unmarked-lacks [] b f = refl
-unmarked-lacks (k ∷ a) b f =
-    rw (marksOf-at b k (f k (inl refl)), unmarked-lacks a b (λ x h. f x (inr h))) (go (member k b))
+pub sum-lacks : (a b : List ℕ) → ((k : ℕ) → Mem k a → k < 4096) → markSum (marksOf b) a ≡ oneSided a b
+unfolding markSum oneSided
+sum-lacks [] b f = refl
+sum-lacks (k ∷ a) b f = go (member k b) refl (sum-lacks a b (λ x h. f x (inr h)))
   where
-    go : (t : Bool) → (if eqb (if t then 1 else 0) 0 then suc (oneSided a b) else oneSided a b) ≡ (if t then oneSided a b else suc (oneSided a b))
-    go true = refl
-    go false = refl
+    mark : (t : Bool) → member k b ≡ t → getD (marksOf b) k 0 ≡ (if t then 0 else 1)
+    mark t e = marksOf-at b k (f k (inl refl)) ∙ rw e
+
+    go : (t : Bool) → member k b ≡ t → markSum (marksOf b) a ≡ oneSided a b
+        → getD (marksOf b) k 0 + markSum (marksOf b) a ≡ oneSided (k ∷ a) b
+    go true e rest = omega (arith, mark true e, rest, oneSided-has k a b e)
+    go false e rest = omega (arith, mark false e, rest, oneSided-lacks k a b e)

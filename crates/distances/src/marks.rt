@@ -1,5 +1,5 @@
-// Marks for the splits that one tree lists, a byte for each row, and the distance of any tree from that
-// one: one step for each split it lists.
+// Marks for the splits that one tree lists, a byte for each row: 0 where the tree has it, 1 where it lacks
+// it. The distance of any tree from that one is then a sum of marks, one for each split it lists.
 //
 // Its contracts cite `specs/Marks.antt`.
 ghost use mathlib.Core.Path.{_≡_};
@@ -9,7 +9,7 @@ ghost use lib.ListN.{length, getD};
 ghost use Rattle.trees.specs.Distance.{oneSided, doubled};
 ghost use Rattle.layout.specs.Store.{treesHeldAt, treeFrom, listAt, treeAt};
 ghost use Rattle.store.specs.WholeStore.{wholeAt};
-ghost use Rattle.distances.specs.Marks.{marked, marksOf, unmarked};
+ghost use Rattle.distances.specs.Marks.{marked, marksOf, markSum};
 use layout::Tree;
 
 // Puts v at each row that tree i lists.
@@ -51,29 +51,33 @@ pub(crate) fn lacking(s: &[u8], i: usize, marks: &[u8; 4096], j: usize) -> usize
     ensures { λ r. ⌜ r ≡ oneSided (treeAt (now (s .entry)) j) (treeAt (now (s .entry)) i) ⌝ }
     ensures { λ r. ⌜ r ≤ 62 ⌝ }
 {
-    count_unmarked(s, marks, j)
+    sum_marks(s, marks, j)
 }
 
-// How many of the rows that tree j lists have the mark 0.
-fn count_unmarked(s: &[u8], marks: &[u8; 4096], j: usize) -> usize
+// The sum of the marks of the rows that tree j lists.
+fn sum_marks(s: &[u8], marks: &[u8; 4096], j: usize) -> usize
     requires { ⌜ wholeAt (now s) ≡ true ⌝ }
     requires { ⌜ length (now marks) ≡ 4096 ⌝ }
     requires { ⌜ j < treesHeldAt (now s) ⌝ }
-    ensures { λ r. ⌜ r ≡ unmarked (now (marks .entry)) (listAt (now (s .entry)) j) ⌝ }
-    ensures { λ r. ⌜ r ≤ 62 ⌝ }
+    ensures { λ r. ⌜ r ≡ markSum (now (marks .entry)) (listAt (now (s .entry)) j) ⌝ }
 {
     let from = tree_from(s, j);
     let n = list_length(s, j);
-    let mut count = 0;
+    let mut sum = 0;
     let mut at = 0;
     while at < n {
         let k = row(s, j, from, at);
-        if marks[k] == 0 {
-            count += 1;
-        }
+        sum += wide(marks[k]);
         at += 1;
     }
-    count
+    sum
+}
+
+// A mark as a number to add.
+fn wide(x: u8) -> usize
+    ensures { λ r. ⌜ (r ≡ x) × (r < 256) ⌝ }
+{
+    x as usize
 }
 
 // How many splits tree i lists.

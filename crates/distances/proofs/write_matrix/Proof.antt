@@ -53,7 +53,7 @@ loop-again c =
     let d = b .before .before .before .before .before .before .before in
     let w = c .before .before .before .before .write-row .ensures in
     let m = b .mark-tree .ensures ∙ marks-made _ _ (l .inv .1) in
-    let e = c .mark-tree2 .ensures ∙ ap (marked 0 (listAt (d .args .s .now) (l .i))) m ∙ marks-gone (listAt (d .args .s .now) (l .i)) in
+    let e = c .mark-tree2 .ensures ∙ ap (marked 1 (listAt (d .args .s .now) (l .i))) m ∙ marks-gone (listAt (d .args .s .now) (l .i)) in
     (l .inv .0, e, w .0, w .1 .0 ∙ l .inv .3, w .1 .1 ∙ l .inv .4)
 
 same-length : tie.Need-same-length Inv-loop μ-loop

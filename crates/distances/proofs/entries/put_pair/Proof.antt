@@ -1,11 +1,11 @@
--- `distances::rows::put_pair` meets its contract. Assumes nothing.
+-- `distances::entries::put_pair` meets its contract. Assumes nothing.
 use Prim.Native.Nat.{ℕ}
 use mathlib.Core.Path.{ap₂}
 use native.Mathlib.Omega.{arith}
 use borrow.Author.Needs.{needs}
 use lib.ListN.{set, length-set}
-use Rattle.distances.proofs.rows.put_pair.Statement.{statement}
-use Rattle.distances.proofs.rows.put_pair.Tie as tie
+use Rattle.distances.proofs.entries.put_pair.Statement.{statement}
+use Rattle.distances.proofs.entries.put_pair.Tie as tie
 
 inside : tie.Need-slice-write-out-2
 inside c = rw length-set (omega (arith, c .entry2 .ensures .1))

@@ -1,9 +1,9 @@
--- `distances::rows::entry` meets its contract. Assumes nothing.
+-- `distances::entries::entry` meets its contract. Assumes nothing.
 use mathlib.Core.Path.{refl}
 use native.Mathlib.Omega.{arith}
 use Rattle.distances.specs.EntryLaws.{entry-below, square-few}
-use Rattle.distances.proofs.rows.entry.Statement.{statement}
-use Rattle.distances.proofs.rows.entry.Tie as tie
+use Rattle.distances.proofs.entries.entry.Statement.{statement}
+use Rattle.distances.proofs.entries.entry.Tie as tie
 
 below : tie.Need-mul-result
 below c =

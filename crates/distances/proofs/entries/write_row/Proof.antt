@@ -1,4 +1,4 @@
--- `distances::rows::write_row` meets its contract. The loop's invariant: the entries of tree i with the trees below j are written. Assumes nothing.
+-- `distances::entries::write_row` meets its contract. The loop's invariant: the entries of tree i with the trees below j are written. Assumes nothing.
 use Prim.Native.Nat.{_*_, _≤_, _-_}
 use mathlib.Core.Path.{_≡_, refl, ap, _∙_}
 use native.Mathlib.Omega.{arith}
@@ -7,8 +7,8 @@ use Rattle.layout.specs.Store.{treesHeldAt}
 use Rattle.distances.specs.Entries.{Filled}
 use Rattle.distances.specs.WholeTreeLaws.{head-there, trees-few}
 use Rattle.distances.specs.EntryLaws.{filled-row, pair-more}
-use Rattle.distances.proofs.rows.write_row.Statement.{statement}
-use Rattle.distances.proofs.rows.write_row.Tie as tie
+use Rattle.distances.proofs.entries.write_row.Statement.{statement}
+use Rattle.distances.proofs.entries.write_row.Tie as tie
 
 abbrev Inv-loop : tie.InvT-loop
 Inv-loop s i marks out₀ trees j₀ out j =
