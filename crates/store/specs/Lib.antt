@@ -22,6 +22,8 @@ pub mod ChainTests
 pub mod RoomLaws
 pub mod ListTests
 pub mod ListTestLaws
+pub mod Outer
+pub mod OuterLaws
 pub mod CountLaws
 pub mod HeaderLaws
 pub mod WholeTestLaws
