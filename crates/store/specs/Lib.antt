@@ -23,6 +23,7 @@ pub mod RoomLaws
 pub mod ListTests
 pub mod ListTestLaws
 pub mod Outer
+pub mod UnionLaws
 pub mod OuterLaws
 pub mod CountLaws
 pub mod HeaderLaws

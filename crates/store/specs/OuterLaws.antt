@@ -1,87 +1,29 @@
 -- The laws of the outer masks of a list that rises, a mask at a time. Assumes nothing.
 --
---   part-none, part-more, part-all     one turn of the loop that makes a union
---   outer-none, outer-more             one turn of the loop over the masks
---   outer-pairs                        what the masks that are passed do
---   not-within, not-apart              a mask that one of the tests refuses
-use Prim.Native.Nat.{ℕ, zero, suc, _+_, _-_, _^_, _≤_, _<_}
+--   outer-none, outer-more     one turn of the loop over the masks
+--   outer-not                  a mask that the test refuses does not agree with all before it
+--   outer-pairs                those that pass agree in pairs
+use Prim.Native.Nat.{ℕ, suc, _+_, _^_, _≤_, _<_}
+use native.Mathlib.Nat.{eq-zero-or-pos}
 use native.Mathlib.Numerals.{add-one}
 use native.Mathlib.Omega.{arith}
-use native.Mathlib.Nat.{eq-zero-or-pos}
-use mathlib.Core.Path.{_≡_, refl, ap, sym, subst, _∙_}
+use mathlib.Core.Path.{_≡_, refl, sym, _∙_}
 use mathlib.Core.Logic.{_⊎_, _≢_, inl, inr, ⊎-elim}
-use mathlib.Core.Bool.{Bool, true, false, true≢false}
+use mathlib.Core.Bool.{Bool, true, false}
 use mathlib.Core.List.{List, [], _∷_, _++_}
 use lib.Bits.{bitAnd, bitOr}
 use lib.ListN.{length, getD, set, take, drop}
 use lib.Seq.{split-at, take-suc, take-take, getD-take, getD-set-same, getD-set-other, length-take-le}
-use borrow.Author.Tests.{eq-eqb}
-use Rattle.trees.specs.Mask.{without, apart, within, lowest}
+use Rattle.trees.specs.Mask.{without, lowest}
 use Rattle.trees.specs.Whole.{rising, agreeInPairs}
 use Rattle.theorems.specs.ListLaws.{Mem, mem-left, mem-right, mem-cases}
 use Rattle.theorems.specs.RisingLaws.{Rising, rising-true}
-use Rattle.theorems.specs.BitLaws.{On, on?, Sub, Dis, and-on, on-and, on-or-l, on-or-r, or-on, ext, off-zero, only-on, self-on, sub-le, sub-and, dis-and}
-use Rattle.theorems.specs.MaskLaws.{Ag, ag-self, ag-sym, others-on, on-others}
+use Rattle.theorems.specs.BitLaws.{On, on?, Sub, Dis, ext, and-on, on-and, on-or-l, on-or-r, or-on, off-zero, only-on, self-on, sub-le}
+use Rattle.theorems.specs.MaskLaws.{Ag, ag-self, ag-sym}
 use Rattle.theorems.specs.WidestLaws.{lowest-on}
 use Rattle.theorems.specs.SplitLaws.{pairs-at, pairs-intro}
-use Rattle.store.specs.Outer.{UnionAt, PartAt, Outer}
-
--- ---- taxa of one mask that are not in another
-
-module _ (a b i : ℕ) where
-  on-without : On a i → (On b i → ⊥) → On (without a b) i
-  unfolding without
-  on-without o f = others-on a (bitAnd a b) (λ j h. and-on a b j h .0) i o (λ h. f (and-on a b i h .1))
-
-  without-on : On (without a b) i → On a i × (On b i → ⊥)
-  unfolding without
-  without-on o =
-      let h = on-others a (bitAnd a b) (λ j h. and-on a b j h .0) i o in
-      (h .0, λ k. h .1 (on-and a b i (h .0) k))
-
--- what is left of a without what is not in b
-pub without-twice : (a b : ℕ) → without a (without a b) ≡ bitAnd a b
-without-twice a b = ext (without a (without a b)) (bitAnd a b) (λ i o. go i (without-on a (without a b) i o) (on? b i)) back
-  where
-    go : (i : ℕ) → On a i × (On (without a b) i → ⊥) → (On b i → ⊥) ⊎ On b i → On (bitAnd a b) i
-    go i h (inl f) = absurd (h .1 (on-without a b i (h .0) f))
-    go i h (inr k) = on-and a b i (h .0) k
-
-    back : Sub (bitAnd a b) (without a (without a b))
-    back i o = let h = and-on a b i o in on-without a (without a b) i (h .0) (λ k. without-on a b i k .1 (h .1))
-
-on-some : (m i : ℕ) → On m i → 0 < m
-on-some m i o = ⊎-elim (λ (z : m ≡ 0). absurd (off-zero i (rw z at o))) (λ (h : 0 < m). h) (eq-zero-or-pos m)
-
--- ---- one turn of the loop that makes a union
-
-pub part-none : (ms : List ℕ) (taxa : ℕ) → PartAt ms taxa taxa 0
-part-none ms taxa = record { within = λ i h. h; each = λ t o f. absurd (f o); only = λ i h. absurd (off-zero i h) }
-
-pub part-all : (ms : List ℕ) (taxa rest u : ℕ) → rest ≡ 0 → PartAt ms taxa rest u → UnionAt ms taxa u
-part-all ms taxa rest u e p = record { each = λ t o. p .each t o (λ h. off-zero t (rw e at h)); only = p .only }
-
--- t is the lowest taxon of the rest, b its mask, y what is left, v the new union
-module _ (ms : List ℕ) (taxa rest u t b y v : ℕ) (p : PartAt ms taxa rest u) (h : rest ≡ 0 → ⊥) (e : t ≡ lowest rest)
-    (d : b ≡ 2 ^ t) (q : y ≡ without rest b) (g : v ≡ bitOr u (getD ms t 0)) where
-  in-rest : On rest t
-  in-rest = rw e (lowest-on rest (omega (arith, h)))
-
-  part-each : (s : ℕ) → On taxa s → (On y s → ⊥) → Sub (getD ms s 0) v
-  part-each s o f i k = rw g (go (on? rest s) (on? b s))
-    where
-      go : (On rest s → ⊥) ⊎ On rest s → (On b s → ⊥) ⊎ On b s → On (bitOr u (getD ms t 0)) i
-      go (inl r) w = on-or-l u (getD ms t 0) i (p .each s o r i k)
-      go (inr r) (inl w) = absurd (f (rw q (on-without rest b s r w)))
-      go (inr r) (inr w) = on-or-r u (getD ms t 0) i (rw (only-on t s (rw d at w)) k)
-
-  part-only : (i : ℕ) → On (bitOr u (getD ms t 0)) i → (On u i → ⊥) ⊎ On u i → (s : ℕ) × On taxa s × On (getD ms s 0) i
-  part-only i o (inl f) = (t, p .within t in-rest, or-on u (getD ms t 0) i o f)
-  part-only i o (inr k) = p .only i k
-
-  pub part-more : PartAt ms taxa y v
-  part-more =
-      record { within = λ i o. p .within i (without-on rest b i (rw q at o) .0); each = part-each; only = λ i o. part-only i (rw g at o) (on? u i) }
+use Rattle.store.specs.Outer.{UnionAt, Outer}
+use Rattle.store.specs.UnionLaws.{on-without, without-on, on-some}
 
 -- ---- one turn of the loop over the masks
 
@@ -96,10 +38,10 @@ outer-none ms =
       union = record { each = λ t o. absurd (off-zero t o); only = λ i o. absurd (off-zero i o) };
     }
 
--- x is the next mask, above those before it, and inner the union of the outer masks whose heads it has
+-- x is the next mask, above those before it, and inner the union of the outer masks whose heads it has, the inner ones
 module _ (l ms : List ℕ) (heads covered x inner : ℕ) (o : Outer l ms heads covered) (above : (y : ℕ) → Mem y l → y < x)
     (u : UnionAt ms (bitAnd heads x) inner) where
-  -- ---- where x agrees with all before it, it has just the inner ones of the taxa that are covered
+  -- ---- where x agrees with all before it, the covered taxa that it has are those of the inner ones
 
   module _ (a : (y : ℕ) → Mem y l → Ag y x) where
     -- no mask before x contains it
@@ -128,12 +70,14 @@ module _ (l ms : List ℕ) (heads covered x inner : ℕ) (o : Outer l ms heads c
     common-same : bitAnd covered x ≡ inner
     common-same = ext (bitAnd covered x) inner common-inner inner-common
 
-  -- ---- where it has just those, it agrees with all before it
+  -- ---- where they are, it agrees with all before it
 
   module _ (c : bitAnd covered x ≡ inner) where
+    -- an outer mask whose head x has lies within x
     taken-sub : (t : ℕ) → On heads t → On x t → Sub (getD ms t 0) x
     taken-sub t h k i m = and-on covered x i (rw c (u .each t (on-and heads x t h k) i m)) .1
 
+    -- one whose head it has not is apart from it: no taxon is in two outer masks
     kept-dis : (t : ℕ) → On heads t → (On x t → ⊥) → Dis (getD ms t 0) x
     kept-dis t h f i m k =
         let q : On inner i = rw (← c) (on-and covered x i (o .union .each t h i m) k) in
@@ -155,35 +99,44 @@ module _ (l ms : List ℕ) (heads covered x inner : ℕ) (o : Outer l ms heads c
     -- ---- the masks with x
 
     module _ (at : ℕ) (e : at ≡ lowest x) (b : at < length ms) where
-      kept : (t : ℕ) → On heads t → (On x t → ⊥) → getD (set ms at x) t 0 ≡ getD ms t 0
+      abbrev ms′ : List ℕ
+      ms′ = set ms at x
+
+      abbrev heads′ : ℕ
+      heads′ = bitOr (without heads x) (2 ^ at)
+
+      abbrev covered′ : ℕ
+      covered′ = bitOr covered x
+
+      kept : (t : ℕ) → On heads t → (On x t → ⊥) → getD ms′ t 0 ≡ getD ms t 0
       kept t h f = getD-set-other ms at t x 0 (rw e (fresh t h f))
 
-      placed : getD (set ms at x) at 0 ≡ x
+      placed : getD ms′ at 0 ≡ x
       placed = getD-set-same ms at x 0 b
 
       -- a head is kept, or that of x
-      head-cases : (t : ℕ) → On (bitOr (without heads x) (2 ^ at)) t → (On heads t × (On x t → ⊥)) ⊎ (at ≡ t)
+      head-cases : (t : ℕ) → On heads′ t → (On heads t × (On x t → ⊥)) ⊎ (at ≡ t)
       head-cases t h = go (on? (without heads x) t)
         where
           go : (On (without heads x) t → ⊥) ⊎ On (without heads x) t → (On heads t × (On x t → ⊥)) ⊎ (at ≡ t)
           go (inl f) = inr (only-on at t (or-on (without heads x) (2 ^ at) t h f))
           go (inr k) = inl (without-on heads x t k)
 
-      head-kept : (t : ℕ) → On heads t → (On x t → ⊥) → On (bitOr (without heads x) (2 ^ at)) t
+      head-kept : (t : ℕ) → On heads t → (On x t → ⊥) → On heads′ t
       head-kept t h f = on-or-l (without heads x) (2 ^ at) t (on-without heads x t h f)
 
-      head-new : On (bitOr (without heads x) (2 ^ at)) at
+      head-new : On heads′ at
       head-new = on-or-r (without heads x) (2 ^ at) at (self-on at)
 
       inside-cases : (y : ℕ) → (w : (t : ℕ) × On heads t × Sub y (getD ms t 0)) → (On x (w .0) → ⊥) ⊎ On x (w .0)
-          → (t : ℕ) × On (bitOr (without heads x) (2 ^ at)) t × Sub y (getD (set ms at x) t 0)
+          → (t : ℕ) × On heads′ t × Sub y (getD ms′ t 0)
       inside-cases y w (inl f) = (w .0, head-kept (w .0) (w .1) f, rw (kept (w .0) (w .1) f) (w .2))
       inside-cases y w (inr k) = (at, head-new, rw placed (λ i h. taken-sub (w .0) (w .1) k i (w .2 i h)))
 
-      more-inside : (y : ℕ) → Mem y (l ++ x ∷ []) → (t : ℕ) × On (bitOr (without heads x) (2 ^ at)) t × Sub y (getD (set ms at x) t 0)
+      more-inside : (y : ℕ) → Mem y (l ++ x ∷ []) → (t : ℕ) × On heads′ t × Sub y (getD ms′ t 0)
       more-inside y m = go (mem-cases y l (x ∷ []) m)
         where
-          go : Mem y l ⊎ Mem y (x ∷ []) → (t : ℕ) × On (bitOr (without heads x) (2 ^ at)) t × Sub y (getD (set ms at x) t 0)
+          go : Mem y l ⊎ Mem y (x ∷ []) → (t : ℕ) × On heads′ t × Sub y (getD ms′ t 0)
           go (inl k) = let w = o .inside y k in inside-cases y w (on? x (w .0))
           go (inr (inl q)) = (at, head-new, rw (placed, q) (λ i h. h))
 
@@ -196,55 +149,54 @@ module _ (l ms : List ℕ) (heads covered x inner : ℕ) (o : Outer l ms heads c
           go (inr (inl p)) (inl q) = rw p (ag-sym z x (agrees-new z q))
           go (inr (inl p)) (inr (inl q)) = rw (p, q) (ag-self x)
 
-      more-member : (t : ℕ) → On (bitOr (without heads x) (2 ^ at)) t → Mem (getD (set ms at x) t 0) (l ++ x ∷ [])
+      more-member : (t : ℕ) → On heads′ t → Mem (getD ms′ t 0) (l ++ x ∷ [])
       more-member t h = go (head-cases t h)
         where
-          go : (On heads t × (On x t → ⊥)) ⊎ (at ≡ t) → Mem (getD (set ms at x) t 0) (l ++ x ∷ [])
+          go : (On heads t × (On x t → ⊥)) ⊎ (at ≡ t) → Mem (getD ms′ t 0) (l ++ x ∷ [])
           go (inl k) = rw (kept t (k .0) (k .1)) (mem-left _ l (x ∷ []) (o .member t (k .0)))
           go (inr q) = rw (← q, placed) (mem-right x l (x ∷ []) (inl refl))
 
-      more-headed : (t i : ℕ) → On (bitOr (without heads x) (2 ^ at)) t → On (getD (set ms at x) t 0) i → On (getD (set ms at x) t 0) t
+      more-headed : (t i : ℕ) → On heads′ t → On (getD ms′ t 0) i → On (getD ms′ t 0) t
       more-headed t i h = go (head-cases t h)
         where
-          go : (On heads t × (On x t → ⊥)) ⊎ (at ≡ t) → On (getD (set ms at x) t 0) i → On (getD (set ms at x) t 0) t
+          go : (On heads t × (On x t → ⊥)) ⊎ (at ≡ t) → On (getD ms′ t 0) i → On (getD ms′ t 0) t
           go (inl k) m = rw (kept t (k .0) (k .1)) (o .headed t i (k .0) (rw (kept t (k .0) (k .1)) at m))
           go (inr q) m = rw (← q, placed) (rw e (lowest-on x (on-some x i (rw (← q, placed) at m))))
 
-      more-alone : (t v i : ℕ) → On (bitOr (without heads x) (2 ^ at)) t → On (bitOr (without heads x) (2 ^ at)) v
-          → On (getD (set ms at x) t 0) i → On (getD (set ms at x) v 0) i → t ≡ v
+      more-alone : (t v i : ℕ) → On heads′ t → On heads′ v → On (getD ms′ t 0) i → On (getD ms′ v 0) i → t ≡ v
       more-alone t v i h k = go (head-cases t h) (head-cases v k)
         where
           go : (On heads t × (On x t → ⊥)) ⊎ (at ≡ t) → (On heads v × (On x v → ⊥)) ⊎ (at ≡ v)
-              → On (getD (set ms at x) t 0) i → On (getD (set ms at x) v 0) i → t ≡ v
+              → On (getD ms′ t 0) i → On (getD ms′ v 0) i → t ≡ v
           go (inl p) (inl q) a c = o .alone t v i (p .0) (q .0) (rw (kept t (p .0) (p .1)) at a) (rw (kept v (q .0) (q .1)) at c)
           go (inl p) (inr q) a c = absurd (kept-dis t (p .0) (p .1) i (rw (kept t (p .0) (p .1)) at a) (rw (← q, placed) at c))
           go (inr p) (inl q) a c = absurd (kept-dis v (q .0) (q .1) i (rw (kept v (q .0) (q .1)) at c) (rw (← p, placed) at a))
           go (inr p) (inr q) a c = sym p ∙ q
 
-      more-each : (t : ℕ) → On (bitOr (without heads x) (2 ^ at)) t → Sub (getD (set ms at x) t 0) (bitOr covered x)
+      more-each : (t : ℕ) → On heads′ t → Sub (getD ms′ t 0) covered′
       more-each t h i m = go (head-cases t h)
         where
-          go : (On heads t × (On x t → ⊥)) ⊎ (at ≡ t) → On (bitOr covered x) i
+          go : (On heads t × (On x t → ⊥)) ⊎ (at ≡ t) → On covered′ i
           go (inl k) = on-or-l covered x i (o .union .each t (k .0) i (rw (kept t (k .0) (k .1)) at m))
           go (inr q) = on-or-r covered x i (rw (← q, placed) at m)
 
-      more-only : (i : ℕ) → On (bitOr covered x) i → (t : ℕ) × On (bitOr (without heads x) (2 ^ at)) t × On (getD (set ms at x) t 0) i
+      more-only : (i : ℕ) → On covered′ i → (t : ℕ) × On heads′ t × On (getD ms′ t 0) i
       more-only i h = go (on? x i) (on? covered i)
         where
-          new : On x i → (t : ℕ) × On (bitOr (without heads x) (2 ^ at)) t × On (getD (set ms at x) t 0) i
+          new : On x i → (t : ℕ) × On heads′ t × On (getD ms′ t 0) i
           new k = (at, head-new, rw placed k)
 
           old : (On x i → ⊥) → (w : (t : ℕ) × On heads t × On (getD ms t 0) i) → (On x (w .0) → ⊥) ⊎ On x (w .0)
-              → (t : ℕ) × On (bitOr (without heads x) (2 ^ at)) t × On (getD (set ms at x) t 0) i
+              → (t : ℕ) × On heads′ t × On (getD ms′ t 0) i
           old f w (inl k) = (w .0, head-kept (w .0) (w .1) k, rw (kept (w .0) (w .1) k) (w .2))
           old f w (inr k) = absurd (f (taken-sub (w .0) (w .1) k i (w .2)))
 
-          go : (On x i → ⊥) ⊎ On x i → (On covered i → ⊥) ⊎ On covered i → (t : ℕ) × On (bitOr (without heads x) (2 ^ at)) t × On (getD (set ms at x) t 0) i
+          go : (On x i → ⊥) ⊎ On x i → (On covered i → ⊥) ⊎ On covered i → (t : ℕ) × On heads′ t × On (getD ms′ t 0) i
           go (inr k) c = new k
           go (inl f) (inl g) = absurd (f (or-on covered x i h g))
           go (inl f) (inr k) = let w = o .union .only i k in old f w (on? x (w .0))
 
-      with-next : Outer (l ++ x ∷ []) (set ms at x) (bitOr (without heads x) (2 ^ at)) (bitOr covered x)
+      with-next : Outer (l ++ x ∷ []) ms′ heads′ covered′
       with-next =
           record {
             agreed = more-agreed;
@@ -255,7 +207,7 @@ module _ (l ms : List ℕ) (heads covered x inner : ℕ) (o : Outer l ms heads c
             union = record { each = more-each; only = more-only };
           }
 
--- ---- the masks of a list, of which the first n rise
+-- ---- the first n masks of a list, which rise
 
 pub outer-pairs : (l ms : List ℕ) (heads covered : ℕ) → Outer l ms heads covered → agreeInPairs l ≡ true
 outer-pairs l ms heads covered o = pairs-intro l (o .agreed)
@@ -294,4 +246,4 @@ module _ (l ms : List ℕ) (n j heads covered inner taken shared : ℕ) (h : j <
     outer-more =
         let q : j < length l = omega arith in
         rw (add-one j, take-suc l j 0 q, x, y, f, w)
-            (with-next (take j l) ms heads covered (getD l j 0) inner o above (rw d at u) (sym c ∙ e) at p i)
+        (with-next (take j l) ms heads covered (getD l j 0) inner o above (rw d at u) (sym c ∙ e) at p i)

@@ -108,8 +108,9 @@ fn copy_masks(s: &[u8], i: usize, n: usize, masks: &mut [u64; 64])
     }
 }
 
-// Whether every two of the first n masks, which rise, agree. Of the masks passed `outer` keeps those that no later one took in, each at
-// its lowest taxon, its head. The next mask agrees with them all when it takes in those whose heads it has, and is apart from the others.
+// Whether every two of the first n masks, which rise, agree. Of the masks passed, `outer` has those
+// that no later one took in, each at its lowest taxon, its head: the next mask agrees with all passed
+// when it takes in each outer one whose head it has, and is apart from the others.
 fn pairs_agree(masks: &[u64; 64], n: usize) -> bool
     requires { ⌜ length (now masks) ≡ 64 ⌝ }
     requires { ⌜ n ≤ 64 ⌝ }

@@ -2,7 +2,7 @@
 use mathlib.Core.Path.{ap, _∙_}
 use borrow.Author.Needs.{needs}
 use Rattle.trees.specs.Mask.{without}
-use Rattle.store.specs.OuterLaws.{without-twice}
+use Rattle.store.specs.UnionLaws.{without-twice}
 use Rattle.store.proofs.lists.common.Statement.{statement}
 use Rattle.store.proofs.lists.common.Tie as tie
 

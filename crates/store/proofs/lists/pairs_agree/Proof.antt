@@ -33,9 +33,9 @@ loop-again c =
     let a = b .before .args in
     let p = b .before .pre in
     let m = outer-more (a .masks .now) _ (a .n) (b .loop .j) _ _ _ _ _ (omega arith) (omega arith) (p .1 .1) (b .loop .inv .2)
-            (f .before .before .before .common .ensures) (f .before .before .union-at .ensures) (f .before .common2 .ensures) (f .if1 .left)
-            _ _ _ _ _ (d .lowest-taxon .ensures .0) (omega arith) (c .before .before .before .taxa-without .ensures)
-            (c .before .before .only-taxon .ensures) (c .before .union-of .ensures) (c .union-of2 .ensures) in
+    (f .before .before .before .common .ensures) (f .before .before .union-at .ensures) (f .before .common2 .ensures) (f .if1 .left)
+    _ _ _ _ _ (d .lowest-taxon .ensures .0) (omega arith) (c .before .before .before .taxa-without .ensures)
+    (c .before .before .only-taxon .ensures) (c .before .union-of .ensures) (c .union-of2 .ensures) in
     (omega arith, simp length-set (b .loop .inv .1), m)
 
 returns-2 : tie.Need-returns-2 Inv-loop μ-loop

@@ -3,7 +3,7 @@ use native.Mathlib.Omega.{arith}
 use borrow.Author.Needs.{needs}
 use Rattle.store.specs.SumLaws.{turn-less}
 use Rattle.store.specs.Outer.{PartAt}
-use Rattle.store.specs.OuterLaws.{part-none, part-more, part-all}
+use Rattle.store.specs.UnionLaws.{part-none, part-more, part-all}
 use Rattle.store.proofs.lists.union_at.Statement.{statement}
 use Rattle.store.proofs.lists.union_at.Tie as tie
 
