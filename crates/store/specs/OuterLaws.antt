@@ -22,8 +22,9 @@ use Rattle.theorems.specs.BitLaws.{On, on?, Sub, Dis, ext, and-on, on-and, on-o
 use Rattle.theorems.specs.MaskLaws.{Ag, ag-self, ag-sym}
 use Rattle.theorems.specs.WidestLaws.{lowest-on}
 use Rattle.theorems.specs.SplitLaws.{pairs-at, pairs-intro}
+use Rattle.theorems.specs.BranchLaws.{on-pos}
 use Rattle.store.specs.Outer.{UnionAt, Outer}
-use Rattle.store.specs.UnionLaws.{on-without, without-on, on-some}
+use Rattle.store.specs.UnionLaws.{on-without, without-on}
 
 -- ---- one turn of the loop over the masks
 
@@ -161,7 +162,7 @@ module _ (l ms : List ℕ) (heads covered x inner : ℕ) (o : Outer l ms heads c
         where
           go : (On heads t × (On x t → ⊥)) ⊎ (at ≡ t) → On (getD ms′ t 0) i → On (getD ms′ t 0) t
           go (inl k) m = rw (kept t (k .0) (k .1)) (o .headed t i (k .0) (rw (kept t (k .0) (k .1)) at m))
-          go (inr q) m = rw (← q, placed) (rw e (lowest-on x (on-some x i (rw (← q, placed) at m))))
+          go (inr q) m = rw (← q, placed) (rw e (lowest-on x (on-pos x i (rw (← q, placed) at m))))
 
       more-alone : (t v i : ℕ) → On heads′ t → On heads′ v → On (getD ms′ t 0) i → On (getD ms′ v 0) i → t ≡ v
       more-alone t v i h k = go (head-cases t h) (head-cases v k)

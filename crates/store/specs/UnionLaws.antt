@@ -2,13 +2,11 @@
 --
 --   on-without, without-on             the taxa of a that are not in b, one by one
 --   without-twice                      without what is not in b, the common ones are left
---   on-some                            a mask with a taxon is not 0
 --   part-none, part-more, part-all     one turn of the loop that makes a union
-use Prim.Native.Nat.{ℕ, _^_, _<_}
-use native.Mathlib.Nat.{eq-zero-or-pos}
+use Prim.Native.Nat.{ℕ, _^_}
 use native.Mathlib.Omega.{arith}
 use mathlib.Core.Path.{_≡_}
-use mathlib.Core.Logic.{_⊎_, inl, inr, ⊎-elim}
+use mathlib.Core.Logic.{_⊎_, inl, inr}
 use mathlib.Core.List.{List}
 use lib.Bits.{bitAnd, bitOr}
 use lib.ListN.{getD}
@@ -41,9 +39,6 @@ without-twice a b = ext (without a (without a b)) (bitAnd a b) (λ i o. go i (wi
 
     back : Sub (bitAnd a b) (without a (without a b))
     back i o = let h = and-on a b i o in on-without a (without a b) i (h .0) (λ k. without-on a b i k .1 (h .1))
-
-pub on-some : (m i : ℕ) → On m i → 0 < m
-on-some m i o = ⊎-elim (λ (z : m ≡ 0). absurd (off-zero i (rw z at o))) (λ (h : 0 < m). h) (eq-zero-or-pos m)
 
 -- ---- one turn of the loop that makes a union
 
