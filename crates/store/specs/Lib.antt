@@ -22,6 +22,9 @@ pub mod ChainTests
 pub mod RoomLaws
 pub mod ListTests
 pub mod ListTestLaws
+pub mod Outer
+pub mod UnionLaws
+pub mod OuterLaws
 pub mod CountLaws
 pub mod HeaderLaws
 pub mod WholeTestLaws

@@ -5,8 +5,6 @@
 --   mem-getD                                       what stands in a list is a member
 --   rows-more, rows-high, rows-end                 one turn of the loop over the rows
 --   front-rises, front-falls                       the first masks of a list rise exactly when neighbours do
---   every-more, every-not, every-end               one turn of the loop over the masks behind one
---   pairs-more, pairs-not, pairs-end               one turn of the loop over the masks
 --   list-number, number-recorded, tree-mask        what the code reads
 --   copied-more                                    one turn of the loop that copies the masks
 --   lane-long, lane-short                          a lane
@@ -21,10 +19,9 @@ use native.Mathlib.Numerals.{add-one}
 use native.Mathlib.Omega.{arith}
 use lib.Dec.{leb, ltb}
 use lib.ListN.{length, getD, set, take, drop, drop-of-length-le}
-use lib.Seq.{slice, slice-cons, slice-empty, drop-cons, take-suc, take-suc-set, length-take-le, getD-take, ext-getD}
+use lib.Seq.{drop-cons, take-suc, take-suc-set, length-take-le, getD-take, ext-getD}
 use borrow.Author.Tests.{le-leb, lt-leb, lt-ltb, le-ltb, leb-true, ltb-true}
 use Rattle.trees.specs.Plain.{every}
-use Rattle.trees.specs.Mask.{agree}
 use Rattle.trees.specs.Whole.{rising, agreeInPairs}
 use Rattle.theorems.specs.ListLaws.{and-left, and-right, Mem, every-at}
 use Rattle.theorems.specs.RisingLaws.{Rising, rising-true, true-rising}
@@ -108,40 +105,6 @@ module _ (l : List ℕ) (n : ℕ) (h : n ≤ length l) where
       go false e = refl
       go true e =
           absurd (omega (arith, rise-neighbours (λ j. getD l j 0) 0 n (rw (← front-from l n h) (rising-true (take n l) e)) i (omega arith) (omega arith)))
-
--- ---- one turn of the loops over the masks
-
-module _ (m : ℕ) (l : List ℕ) (n j : ℕ) where
-  every-cons : j < n → n ≤ length l → every (agree m) (slice j n l) ≡ (agree m (getD l j 0) && every (agree m) (slice (j + 1) n l))
-  unfolding every
-  every-cons h f = rw (slice-cons j n l 0 h f, add-one j)
-
-  pub every-more : j < n → n ≤ length l → agree m (getD l j 0) ≡ true → every (agree m) (slice j n l) ≡ every (agree m) (slice (j + 1) n l)
-  every-more h f e = every-cons h f ∙ rw e
-
-  pub every-not : j < n → n ≤ length l → agree m (getD l j 0) ≡ false → every (agree m) (slice j n l) ≡ false
-  every-not h f e = every-cons h f ∙ rw e
-
-  pub every-end : j ≡ n → every (agree m) (slice j n l) ≡ true
-  unfolding every
-  every-end e = rw (e, slice-empty n l)
-
-module _ (l : List ℕ) (n j : ℕ) where
-  pairs-cons : j < n → n ≤ length l
-      → agreeInPairs (slice j n l) ≡ (every (agree (getD l j 0)) (slice (j + 1) n l) && agreeInPairs (slice (j + 1) n l))
-  unfolding agreeInPairs
-  pairs-cons h f = rw (slice-cons j n l 0 h f, add-one j)
-
-  pub pairs-more : j < n → n ≤ length l → every (agree (getD l j 0)) (slice (j + 1) n l) ≡ true
-      → agreeInPairs (slice j n l) ≡ agreeInPairs (slice (j + 1) n l)
-  pairs-more h f e = pairs-cons h f ∙ rw e
-
-  pub pairs-not : j < n → n ≤ length l → every (agree (getD l j 0)) (slice (j + 1) n l) ≡ false → agreeInPairs (slice j n l) ≡ false
-  pairs-not h f e = pairs-cons h f ∙ rw e
-
-  pub pairs-end : j ≡ n → agreeInPairs (slice j n l) ≡ true
-  unfolding agreeInPairs
-  pairs-end e = rw (e, slice-empty n l)
 
 -- ---- what the code reads
 

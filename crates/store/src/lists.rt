@@ -5,15 +5,14 @@ ghost use mathlib.Core.Path.{_≡_};
 ghost use mathlib.Core.Bool.{true};
 ghost use Prim.Native.Nat.{_+_, _*_, _≤_, _<_};
 ghost use lib.ListN.{length, take};
-ghost use lib.Seq.{slice};
-ghost use Rattle.trees.specs.Plain.{every};
-ghost use Rattle.trees.specs.Mask.{agree};
+ghost use lib.Bits.{bitAnd};
 ghost use Rattle.trees.specs.Whole.{rising, agreeInPairs};
 ghost use Rattle.fields.specs.Field.{number};
 ghost use Rattle.head.specs.Head.{numbersAt};
 ghost use Rattle.layout.specs.Store.{treesHeldAt, splitsHeldAt, treeFrom, listAt, treeAt};
 ghost use Rattle.store.specs.WholeStore.{allBelow, goodHead, goodList, goodCount, goodLaneAt};
 ghost use Rattle.store.specs.ListTests.{allRows, Counted};
+ghost use Rattle.store.specs.Outer.{UnionAt};
 
 // Whether every tree's list is in order.
 pub(crate) fn lists_good(s: &[u8]) -> bool
@@ -109,37 +108,55 @@ fn copy_masks(s: &[u8], i: usize, n: usize, masks: &mut [u64; 64])
     }
 }
 
-// Whether every two of the first n masks agree.
+// Whether every two of the first n masks, which rise, agree. Of the masks passed, `outer` has those
+// that no later one took in, each at its lowest taxon, its head: the next mask agrees with all passed
+// when it takes in each outer one whose head it has, and is apart from the others.
 fn pairs_agree(masks: &[u64; 64], n: usize) -> bool
     requires { ⌜ length (now masks) ≡ 64 ⌝ }
     requires { ⌜ n ≤ 64 ⌝ }
+    requires { ⌜ rising (take n (now masks)) ≡ true ⌝ }
     ensures { λ r. ⌜ r ≡ agreeInPairs (take n (now (masks .entry))) ⌝ }
 {
+    let mut outer = [0; 64];
+    let mut heads = 0;
+    let mut covered = 0;
     let mut j = 0;
     while j < n {
-        if !agrees_with(masks, j + 1, n, masks[j]) {
+        let x = masks[j];
+        let inner = union_at(&outer, common(heads, x));
+        if common(covered, x) != inner {
             return false;
         }
+        let head = masks::lowest_taxon(x);
+        let at = head.0 as usize;
+        outer[at] = x;
+        heads = masks::union_of(masks::taxa_without(heads, x), masks::only_taxon(head));
+        covered = masks::union_of(covered, x);
         j += 1;
     }
     true
 }
 
-// Whether m agrees with each mask from `from` up to n.
-fn agrees_with(masks: &[u64; 64], from: usize, n: usize, m: u64) -> bool
-    requires { ⌜ length (now masks) ≡ 64 ⌝ }
-    requires { ⌜ from ≤ n ⌝ }
-    requires { ⌜ n ≤ 64 ⌝ }
-    ensures { λ r. ⌜ r ≡ every (agree m) (slice from n (now (masks .entry))) ⌝ }
+// The taxa that are in a and in b.
+fn common(a: u64, b: u64) -> u64
+    ensures { λ r. ⌜ r ≡ bitAnd a b ⌝ }
 {
-    let mut j = from;
-    while j < n {
-        if !masks::agree(m, masks[j]) {
-            return false;
-        }
-        j += 1;
+    masks::taxa_without(a, masks::taxa_without(a, b))
+}
+
+// The taxa of the masks that stand in `outer` at these taxa.
+fn union_at(outer: &[u64; 64], taxa: u64) -> u64
+    ensures { λ r. ⌜ UnionAt (now (outer .entry)) taxa r ⌝ }
+{
+    let mut all = 0;
+    let mut rest = taxa;
+    while rest != 0 {
+        let i = masks::lowest_taxon(rest);
+        let at = i.0 as usize;
+        all = masks::union_of(all, outer[at]);
+        rest = masks::taxa_without(rest, masks::only_taxon(i));
     }
-    true
+    all
 }
 
 // Whether every split's count is the number of trees that list it, at least 1.

@@ -46,6 +46,9 @@ returns-3 c =
     let m = ap rising (c .before .before .before .copy-masks .ensures .0) in
     sym (list-falls _ _ (omega arith) r (sym m ∙ failed _ _ (c .before .masks-rise .ensures) (c .if3 .taken)))
 
+pairs-agree-requires : tie.Need-pairs-agree-requires
+pairs-agree-requires c κs = (search needs, (search needs, passed _ _ (c .before .before .masks-rise .ensures) (c .before .if3 .left)))
+
 returns-4 : tie.Need-returns-4
 returns-4 c =
     let f = c .before .before in
@@ -70,5 +73,5 @@ list-good-spec =
     copy-masks-requires
     (λ c κs. search needs)
     returns-3
-    (λ c κs. search needs)
+    pairs-agree-requires
     returns-4)

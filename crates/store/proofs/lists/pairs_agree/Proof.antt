@@ -1,38 +1,48 @@
--- `store::lists::pairs_agree` meets its contract. The loop's invariant: the masks from j on decide. Assumes nothing.
+-- `store::lists::pairs_agree` meets its contract. The loop's invariant: the first j masks agree in pairs, and their outer masks are
+-- kept. Assumes nothing.
 use Prim.Native.Nat.{_≤_, _-_}
-use mathlib.Core.Path.{_≡_, refl, sym, _∙_}
+use mathlib.Core.Path.{_≡_, ap, sym, _∙_}
 use native.Mathlib.Omega.{arith}
-use lib.Seq.{slice}
+use borrow.Author.Needs.{needs}
+use lib.ListN.{length, take, length-set}
 use Rattle.trees.specs.Whole.{agreeInPairs}
-use Rattle.opening.specs.GivenLaws.{failed, passed}
-use Rattle.store.specs.ListTestLaws.{pairs-more, pairs-not, pairs-end}
+use Rattle.store.specs.Outer.{Outer}
+use Rattle.store.specs.OuterLaws.{outer-none, outer-more, outer-not, outer-pairs}
 use Rattle.store.proofs.lists.pairs_agree.Statement.{statement}
 use Rattle.store.proofs.lists.pairs_agree.Tie as tie
 
 abbrev Inv-loop : tie.InvT-loop
-Inv-loop masks n j₀ j = (j ≤ n) × (agreeInPairs (slice 0 n masks) ≡ agreeInPairs (slice j n masks))
+Inv-loop masks n outer₀ heads₀ covered₀ j₀ outer heads covered j = (j ≤ n) × (length outer ≡ 64) × Outer (take j masks) outer heads covered
 
 abbrev μ-loop : tie.MeasureT-loop
-μ-loop masks n j₀ j = n - j
+μ-loop masks n outer₀ heads₀ covered₀ j₀ outer heads covered j = n - j
 
 returns : tie.Need-returns Inv-loop μ-loop
 returns c =
-    let a = c .before .before .before .before .before .args in
-    let l = c .before .before .before .before .loop in
-    let e = failed _ _ (c .before .agrees-with .ensures) (c .if1 .taken) in
-    sym (l .inv .1 ∙ pairs-not (a .masks .now) (a .n) (l .j) (omega arith) (omega arith) e)
+    let b = c .before .before .before .before .before .before .before in
+    let a = b .before .args in
+    let p = b .before .pre in
+    sym (outer-not (a .masks .now) _ (a .n) (b .loop .j) _ _ _ _ _ (omega arith) (omega arith) (p .1 .1) (b .loop .inv .2)
+    (c .before .before .before .common .ensures) (c .before .before .union-at .ensures) (c .before .common2 .ensures) (c .if1 .taken))
 
 loop-again : tie.Need-loop-again Inv-loop μ-loop
 loop-again c =
-    let a = c .before .before .before .before .before .args in
-    let l = c .before .before .before .before .loop in
-    let e = passed _ _ (c .before .agrees-with .ensures) (c .if1 .left) in
-    (omega arith, l .inv .1 ∙ pairs-more (a .masks .now) (a .n) (l .j) (omega arith) (omega arith) e)
+    let d = c .before .before .before .before .before in
+    let f = d .before in
+    let b = f .before .before .before .before .before .before .before in
+    let a = b .before .args in
+    let p = b .before .pre in
+    let m = outer-more (a .masks .now) _ (a .n) (b .loop .j) _ _ _ _ _ (omega arith) (omega arith) (p .1 .1) (b .loop .inv .2)
+    (f .before .before .before .common .ensures) (f .before .before .union-at .ensures) (f .before .common2 .ensures) (f .if1 .left)
+    _ _ _ _ _ (d .lowest-taxon .ensures .0) (omega arith) (c .before .before .before .taxa-without .ensures)
+    (c .before .before .only-taxon .ensures) (c .before .union-of .ensures) (c .union-of2 .ensures) in
+    (omega arith, simp length-set (b .loop .inv .1), m)
 
 returns-2 : tie.Need-returns-2 Inv-loop μ-loop
 returns-2 c =
     let a = c .before .before .args in
-    sym (c .before .loop .inv .1 ∙ pairs-end (a .masks .now) (a .n) (c .before .loop .j) (omega arith))
+    let e : c .before .loop .j ≡ a .n = omega arith in
+    sym (ap (λ k. agreeInPairs (take k (a .masks .now))) (sym e) ∙ outer-pairs _ _ _ _ (c .before .loop .inv .2))
 
 pub pairs-agree-spec : {M : Type 1} → statement M
 pairs-agree-spec =
@@ -40,13 +50,22 @@ pairs-agree-spec =
     (tie.spec
     Inv-loop
     μ-loop
-    (λ c. (omega arith, refl))
-    (λ c. omega arith)
-    (λ c. omega arith)
-    (λ c. omega arith)
-    (λ c κs. (omega arith, (omega arith, omega arith)))
+    (λ c. (search needs, search needs, outer-none _))
+    (λ c. search needs)
+    (λ c. search needs)
+    (λ c κs. search needs)
+    (λ c κs. search needs)
+    (λ c κs. search needs)
     returns
-    (λ c. omega arith)
-    (λ c. omega arith)
+    (λ c κs. search needs)
+    (λ c. search needs)
+    (λ c. search needs)
+    (λ c. search needs)
+    (λ c κs. search needs)
+    (λ c κs. search needs)
+    (λ c κs. search needs)
+    (λ c κs. search needs)
+    (λ c. search needs)
+    (λ c. search needs)
     loop-again
     returns-2)
