@@ -6,12 +6,13 @@
 --   mask-fits, identifier-fits, order-fits, link-fits, start-fits     the fields of a split and of a place end inside the store
 --   first-most       the constants of the first list are at most 8,191
 --   sum-most         so their sums are below 2^20
+--   sum-read         and their table gives them as they are
 --   place-below, place-small     a place is below their number, and below 8,192
 use Prim.Native.Nat.{ℕ, _+_, _*_, _^_, _≤_, _<_}
 use native.Mathlib.Nat.{mod-lt}
 use native.Mathlib.Omega.{arith}
 use mathlib.Core.Path.{_≡_, refl}
-use mathlib.Core.Bool.{true}
+use mathlib.Core.Bool.{true, false}
 use mathlib.Core.List.{List}
 use lib.Dec.{leb}
 use lib.ListN.{length, getD}
@@ -24,7 +25,8 @@ use Rattle.head.specs.Head.{numbersAt, firstAt, openingAt}
 use Rattle.head.specs.HeadLaws.{first-length}
 use Rattle.layout.specs.Store.{treesHeldAt, splitsHeldAt, laneFrom, treeFrom, masksFrom, identifiersFrom, linksFrom, orderFrom, placesFrom, sizeAt}
 use Rattle.store.specs.WholeStore.{goodHead}
-use Rattle.store.specs.SumLaws.{sumOver-most}
+use Rattle.store.specs.Sums.{constantsAt, Sums, SumBy}
+use Rattle.store.specs.SumLaws.{sumOver-most, first-sum}
 
 pub record GoodHead (s : List ℕ) : Type 0 where
   pub long : 4096 ≤ length s
@@ -72,6 +74,9 @@ module _ (s : List ℕ) where
 
   pub sum-most : GoodHead s → (m : ℕ) → sumOver (firstAt s) m < 2 ^ 20
   sum-most g m = omega (arith, sumOver-most 8192 (firstAt s) m (first-most g), first-length s, g .ranges .most-taxa)
+
+  pub sum-read : GoodHead s → (t : List ℕ) (m r : ℕ) → Sums (constantsAt false s) 8 t → SumBy t m r → r ≡ sumOver (firstAt s) m
+  sum-read g t m r h d = omega (arith, first-sum s t m r h d, sum-most g m)
 
   module _ (g : GoodHead s) (k : ℕ) (h : k < splitsHeldAt s) where
     pub mask-fits : masksFrom s + 8 * k + 8 ≤ length s

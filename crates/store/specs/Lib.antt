@@ -13,6 +13,7 @@ pub mod ChainLaws
 pub mod PartFrameLaws
 pub mod HeadKeptLaws
 pub mod FrameLaws
+pub mod Sums
 pub mod SumLaws
 pub mod GoodHeadLaws
 pub mod NeighbourLaws

@@ -1,13 +1,12 @@
 -- Laws of the recorded splits. Assumes nothing.
 --
---   proper-some, proper-below     a proper mask is not 0, and has only taxa below n
+--   proper-some                   a proper mask is not 0
 --   before-none, before-more      the mask before, as a loop makes it
 --   mask-read, identifier-read, row-read, split-read     what is read
 --   order-bad, mask-improper, mask-below, mask-good      the test of split number k, by its parts
 --   identifier-good, identifier-bad          the test of an identifier
 --   good-splits                   the test of the splits is these tests and those of the identifiers
---   masks-below                   in a store whose splits are good each mask has only taxa of the store
-use Prim.Native.Nat.{ℕ, zero, suc, _+_, _*_, _^_, _≤_, _<_}
+use Prim.Native.Nat.{ℕ, zero, suc, _+_, _*_, _≤_, _<_}
 use native.Mathlib.Numerals.{add-one}
 use native.Mathlib.Omega.{arith}
 use mathlib.Core.Path.{_≡_, refl, sym, _∙_}
@@ -22,16 +21,13 @@ use Rattle.trees.specs.Hash.{identifier}
 use Rattle.trees.specs.Whole.{rising}
 use Rattle.theorems.specs.ListLaws.{and-left, and-right, and-true, every-at, every-intro}
 use Rattle.theorems.specs.OpeningLaws.{both}
-use Rattle.theorems.specs.MaskLaws.{sub-below}
-use Rattle.theorems.specs.ProperLaws.{proper-two, proper-sub}
+use Rattle.theorems.specs.ProperLaws.{proper-two}
 use Rattle.theorems.specs.RisingLaws.{rising-true, true-rising}
 use Rattle.fields.specs.Field.{number}
 use Rattle.head.specs.Head.{upTo, numbersAt, secondAt}
 use Rattle.layout.specs.Store.{splitsHeldAt, masksFrom, identifiersFrom, orderFrom, maskAt, orderAt, splitAt, masksAt, identifierAt}
 use Rattle.store.specs.WholeStore.{allBelow, goodOrder, goodIdentifier, goodSplits}
-use Rattle.store.specs.WholeFacts.{splits-facts}
 use Rattle.store.specs.UpToLaws.{bool-same}
-use Rattle.store.specs.OrderLaws.{mask-proper as row-proper}
 use Rattle.store.specs.Splits.{maskBefore, goodMask}
 use Rattle.store.specs.AllLaws.{all-at, all-intro}
 use Rattle.store.specs.NeighbourLaws.{mem-from, from-mem, rise-neighbours, neighbours-rise}
@@ -42,9 +38,6 @@ pub proper-some : (n m : ℕ) → proper n m ≡ true → 0 < m
 unfolding ones onesIn
 proper-some n zero e = absurd (omega (arith, proper-two n 0 e))
 proper-some n (suc m) e = omega arith
-
-pub proper-below : (n m : ℕ) → proper n m ≡ true → m < 2 ^ n
-proper-below n m e = sub-below n m (proper-sub n m e)
 
 -- ---- the masks, a split at a time
 
@@ -170,6 +163,3 @@ module _ (s : List ℕ) where
 
   pub good-splits : goodSplits s ≡ (allBelow (goodMask s) (splitsHeldAt s) && allBelow (goodIdentifier s) (splitsHeldAt s))
   good-splits = bool-same _ _ good-apart good-together
-
-  pub masks-below : goodSplits s ≡ true → (i : ℕ) → i < splitsHeldAt s → maskAt s i < 2 ^ numbersAt s .taxa
-  masks-below e i l = proper-below _ _ (row-proper s (splits-facts s e) i l)

@@ -7,6 +7,7 @@ ghost use Rattle.store.specs.WholeStore.{wholeAt};
 mod header;
 mod lists;
 mod splits;
+mod sums;
 
 pub use header::head_good;
 

@@ -26,7 +26,7 @@ is-whole-spec =
     (λ c. no-lists _ (passed (c .before .before .before .before .before .head-good .ensures) (c .before .before .before .before .if1 .left)) (passed (c .before .before .before .splits-good .ensures) (c .before .before .if2 .left)) (failed (c .before .lists-good .ensures) (c .if3 .taken)))
     (λ c κs. ((passed (c .before .before .before .before .before .head-good .ensures) (c .before .before .before .before .if1 .left)), (passed (c .before .lists-good .ensures) (c .if3 .left))))
     (λ c. no-counts _ (passed (c .before .before .before .before .before .before .before .head-good .ensures) (c .before .before .before .before .before .before .if1 .left)) (passed (c .before .before .before .before .before .splits-good .ensures) (c .before .before .before .before .if2 .left)) (passed (c .before .before .before .lists-good .ensures) (c .before .before .if3 .left)) (failed (c .before .counts-good .ensures) (c .if4 .taken)))
-    (λ c κs. ((passed (c .before .before .before .before .before .before .before .head-good .ensures) (c .before .before .before .before .before .before .if1 .left)), (passed (c .before .before .before .before .before .splits-good .ensures) (c .before .before .before .before .if2 .left))))
+    (λ c κs. (passed (c .before .before .before .before .before .before .before .head-good .ensures) (c .before .before .before .before .before .before .if1 .left)))
     (λ c. no-chains _ (passed (c .before .before .before .before .before .before .before .before .before .head-good .ensures) (c .before .before .before .before .before .before .before .before .if1 .left)) (passed (c .before .before .before .before .before .before .before .splits-good .ensures) (c .before .before .before .before .before .before .if2 .left)) (passed (c .before .before .before .before .before .lists-good .ensures) (c .before .before .before .before .if3 .left)) (passed (c .before .before .before .counts-good .ensures) (c .before .before .if4 .left)) (failed (c .before .chains-good .ensures) (c .if5 .taken)))
     (λ c κs. (passed (c .before .before .before .before .before .before .before .before .before .head-good .ensures) (c .before .before .before .before .before .before .before .before .if1 .left)))
     (λ c. by-lanes _ (passed (c .before .before .before .before .before .before .before .before .before .before .head-good .ensures) (c .before .before .before .before .before .before .before .before .before .if1 .left)) (passed (c .before .before .before .before .before .before .before .before .splits-good .ensures) (c .before .before .before .before .before .before .before .if2 .left)) (passed (c .before .before .before .before .before .before .lists-good .ensures) (c .before .before .before .before .before .if3 .left)) (passed (c .before .before .before .before .counts-good .ensures) (c .before .before .before .if4 .left)) (passed (c .before .before .chains-good .ensures) (c .before .if5 .left)) (c .lanes-good .ensures)))

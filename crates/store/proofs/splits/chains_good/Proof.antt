@@ -10,58 +10,58 @@ use Rattle.store.specs.WholeStore.{allBelow, goodLink}
 use Rattle.store.specs.AllLaws.{all-none, all-more, all-fails}
 use Rattle.store.specs.GoodHeadLaws.{good-head, mask-fits, link-fits, place-small}
 use Rattle.store.specs.Splits.{Highest}
-use Rattle.store.specs.SplitLaws.{mask-read, masks-below}
+use Rattle.store.specs.SplitLaws.{mask-read}
 use Rattle.store.specs.ChainTests.{place-read, heights-none, heights-more, link-good, link-bad, good-chains}
 use Rattle.store.proofs.splits.chains_good.Statement.{statement}
 use Rattle.store.proofs.splits.chains_good.Tie as tie
 
 abbrev Inv-loop : tie.InvT-loop
-Inv-loop s from to held highest₀ k₀ highest k =
+Inv-loop s sums from to held highest₀ k₀ highest k =
     (k ≤ held) × (held ≤ 4096) × (length highest ≡ 8192) × Highest s k highest × (allBelow (goodLink s) k ≡ true)
 
 abbrev μ-loop : tie.MeasureT-loop
-μ-loop s from to held highest₀ k₀ highest k = held - k
+μ-loop s sums from to held highest₀ k₀ highest k = held - k
 
 loop-holds : tie.Need-loop-holds Inv-loop μ-loop
 loop-holds c =
-    let g = good-head _ (c .before .before .before .before .pre .0) in
+    let g = good-head _ (c .before .before .before .before .before .before .pre) in
     (omega arith, omega (arith, g .splits-fit, g .ranges .most-splits), refl, heights-none _, all-none _)
 
 get64-requires : tie.Need-get64-requires Inv-loop μ-loop
 get64-requires c κs =
-    let d = c .before .before .before .before .before .before in
-    omega (arith, mask-fits _ (good-head _ (d .pre .0)) (c .before .loop .k) (omega arith))
+    let l = c .before .before in
+    let d = l .before .before .before .before .before .before .before in
+    omega (arith, mask-fits _ (good-head _ (d .pre)) (l .loop .k) (omega arith))
 
 place-of-requires : tie.Need-place-of-requires Inv-loop μ-loop
 place-of-requires c κs =
-    let l = c .before .before in
-    let d = l .before .before .before .before .before in
-    let m = mask-read _ (l .loop .k) _ _ (l .before .before .before .masks-from .ensures .0) (c .get64 .ensures) in
-    (d .pre .0, rw m (masks-below _ (d .pre .1) _ (omega arith)))
+    let f = c .before .before .before .before .before .before .before in
+    (f .before .before .before .pre, f .fill-sums .ensures)
 
 get16-requires : tie.Need-get16-requires Inv-loop μ-loop
 get16-requires c κs =
-    let d = c .before .before .before .before .before .before .before .before in
-    omega (arith, link-fits _ (good-head _ (d .pre .0)) (c .before .before .before .loop .k) (omega arith))
+    let l = c .before .before .before .before in
+    let d = l .before .before .before .before .before .before .before in
+    omega (arith, link-fits _ (good-head _ (d .pre)) (l .loop .k) (omega arith))
 
 mul-if1 : tie.Need-mul-if1 Inv-loop μ-loop
 mul-if1 c =
-    let d = c .before .before .before .before .before .before .before .before .before in
-    omega (arith, place-small _ (good-head _ (d .pre .0)) _ _ (c .before .place-of .ensures))
+    let d = c .before .before .before .before .before .before .before .before .before .before .before .before in
+    omega (arith, place-small _ (good-head _ (d .pre)) _ _ (c .before .place-of .ensures))
 
 array-read-if1 : tie.Need-array-read-if1 Inv-loop μ-loop
 array-read-if1 c =
-    let d = c .before .before .before .before .before .before .before .before .before in
-    place-small _ (good-head _ (d .pre .0)) _ _ (c .before .place-of .ensures)
+    let d = c .before .before .before .before .before .before .before .before .before .before .before .before in
+    place-small _ (good-head _ (d .pre)) _ _ (c .before .place-of .ensures)
 
 returns : tie.Need-returns Inv-loop μ-loop
 returns c =
     let g = c .before .before in
-    let l = g .before .before .before in
-    let d = l .before .before .before .before .before in
+    let l = g .before .before .before .before in
+    let d = l .before .before .before .before .before .before .before in
     let m = mask-read _ (l .loop .k) _ _ (l .before .before .before .masks-from .ensures .0) (g .before .get64 .ensures) in
     let p = place-read _ _ _ _ m (g .place-of .ensures) in
-    let h = place-small _ (good-head _ (d .pre .0)) _ _ (g .place-of .ensures) in
+    let h = place-small _ (good-head _ (d .pre)) _ _ (g .place-of .ensures) in
     let a = l .before .before .links-from .ensures .0 in
     let e = link-bad _ _ _ _ _ _ a (c .before .get16 .ensures) p (l .loop .inv .3 .each _ h) (c .if1 .taken) in
     let s = d .args .s .now in
@@ -70,22 +70,22 @@ returns c =
 
 mul-highest : tie.Need-mul-highest Inv-loop μ-loop
 mul-highest c =
-    let d = c .before .before .before .before .before .before .before .before .before .before in
-    omega (arith, place-small _ (good-head _ (d .pre .0)) _ _ (c .before .before .place-of .ensures))
+    let d = c .before .before .before .before .before .before .before .before .before .before .before .before .before in
+    omega (arith, place-small _ (good-head _ (d .pre)) _ _ (c .before .before .place-of .ensures))
 
 array-write-highest : tie.Need-array-write-highest Inv-loop μ-loop
 array-write-highest c =
-    let d = c .before .before .before .before .before .before .before .before .before .before in
-    place-small _ (good-head _ (d .pre .0)) _ _ (c .before .before .place-of .ensures)
+    let d = c .before .before .before .before .before .before .before .before .before .before .before .before .before in
+    place-small _ (good-head _ (d .pre)) _ _ (c .before .before .place-of .ensures)
 
 loop-again : tie.Need-loop-again Inv-loop μ-loop
 loop-again c =
     let g = c .before .before in
-    let l = g .before .before .before in
-    let d = l .before .before .before .before .before in
+    let l = g .before .before .before .before in
+    let d = l .before .before .before .before .before .before .before in
     let m = mask-read _ (l .loop .k) _ _ (l .before .before .before .masks-from .ensures .0) (g .before .get64 .ensures) in
     let p = place-read _ _ _ _ m (g .place-of .ensures) in
-    let h = place-small _ (good-head _ (d .pre .0)) _ _ (g .place-of .ensures) in
+    let h = place-small _ (good-head _ (d .pre)) _ _ (g .place-of .ensures) in
     let a = l .before .before .links-from .ensures .0 in
     let e = link-good _ _ _ _ _ _ a (c .before .get16 .ensures) p (l .loop .inv .3 .each _ h) (c .if1 .left) in (
       omega arith,
@@ -98,14 +98,14 @@ loop-again c =
 starts-good-requires : tie.Need-starts-good-requires Inv-loop μ-loop
 starts-good-requires c κs =
     let l = c .before .before in
-    let d = l .before .before .before .before .before in
+    let d = l .before .before .before .before .before .before .before in
     let e : l .loop .k ≡ splitsHeldAt (d .args .s .now) = omega arith in
-    (d .pre .0, rw e at (l .loop .inv .3))
+    (d .pre, rw e at (l .loop .inv .3))
 
 returns-2 : tie.Need-returns-2 Inv-loop μ-loop
 returns-2 c =
     let l = c .before .before .before in
-    let d = l .before .before .before .before .before in
+    let d = l .before .before .before .before .before .before .before in
     let e : l .loop .k ≡ splitsHeldAt (d .args .s .now) = omega arith in
     let a = rw e at (l .loop .inv .4) in
     c .starts-good .ensures ∙ sym (good-chains _ ∙ rw a)
@@ -116,9 +116,10 @@ chains-good-spec =
     (tie.spec
     Inv-loop
     μ-loop
-    (λ c κs. good-head _ (c .before .pre .0) .long)
-    (λ c κs. good-head _ (c .before .before .pre .0) .long)
-    (λ c κs. good-head _ (c .before .before .before .pre .0) .long)
+    (λ c κs. (c .before .before .pre, refl))
+    (λ c κs. good-head _ (c .before .before .before .pre) .long)
+    (λ c κs. good-head _ (c .before .before .before .before .pre) .long)
+    (λ c κs. good-head _ (c .before .before .before .before .before .pre) .long)
     loop-holds
     (λ c. omega arith)
     (λ c. omega arith)
