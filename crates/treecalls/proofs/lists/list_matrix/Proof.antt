@@ -1,0 +1,25 @@
+-- `treecalls::lists::list_matrix` is safe. Assumes nothing.
+use native.Mathlib.Omega.{arith}
+use lib.ListN.{length-take}
+use borrow.Author.Needs.{needs}
+use Rattle.treecalls.proofs.lists.list_matrix.Statement.{statement}
+use Rattle.treecalls.proofs.lists.list_matrix.Tie as tie
+
+pub list-matrix-spec : {M : Type 1} → statement M
+list-matrix-spec =
+    tie.close
+    (tie.spec
+    (λ c κs. search needs)
+    (λ c. search needs)
+    (λ c. simp length-take (omega arith))
+    (λ c κs. search needs)
+    (λ c. search needs)
+    (λ c κs. search needs)
+    (λ c. search needs)
+    (λ c κs. search needs)
+    (λ c. search needs)
+    (λ c. search needs)
+    (λ c. search needs)
+    (λ c. search needs)
+    (λ c. search needs)
+    (λ c. search needs))

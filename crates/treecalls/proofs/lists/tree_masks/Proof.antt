@@ -1,0 +1,31 @@
+-- `treecalls::lists::tree_masks` is safe and ends. The measure is what is left of the masks. Assumes nothing.
+use Prim.Native.Nat.{_-_, _≤_}
+use mathlib.Core.Path.{_≡_}
+use native.Mathlib.Omega.{arith}
+use lib.ListN.{length}
+use borrow.Author.Needs.{needs}
+use Rattle.treecalls.proofs.lists.tree_masks.Statement.{statement}
+use Rattle.treecalls.proofs.lists.tree_masks.Tie as tie
+
+abbrev Inv-loop : tie.InvT-loop
+Inv-loop out₀ masks k state₀ i₀ out state i = (length out ≡ length out₀) × (i ≤ k)
+
+abbrev μ-loop : tie.MeasureT-loop
+μ-loop out₀ masks k state₀ i₀ out state i = k - i
+
+pub tree-masks-spec : {M : Type 1} → statement M
+tree-masks-spec =
+    tie.close
+    (tie.spec
+    Inv-loop
+    μ-loop
+    (λ c. search needs)
+    (λ c κs. search needs)
+    (λ c. (omega arith, omega arith))
+    (λ c κs. search needs)
+    (λ c. omega arith)
+    (λ c. omega arith)
+    (λ c. (omega arith, omega arith))
+    (λ c κs. search needs)
+    (λ c. omega arith)
+    (λ c. search needs))
