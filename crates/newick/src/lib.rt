@@ -20,7 +20,7 @@ mod splits;
 
 // The verdict on a text: the number of its refusal, or how many splits it has.
 pub enum Judged {
-    Refused(u32),
+    Refused(u64),
     Splits(usize),
 }
 
