@@ -1,8 +1,12 @@
 //! Checks of the store's decoder: a store made by hand from docs/STORE.md, and changes of its bytes.
 
+use crate::changes::{CHANGES, FAULTS};
 use crate::check::Report;
+use crate::random::Random;
+use crate::stores::made_bytes;
 use crate::whole::held_in;
 use crate::words::hex;
+use std::collections::BTreeSet;
 
 type Check = (String, bool);
 
@@ -38,7 +42,7 @@ fn by_hand() -> Vec<u8> {
 }
 
 /// Bytes and what they are changed to; the store is no more whole.
-const FAULTS: [(&str, usize, u8); 26] = [
+const BROKEN: [(&str, usize, u8); 26] = [
     ("3 taxa", 0, 3),
     ("6 taxa", 0, 6),
     ("no lane", 2, 0),
@@ -68,7 +72,7 @@ const FAULTS: [(&str, usize, u8); 26] = [
 ];
 
 /// Bytes that may have any value, or that hold something else.
-const OTHERS: [(&str, usize, u8); 9] = [
+const UNHARMED: [(&str, usize, u8); 9] = [
     ("head, not used", 14, 0),
     ("name, behind its length", 18, 0),
     ("name of no taxon", 16 + 33 * 5, 77),
@@ -94,10 +98,28 @@ pub fn store_checks() -> Vec<Check> {
         ("no bytes".to_string(), held_in(&[]).is_none()),
     ];
     let name = |what: &str| format!("store by hand, {what}");
-    checks.extend(FAULTS.iter().map(|(what, at, byte)| (name(what), changed(*at, *byte).is_none())));
-    checks.extend(OTHERS.iter().map(|(what, at, byte)| (name(what), changed(*at, *byte).is_some())));
+    checks.extend(BROKEN.iter().map(|(what, at, byte)| (name(what), changed(*at, *byte).is_none())));
+    checks.extend(UNHARMED.iter().map(|(what, at, byte)| (name(what), changed(*at, *byte).is_some())));
     checks.extend(checker_checks(&store));
+    checks.push(("made stores".to_string(), made_stores_fit()));
     checks
+}
+
+/// Those without a change are whole; each change leaves some whole, and each fault leaves some not whole.
+fn made_stores_fit() -> bool {
+    let mut random = Random::new(1);
+    let (mut changes, mut faults) = (BTreeSet::new(), BTreeSet::new());
+    let mut plain = true;
+    for i in 0..20 * 3 * FAULTS.len() {
+        let whole = held_in(&made_bytes(&mut random, i).1).is_some();
+        match i % 3 {
+            0 => plain &= whole,
+            1 if whole => drop(changes.insert(i / 3 % CHANGES.len())),
+            2 if !whole => drop(faults.insert(i / 3 % FAULTS.len())),
+            _ => (),
+        }
+    }
+    plain && changes.len() == CHANGES.len() && faults.len() == FAULTS.len()
 }
 
 fn holds_samples(store: &[u8]) -> bool {

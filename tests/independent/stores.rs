@@ -62,22 +62,28 @@ pub fn made(seed: u64, count: usize) -> Vec<u8> {
 }
 
 fn made_store(mut random: Random, i: usize) -> Vec<u8> {
-    let maker = small_collection(Random::new(random.next()));
-    let mut masks: Vec<u64> = maker.held.counts().keys().copied().collect();
-    shuffle(&mut random, &mut masks);
-    let mut parts = Parts::of(&maker.held, masks);
-    match i % 3 {
-        0 => (),
-        1 => CHANGES[i / 3 % CHANGES.len()](&mut random, &mut parts),
-        _ => FAULTS[i / 3 % FAULTS.len()](&mut random, &mut parts),
-    }
-    let fill = random.below(256) as u8;
-    let mut bytes = vec![fill; parts.numbers.size().expect("numbers in range") as usize];
-    parts.write(&mut bytes);
+    let (maker, bytes) = made_bytes(&mut random, i);
     let mut lines = vec![format!("lend {}", maker.lent), format!("poke 0 {}", hex(&bytes))];
     lines.extend(calls_on(&mut random, &maker));
     lines.push(format!("peek 0 {}", maker.lent));
     joined(&lines)
+}
+
+/// The bytes of a store: whole, with the next change, or with the next fault.
+pub fn made_bytes(random: &mut Random, i: usize) -> (Maker, Vec<u8>) {
+    let maker = small_collection(Random::new(random.next()));
+    let mut masks: Vec<u64> = maker.held.counts().keys().copied().collect();
+    shuffle(random, &mut masks);
+    let mut parts = Parts::of(&maker.held, masks);
+    match i % 3 {
+        0 => (),
+        1 => CHANGES[i / 3 % CHANGES.len()](random, &mut parts),
+        _ => FAULTS[i / 3 % FAULTS.len()](random, &mut parts),
+    }
+    let fill = random.below(256) as u8;
+    let mut bytes = vec![fill; parts.numbers.size().expect("numbers in range") as usize];
+    parts.write(&mut bytes);
+    (maker, bytes)
 }
 
 fn shuffle(random: &mut Random, masks: &mut [u64]) {

@@ -15,7 +15,7 @@ pub fn held_in(bytes: &[u8]) -> Option<Collection> {
 
 impl Parts {
     /// "Whole means", in the order of document 01; what `read` has tested is not tested again.
-    pub fn is_whole(&self) -> bool {
+    fn is_whole(&self) -> bool {
         names_fit(&self.names, self.numbers.taxa)
             && constants_fit(&self.numbers, &self.first, &self.second)
             && self.masks_fit()
