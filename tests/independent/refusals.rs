@@ -204,7 +204,7 @@ fn batches_with_rooms(maker: &mut Maker) {
     maker.ask("room -");
 }
 
-/// 12, then 11, then 10 before 11 and 11 before 12, at full rooms.
+/// 12, then at full rooms 6 to 10 before 11, and 11 before 12.
 fn full_rooms(maker: &mut Maker) {
     let room = maker.numbers.tree_room as usize;
     for _ in 0..4 * room {
@@ -215,8 +215,9 @@ fn full_rooms(maker: &mut Maker) {
         let star = maker.star(&maker.names);
         maker.watched_text(&star);
     }
-    let short = maker.star(&maker.names[1..]);
-    maker.watched_text(&short);
+    for text in faulty_texts(maker) {
+        maker.watched_text(&text);
+    }
     for _ in 0..4 {
         let text = [maker.any_text(), b";".to_vec()].concat();
         maker.batch(0, &text);
