@@ -1,12 +1,12 @@
 //! The limits: bytes of a text, taxa, nesting, tree room and split room, batches, and long collections.
 
-use crate::collection::Fed;
 use crate::consensus::written;
 use crate::grow::{ladder, names, shape, text_of, tokens, Dress, Name};
 use crate::maker::{joined, open_line, Maker};
 use crate::opening::Numbers;
 use crate::random::Random;
 use crate::verdict::{judge, Masks, MOST_BYTES};
+use crate::words::hex;
 
 const BARE: Dress = Dress { lengths: usize::MAX, labels: usize::MAX, blanks: usize::MAX };
 
@@ -116,7 +116,7 @@ fn taxa(random: &mut Random) -> Vec<u8> {
         let numbers = Numbers { taxa: n as u64, lanes: 1, tree_room: 2, split_room: 200, places: 1 };
         lines.push(open_line(&numbers, &names.join(&b' '), &zeros, &zeros));
         let text = bare_text(random, &names, 2);
-        lines.push(format!("feed 0 {}3b", crate::words::hex(&text)));
+        lines.push(format!("feed 0 {}3b", hex(&text)));
         lines.extend(["splits", "majority", "collisions", "matrix"].map(str::to_string));
     }
     joined(&lines)
@@ -191,7 +191,7 @@ fn batches(random: Random) -> Vec<u8> {
             piece.push(b';');
         }
         maker.ask(format!("room {}", texts - 1));
-        maker.ask(format!("batch 1 {}", crate::words::hex(&piece)));
+        maker.ask(format!("batch 1 {}", hex(&piece)));
         maker.ask(format!("room {texts}"));
         piece.extend(b"(");
         maker.batch(1, &piece);
@@ -238,7 +238,5 @@ fn largest_split_room(random: Random) -> Vec<u8> {
     fill_split_room(&mut maker);
     maker.peek();
     maker.questions();
-    let refused = matches!(maker.text(b"()"), Fed::Refused { .. });
-    assert!(refused, "a text of no node is a fault of form");
     maker.script()
 }
