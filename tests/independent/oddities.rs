@@ -6,7 +6,7 @@ use crate::random::Random;
 /// A line of every call that is one once something is opened.
 const GOOD: [&str; 22] = [
     "size 4 1 1 1 1",
-    "open 4 1 1 1 1 4120422043 0,0,0,0 0,0,0,0",
+    "open 4 1 1 1 1 41204220432044 0,0,0,0 0,0,0,0",
     "feed 0 28",
     "feed 0 -",
     "close 0",
