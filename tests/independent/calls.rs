@@ -1,17 +1,16 @@
 //! The program `treecalls`: one call a line, one answer a line.
 //!
-//! Of the lent memory only its size is modelled, and the bytes that no store lies on. An answer that depends on the
-//! bytes of a store is `unmodelled`.
+//! Bytes of a store are known where document 01 settles them: those that were poked, and those that no call has
+//! written since they were peeked. An answer that depends on others is `unmodelled`.
 
-use crate::collection::{Batch, Collection, Fed};
+use crate::collection::{Collection, Fed};
+use crate::memory::{Memory, MOST_LENT};
 use crate::opening::{open, Numbers};
+use crate::question::{refused, Question};
 use crate::sets::{agree, taxa_of};
+use crate::whole::held_in;
 use crate::words::{bytes, hex, lines, list, number};
-
-const MOST_LENT: u64 = 1_048_576;
-const LENT_BYTE: u8 = 165;
-/// The size of the smallest store: one lane, one tree, one split, one place.
-const SMALLEST_STORE: usize = 4096 + 4104 + 128 + 24 + 2;
+use std::ops::Range;
 
 /// What `treecalls` writes for this input.
 pub fn treecalls(input: &[u8]) -> Vec<u8> {
@@ -24,11 +23,8 @@ pub fn treecalls(input: &[u8]) -> Vec<u8> {
     out
 }
 
-struct Program {
-    /// The lent bytes; `None` where the bytes of a store lie or lay.
-    lent: Vec<Option<u8>>,
-    /// The size of the store opened last, 0 if none was since the memory was lent.
-    store_size: usize,
+pub struct Program {
+    memory: Memory,
     store: Store,
     /// The most elements of an answer buffer.
     room: usize,
@@ -41,13 +37,12 @@ enum Store {
 }
 
 impl Program {
-    fn new() -> Program {
-        Program { lent: Vec::new(), store_size: 0, store: Store::NotWhole, room: usize::MAX }
+    pub fn new() -> Program {
+        Program { memory: Memory::lent(0), store: Store::NotWhole, room: usize::MAX }
     }
 
-    fn answer(&mut self, line: &[u8]) -> Vec<u8> {
-        let words: Vec<&[u8]> = line.split(|b| *b == b' ').collect();
-        self.call(&words).unwrap_or_else(|| b"bad line".to_vec())
+    pub fn answer(&mut self, line: &[u8]) -> Vec<u8> {
+        self.call(&words(line)).unwrap_or_else(|| b"bad line".to_vec())
     }
 
     /// `None` for a line that is no call.
@@ -75,42 +70,35 @@ impl Program {
         if n > MOST_LENT {
             return None;
         }
-        self.lent = vec![Some(LENT_BYTE); n as usize];
-        self.store_size = 0;
+        self.memory = Memory::lent(n as usize);
         self.store = Store::NotWhole;
         Some(b"done".to_vec())
     }
 
     fn poke(&mut self, at: u64, bytes: &[u8]) -> Option<Vec<u8>> {
-        let at = self.inside(at, bytes.len() as u64)?;
-        for (place, byte) in self.lent[at..].iter_mut().zip(bytes) {
-            *place = Some(*byte);
-        }
-        if bytes.is_empty() {
-            return Some(b"done".to_vec());
-        }
-        if at < self.store_size {
-            self.store = Store::Unmodelled;
-            return Some(b"unmodelled".to_vec());
-        }
-        // Bytes could be put together to a whole store; short memory holds none.
-        if self.store_size == 0 && self.lent.len() >= SMALLEST_STORE {
-            self.store = Store::Unmodelled;
+        let range = self.memory.inside(at, bytes.len() as u64)?;
+        self.memory.write(range.start, bytes);
+        let behind = matches!(&self.store, Store::Whole(held) if range.start >= size_of(held));
+        if !range.is_empty() && !behind {
+            self.look();
         }
         Some(b"done".to_vec())
     }
 
-    fn peek(&self, at: u64, n: u64) -> Option<Vec<u8>> {
-        let at = self.inside(at, n)?;
-        let known: Option<Vec<u8>> = self.lent[at..at + n as usize].iter().copied().collect();
-        let answer = known.map_or("unmodelled".to_string(), |bytes| format!("bytes {}", hex(&bytes)));
-        Some(answer.into_bytes())
+    /// Decides by the bytes whether the store is whole, and what it holds.
+    fn look(&mut self) {
+        let all = self.memory.known(0..self.memory.size());
+        self.store = match all.map(|bytes| held_in(&bytes)) {
+            None => Store::Unmodelled,
+            Some(None) => Store::NotWhole,
+            Some(Some(collection)) => Store::Whole(collection),
+        };
     }
 
-    /// Where n bytes from `at` lie inside the lent memory, `at`.
-    fn inside(&self, at: u64, n: u64) -> Option<usize> {
-        let end = u128::from(at) + u128::from(n);
-        (end <= self.lent.len() as u128).then_some(at as usize)
+    fn peek(&self, at: u64, n: u64) -> Option<Vec<u8>> {
+        let known = self.memory.known(self.memory.inside(at, n)?);
+        let answer = known.map_or("unmodelled".to_string(), |bytes| format!("bytes {}", hex(&bytes)));
+        Some(answer.into_bytes())
     }
 
     fn set_room(&mut self, k: usize) -> Vec<u8> {
@@ -118,15 +106,52 @@ impl Program {
         b"done".to_vec()
     }
 
+    // Learning from answers
+
+    /// Takes over the bytes that a peek was answered with, where they are not known. If then all bytes of the store
+    /// are, they must be whole and hold the collection.
+    pub fn learn(&mut self, line: &[u8], answer: &[u8]) -> Learnt {
+        let Some((at, peeked)) = self.peeked(line, answer) else {
+            return Learnt::Nothing;
+        };
+        let learnt = self.memory.learn(at, &peeked);
+        let Store::Whole(collection) = &self.store else {
+            return Learnt::Nothing;
+        };
+        match self.memory.known(0..size_of(collection)) {
+            Some(store) if learnt => judged(collection, &store),
+            _ => Learnt::Nothing,
+        }
+    }
+
+    /// Where a peek was made, and the bytes that it was answered with.
+    fn peeked(&self, line: &[u8], answer: &[u8]) -> Option<(usize, Vec<u8>)> {
+        let [b"peek", at, n] = words(line)[..] else {
+            return None;
+        };
+        let range = self.memory.inside(number(at)?, number(n)?)?;
+        let peeked = bytes(answer.strip_prefix(b"bytes ")?)?;
+        (peeked.len() == range.len()).then_some((range.start, peeked))
+    }
+
+    /// Whether the store is known to be whole, or known not to be.
+    pub fn is_whole(&self) -> Option<bool> {
+        match self.store {
+            Store::Whole(_) => Some(true),
+            Store::NotWhole => Some(false),
+            Store::Unmodelled => None,
+        }
+    }
+
     // Calls on the collection
 
     fn open(&mut self, numbers: Numbers, names: &[u8], first: &[u64], second: &[u64]) -> Vec<u8> {
-        match open(numbers, names, first, second, self.lent.len() as u64) {
+        match open(numbers, names, first, second, self.memory.size() as u64) {
             Err(refusal) => refused(refusal),
             Ok(opening) => {
-                self.store_size = numbers.size().expect("numbers in range") as usize;
-                self.lent[..self.store_size].fill(None);
-                self.store = Store::Whole(Collection::new(opening));
+                let collection = Collection::new(opening);
+                self.memory.forget(0..size_of(&collection));
+                self.store = Store::Whole(collection);
                 b"done".to_vec()
             }
         }
@@ -137,11 +162,12 @@ impl Program {
         let answer = match &mut self.store {
             Store::NotWhole => "refused 0 1".to_string(),
             Store::Unmodelled => "unmodelled".to_string(),
-            Store::Whole(collection) => match collection.feed(lane, piece) {
-                Fed::More { taken } => format!("more {taken}"),
-                Fed::Accepted { taken, tree } => format!("accepted {taken} {tree}"),
-                Fed::Refused { taken, refusal } => format!("refused {taken} {refusal}"),
-            },
+            Store::Whole(collection) => {
+                let fed = collection.feed(lane, piece);
+                let accepted = matches!(fed, Fed::Accepted { .. });
+                self.memory.forget(written_by(collection, lane, accepted));
+                fed.line()
+            }
         };
         answer.into_bytes()
     }
@@ -152,66 +178,50 @@ impl Program {
         Some(match &mut self.store {
             Store::NotWhole => refused(1),
             Store::Unmodelled => b"unmodelled".to_vec(),
-            Store::Whole(collection) => call.ask(collection, self.room).unwrap_or_else(refused),
+            Store::Whole(collection) => {
+                let before = collection.number_of_trees();
+                let answer = call.ask(collection, self.room);
+                if let Some(lane) = call.writes_lane(answer.is_ok()) {
+                    let accepted = collection.number_of_trees() > before;
+                    self.memory.forget(written_by(collection, lane, accepted));
+                }
+                answer.unwrap_or_else(refused)
+            }
         })
     }
 }
 
-enum Question {
-    Close(u64),
-    Batch(u64, Vec<u8>),
-    Trees,
-    Count,
-    Splits,
-    Split(u64),
-    Tree(u64),
-    One(u64, u64),
-    Two(u64, u64),
-    Matrix,
-    Strict,
-    Majority,
-    Write(u64),
-    Collisions,
+/// What a peek of all bytes of a store tells.
+pub enum Learnt {
+    Nothing,
+    Agrees,
+    NotWhole,
+    HoldsOther,
 }
 
-impl Question {
-    fn of(words: &[&[u8]]) -> Option<Question> {
-        Some(match words {
-            [b"close", lane] => Question::Close(number(lane)?),
-            [b"batch", lane, piece] => Question::Batch(number(lane)?, bytes(piece)?),
-            [b"trees"] => Question::Trees,
-            [b"count"] => Question::Count,
-            [b"splits"] => Question::Splits,
-            [b"split", s] => Question::Split(number(s)?),
-            [b"tree", t] => Question::Tree(number(t)?),
-            [b"one", a, b] => Question::One(number(a)?, number(b)?),
-            [b"two", a, b] => Question::Two(number(a)?, number(b)?),
-            [b"matrix"] => Question::Matrix,
-            [b"strict"] => Question::Strict,
-            [b"majority"] => Question::Majority,
-            [b"write", t] => Question::Write(number(t)?),
-            [b"collisions"] => Question::Collisions,
-            _ => return None,
-        })
+fn judged(collection: &Collection, store: &[u8]) -> Learnt {
+    match held_in(store) {
+        None => Learnt::NotWhole,
+        Some(held) if held == *collection => Learnt::Agrees,
+        Some(_) => Learnt::HoldsOther,
     }
+}
 
-    fn ask(&self, collection: &mut Collection, room: usize) -> Result<Vec<u8>, u32> {
-        Ok(match self {
-            Question::Close(lane) => collection.close(*lane).map(|()| b"done".to_vec())?,
-            Question::Batch(lane, piece) => batch_line(&collection.batch(*lane, piece, room)?),
-            Question::Trees => number_line(collection.number_of_trees() as u64),
-            Question::Count => number_line(collection.counts().len() as u64),
-            Question::Splits => splits_line(&collection.splits(room)?),
-            Question::Split(s) => split_line(collection.split(*s)?),
-            Question::Tree(t) => listed("tree", &collection.tree(*t, room)?),
-            Question::One(a, b) => number_line(collection.one_sided(*a, *b)?),
-            Question::Two(a, b) => number_line(collection.doubled(*a, *b)?),
-            Question::Matrix => matrix_line(collection.number_of_trees(), &collection.matrix(room)?),
-            Question::Strict => text_line(&collection.strict_text(room)?),
-            Question::Majority => text_line(&collection.majority_text(room)?),
-            Question::Write(t) => text_line(&collection.tree_text(*t, room)?),
-            Question::Collisions => number_line(collection.collisions()),
-        })
+fn words(line: &[u8]) -> Vec<&[u8]> {
+    line.split(|b| *b == b' ').collect()
+}
+
+fn size_of(collection: &Collection) -> usize {
+    collection.opening().numbers.size().expect("numbers in range") as usize
+}
+
+/// The bytes that a feeding, a batch or a closing may write: the store for an accepted tree, else its lane alone.
+fn written_by(collection: &Collection, lane: u64, accepted: bool) -> Range<usize> {
+    let numbers = &collection.opening().numbers;
+    match accepted {
+        true => 0..size_of(collection),
+        false if lane < numbers.lanes => numbers.lane(lane as usize),
+        false => 0..0,
     }
 }
 
@@ -228,60 +238,10 @@ fn five(words: &[&[u8]]) -> Option<Numbers> {
     })
 }
 
-// Answers
-
 fn size(numbers: &Numbers) -> Vec<u8> {
     numbers.size().map_or_else(refused, |size| format!("bytes {size}").into_bytes())
 }
 
 fn agreement(a: u64, b: u64) -> Vec<u8> {
     format!("agree {}", u8::from(agree(&taxa_of(a), &taxa_of(b)))).into_bytes()
-}
-
-fn refused(refusal: u32) -> Vec<u8> {
-    format!("refused {refusal}").into_bytes()
-}
-
-fn number_line(n: u64) -> Vec<u8> {
-    format!("number {n}").into_bytes()
-}
-
-fn split_line((mask, count): (u64, u64)) -> Vec<u8> {
-    format!("split {mask} {count}").into_bytes()
-}
-
-fn splits_line(splits: &[(u64, u64)]) -> Vec<u8> {
-    let words: Vec<String> = splits.iter().map(|(mask, count)| format!("{mask}:{count}")).collect();
-    listed("splits", &words)
-}
-
-fn matrix_line(trees: usize, distances: &[u64]) -> Vec<u8> {
-    listed(&format!("matrix {trees}:"), distances)
-}
-
-fn batch_line(batch: &Batch) -> Vec<u8> {
-    let mut words: Vec<String> = batch.verdicts.iter().map(verdict_word).collect();
-    words.push(format!("taken {}", batch.taken));
-    listed("batch", &words)
-}
-
-fn verdict_word(verdict: &Result<usize, u32>) -> String {
-    match verdict {
-        Ok(tree) => tree.to_string(),
-        Err(refusal) => format!("-{refusal}"),
-    }
-}
-
-fn text_line(text: &[u8]) -> Vec<u8> {
-    [b"text ", text].concat()
-}
-
-/// A word, and each element after one space.
-fn listed<T: ToString>(word: &str, elements: &[T]) -> Vec<u8> {
-    let mut out = word.to_string();
-    for element in elements {
-        out.push(' ');
-        out.push_str(&element.to_string());
-    }
-    out.into_bytes()
 }

@@ -7,13 +7,17 @@ use crate::text::is_blank;
 use crate::verdict::{judge, Masks, MOST_BYTES};
 use std::collections::BTreeMap;
 
+#[derive(PartialEq)]
 pub struct Collection {
     opening: Opening,
     trees: Vec<Masks>,
+    /// The recorded splits in rising order of mask, each with the number of trees that have it.
+    counts: Counts,
     lanes: Vec<Lane>,
 }
 
-enum Lane {
+#[derive(PartialEq)]
+pub enum Lane {
     Holding(Vec<u8>),
     RunOver,
 }
@@ -49,7 +53,13 @@ impl Lane {
 impl Collection {
     pub fn new(opening: Opening) -> Collection {
         let lanes = (0..opening.numbers.lanes).map(|_| Lane::empty()).collect();
-        Collection { opening, trees: Vec::new(), lanes }
+        Collection::holding(opening, Vec::new(), lanes)
+    }
+
+    pub fn holding(opening: Opening, trees: Vec<Masks>, lanes: Vec<Lane>) -> Collection {
+        let mut collection = Collection { opening, trees: Vec::new(), counts: Counts::new(), lanes };
+        trees.into_iter().for_each(|tree| collection.record(tree));
+        collection
     }
 
     // Feeding
@@ -124,43 +134,53 @@ impl Collection {
 
     /// 11, then 12, before anything is recorded.
     fn accept(&mut self, splits: Masks) -> Result<usize, u32> {
-        let recorded: Masks = self.counts().into_keys().collect();
         if self.trees.len() as u64 == self.opening.numbers.tree_room {
             return Err(11);
         }
-        if recorded.union(&splits).count() as u64 > self.opening.numbers.split_room {
+        let new = splits.iter().filter(|mask| !self.counts.contains_key(mask)).count();
+        if (self.counts.len() + new) as u64 > self.opening.numbers.split_room {
             return Err(12);
         }
-        self.trees.push(splits);
+        self.record(splits);
         Ok(self.trees.len() - 1)
+    }
+
+    fn record(&mut self, splits: Masks) {
+        for mask in &splits {
+            *self.counts.entry(*mask).or_insert(0) += 1;
+        }
+        self.trees.push(splits);
     }
 
     // Questions
 
-    pub fn names(&self) -> &[Vec<u8>] {
-        &self.opening.names
+    pub fn opening(&self) -> &Opening {
+        &self.opening
+    }
+
+    pub fn trees(&self) -> &[Masks] {
+        &self.trees
+    }
+
+    pub fn lanes(&self) -> &[Lane] {
+        &self.lanes
     }
 
     pub fn number_of_trees(&self) -> usize {
         self.trees.len()
     }
 
-    /// The recorded splits in rising order of mask, each with the number of trees that have it.
-    pub fn counts(&self) -> Counts {
-        let mut counts = Counts::new();
-        for mask in self.trees.iter().flatten() {
-            *counts.entry(*mask).or_insert(0) += 1;
-        }
-        counts
+    pub fn counts(&self) -> &Counts {
+        &self.counts
     }
 
     pub fn splits(&self, room: usize) -> Result<Vec<(u64, u64)>, u32> {
-        fitting(self.counts().into_iter().collect(), room)
+        fitting(self.counts.iter().map(|(mask, count)| (*mask, *count)).collect(), room)
     }
 
     pub fn split(&self, number: u64) -> Result<(u64, u64), u32> {
         let at = usize::try_from(number).map_err(|_| 13u32)?;
-        self.counts().into_iter().nth(at).ok_or(13)
+        self.counts.iter().nth(at).map(|(mask, count)| (*mask, *count)).ok_or(13)
     }
 
     pub fn tree(&self, number: u64, room: usize) -> Result<Vec<u64>, u32> {
@@ -188,20 +208,20 @@ impl Collection {
     /// "The count of unordered pairs of different recorded splits equal in place and identifier."
     pub fn collisions(&self) -> u64 {
         let mut alike: BTreeMap<(u64, u64), u64> = BTreeMap::new();
-        for mask in self.counts().into_keys() {
-            let place = place(mask, &self.opening.first, self.opening.numbers.places);
-            let identifier = identifier(mask, &self.opening.second);
+        for mask in self.counts.keys() {
+            let place = place(*mask, &self.opening.first, self.opening.numbers.places);
+            let identifier = identifier(*mask, &self.opening.second);
             *alike.entry((place, identifier)).or_insert(0) += 1;
         }
         alike.values().map(|k| k * (k - 1) / 2).sum()
     }
 
     pub fn strict_splits(&self) -> Masks {
-        strict(&self.counts(), self.trees.len() as u64)
+        strict(&self.counts, self.trees.len() as u64)
     }
 
     pub fn majority_splits(&self) -> Masks {
-        majority(&self.counts(), self.trees.len() as u64)
+        majority(&self.counts, self.trees.len() as u64)
     }
 
     pub fn strict_text(&self, room: usize) -> Result<Vec<u8>, u32> {

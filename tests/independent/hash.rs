@@ -12,6 +12,7 @@ pub fn identifier(mask: u64, second: &[u64]) -> u64 {
     (sum_over(mask, second) % 2u128.pow(64)) as u64
 }
 
+/// A bit that is no taxon's adds nothing.
 fn sum_over(mask: u64, constants: &[u64]) -> u128 {
-    taxa_of(mask).into_iter().map(|i| u128::from(constants[i as usize])).sum()
+    taxa_of(mask).into_iter().filter_map(|i| constants.get(i as usize)).map(|c| u128::from(*c)).sum()
 }

@@ -2,24 +2,41 @@
 //! and the settled points, and shares nothing with the code that it is compared with.
 
 mod calls;
+mod changes;
+mod check;
 mod collection;
+mod compare;
 mod consensus;
 mod damage;
+mod damaging;
 mod edges;
 mod generator;
 mod grow;
 mod hash;
+mod layout;
+mod limits;
+mod maker;
+mod memory;
+mod mixed;
+mod oddities;
 mod opening;
+mod parts;
+mod question;
 mod random;
 mod reading;
+mod refusals;
 mod script;
 mod selfcheck;
 mod sets;
+mod storecheck;
+mod stores;
 mod summary;
 mod text;
 mod verdict;
+mod whole;
 mod words;
 
+use compare::Run;
 use std::io::{Read, Write};
 
 fn main() {
@@ -30,24 +47,59 @@ fn main() {
         ["read"] => print_lines(&reading::read(&input())),
         ["treesum"] => print(&summary::treesum(&input())),
         ["treecalls"] => print(&calls::treecalls(&input())),
-        ["texts", seed, count] => generated(generator::texts, seed, count),
-        ["sheet", seed, count] => generated(generator::sheet, seed, count),
-        ["calls", seed, count] => generated(script::calls, seed, count),
         ["selfcheck"] => finish(selfcheck::selfcheck()),
+        ["check", script, answers] => finish(check::check(&file(script), &file(answers))),
+        ["same-verdicts", a, b, c, d] => finish(beside(compare::same_verdicts, [a, b, c, d])),
+        ["same-answers", a, b, c, d] => finish(beside(compare::same_answers, [a, b, c, d])),
+        ["damaged", seed, count, script, answers] => damaged(seed, count, &file(script), &file(answers)),
+        [maker, seed, count] => generated(maker, seed, count),
         _ => usage(),
     }
 }
 
+type Make = fn(u64, usize) -> Vec<u8>;
+
+/// The generators by their words.
+fn maker(word: &str) -> Option<Make> {
+    Some(match word {
+        "texts" => generator::texts,
+        "sheet" => generator::sheet,
+        "calls" => script::calls,
+        "refusals" => refusals::refusals,
+        "stores" => stores::stores,
+        "made" => stores::made,
+        "limits" => limits::limits,
+        "largest" => limits::largest,
+        "oddities" => oddities::oddities,
+        _ => return mixed::way(word),
+    })
+}
+
 /// Prints what a generator makes, and the seed beside it.
-fn generated(make: fn(u64, usize) -> Vec<u8>, seed: &str, count: &str) {
-    let (Ok(seed), Ok(count)) = (seed.parse(), count.parse()) else {
+fn generated(word: &str, seed: &str, count: &str) {
+    let (Some(make), Ok(seed), Ok(count)) = (maker(word), seed.parse(), count.parse()) else {
         return usage();
     };
     eprintln!("seed {seed}");
     print(&make(seed, count));
 }
 
-/// A self-check that fails is an exit status of 1.
+fn damaged(seed: &str, count: &str, script: &[u8], answers: &[u8]) {
+    let (Ok(seed), Ok(count)) = (seed.parse(), count.parse()) else {
+        return usage();
+    };
+    eprintln!("seed {seed}");
+    print(&damaging::damaged(seed, count, script, answers));
+}
+
+/// Two scripts, each with its answers behind it.
+fn beside(same: fn(&Run, &Run) -> bool, names: [&str; 4]) -> bool {
+    let files = names.map(file);
+    let [a, b, c, d] = &files;
+    same(&Run { script: a, answers: b }, &Run { script: c, answers: d })
+}
+
+/// What fails is an exit status of 1.
 fn finish(all_ok: bool) {
     if !all_ok {
         std::process::exit(1);
@@ -55,10 +107,15 @@ fn finish(all_ok: bool) {
 }
 
 fn usage() {
-    eprintln!(
-        "edges | read | treesum | treecalls | texts SEED COUNT | sheet SEED COUNT | calls SEED COUNT | selfcheck"
-    );
+    eprintln!("edges | read | treesum | treecalls | selfcheck | check SCRIPT ANSWERS");
+    eprintln!("same-verdicts SCRIPT ANSWERS SCRIPT ANSWERS | same-answers SCRIPT ANSWERS SCRIPT ANSWERS");
+    eprintln!("GENERATOR SEED COUNT | damaged SEED COUNT SCRIPT ANSWERS, a generator being");
+    eprintln!("texts | sheet | calls | mixed | whole | batched | zeros | refusals | stores | made | limits | largest | oddities");
     std::process::exit(2);
+}
+
+fn file(name: &str) -> Vec<u8> {
+    std::fs::read(name).unwrap_or_else(|fault| panic!("{name}: {fault}"))
 }
 
 fn input() -> Vec<u8> {

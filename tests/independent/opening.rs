@@ -3,7 +3,7 @@
 use crate::text::is_label_byte;
 use std::collections::BTreeSet;
 
-#[derive(Clone, Copy)]
+#[derive(Clone, Copy, PartialEq)]
 pub struct Numbers {
     pub taxa: u64,
     pub lanes: u64,
@@ -12,6 +12,7 @@ pub struct Numbers {
     pub places: u64,
 }
 
+#[derive(PartialEq)]
 pub struct Opening {
     pub numbers: Numbers,
     pub names: Vec<Vec<u8>>,
@@ -52,15 +53,20 @@ pub fn open(numbers: Numbers, name_list: &[u8], first: &[u64], second: &[u64], l
 }
 
 /// Both lists are n long, and "the first list's constants are below m".
-fn constants_fit(numbers: &Numbers, first: &[u64], second: &[u64]) -> bool {
+pub fn constants_fit(numbers: &Numbers, first: &[u64], second: &[u64]) -> bool {
     let long = |list: &[u64]| list.len() as u64 == numbers.taxa;
     long(first) && long(second) && first.iter().all(|c| *c < numbers.places)
 }
 
-/// "n different names of 1 to 32 label bytes", "one space between, none at the ends".
+/// "One space between, none at the ends."
 fn names_of(list: &[u8], taxa: u64) -> Option<Vec<Vec<u8>>> {
     let names: Vec<Vec<u8>> = list.split(|b| *b == b' ').map(<[u8]>::to_vec).collect();
+    names_fit(&names, taxa).then_some(names)
+}
+
+/// "n different names of 1 to 32 label bytes."
+pub fn names_fit(names: &[Vec<u8>], taxa: u64) -> bool {
     let different: BTreeSet<&Vec<u8>> = names.iter().collect();
     let fit = |name: &Vec<u8>| (1..=32).contains(&name.len()) && name.iter().all(|b| is_label_byte(*b));
-    (names.len() as u64 == taxa && different.len() == names.len() && names.iter().all(fit)).then_some(names)
+    names.len() as u64 == taxa && different.len() == names.len() && names.iter().all(fit)
 }

@@ -4,6 +4,7 @@ use crate::generator::{
     damage_names, first_constants, name_list, one_text, second_constants, some_names, some_places, some_shapes,
 };
 use crate::grow::{Name, Shape};
+use crate::maker::{five_words, joined};
 use crate::opening::Numbers;
 use crate::random::Random;
 use crate::words::{comma_list, hex};
@@ -15,7 +16,7 @@ pub fn calls(seed: u64, count: usize) -> Vec<u8> {
     while lines.len() < count {
         lines.push(script.line());
     }
-    lines.iter().flat_map(|line| format!("{line}\n").into_bytes()).collect()
+    joined(&lines)
 }
 
 struct Script {
@@ -23,6 +24,7 @@ struct Script {
     names: Vec<Name>,
     pool: Vec<Shape>,
     numbers: Numbers,
+    lent: u64,
     /// What is still to be fed to each lane.
     waiting: Vec<Vec<u8>>,
     /// Lines that come next, the last one first.
@@ -39,14 +41,14 @@ impl Script {
         let pool = some_shapes(&mut random, &names);
         let numbers = some_numbers(&mut random, names.len());
         let waiting = vec![Vec::new(); 9];
-        Script { random, names, pool, numbers, waiting, planned: Vec::new() }
+        Script { random, names, pool, numbers, lent: 0, waiting, planned: Vec::new() }
     }
 
     /// Memory of about the right size, and the opening.
     fn opening(&mut self) -> Vec<String> {
         let size = self.numbers.size().expect("numbers in range");
-        let lent = size + *self.random.pick(&[0, 0, 1, 100]);
-        vec![format!("size {}", five_words(&self.numbers)), format!("lend {lent}"), self.open_line()]
+        self.lent = size + *self.random.pick(&[0, 0, 1, 100]);
+        vec![format!("size {}", five_words(&self.numbers)), format!("lend {}", self.lent), self.open_line()]
     }
 
     fn open_line(&mut self) -> String {
@@ -199,16 +201,38 @@ impl Script {
         self.random.pick(&lines).to_string()
     }
 
-    /// Memory behind the store, the memory lent again, or the store opened again.
+    /// All lent memory, that behind the store, the store damaged, the memory lent again, or the store opened again.
     fn memory_line(&mut self) -> String {
         let size = self.numbers.size().expect("numbers in range");
-        match self.random.below(6) {
+        match self.random.below(9) {
             0 => format!("peek {size} 1"),
             1 => format!("poke {size} 07"),
             2 => format!("peek {size} 0"),
             3 => self.lend_again(size),
+            4 | 5 => self.peek_all(),
+            6 => self.damage_store(size as usize),
             _ => self.open_line(),
         }
+    }
+
+    fn peek_all(&self) -> String {
+        format!("peek 0 {}", self.lent)
+    }
+
+    /// All bytes peeked, one of them changed, some calls, and the store opened again.
+    fn damage_store(&mut self, size: usize) -> String {
+        let at = self.random.below(size);
+        let most = *self.random.pick(&[16, 4096, size]);
+        let byte = self.random.below(256);
+        let open = self.open_line();
+        self.planned.push(open);
+        self.planned.push(self.peek_all());
+        for _ in 0..4 {
+            let call = if self.random.one_in(4) { self.feed_line() } else { self.question_line() };
+            self.planned.push(call);
+        }
+        self.planned.push(format!("poke {} {byte:02x}", at % most));
+        self.peek_all()
     }
 
     /// Too little memory first; then enough, with calls before the opening.
@@ -217,7 +241,8 @@ impl Script {
         let open = self.open_line();
         self.planned.push(open);
         self.planned.extend(before);
-        self.planned.push(format!("lend {}", size + 5));
+        self.lent = size + 5;
+        self.planned.push(format!("lend {}", self.lent));
         let open = self.open_line();
         self.planned.push(open);
         format!("lend {}", size - 1)
@@ -243,9 +268,4 @@ fn changed_numbers(random: &mut Random, numbers: Numbers) -> Numbers {
         _ => changed.places = value,
     }
     changed
-}
-
-fn five_words(numbers: &Numbers) -> String {
-    let Numbers { taxa, lanes, tree_room, split_room, places } = numbers;
-    format!("{taxa} {lanes} {tree_room} {split_room} {places}")
 }

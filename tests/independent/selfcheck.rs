@@ -7,6 +7,7 @@ use crate::grow;
 use crate::opening::{open, Numbers};
 use crate::random::Random;
 use crate::sets::{agree, taxa_of};
+use crate::storecheck::store_checks;
 use crate::summary::treesum;
 use crate::text::is_length;
 use crate::verdict::{judge, Masks};
@@ -19,7 +20,7 @@ const S5: &str = "((A,B),C,D,E)";
 
 /// Prints a line for each check, and answers whether all are right.
 pub fn selfcheck() -> bool {
-    let checks = [samples(), sheets(), lengths(), forms(), limits(), properties(), calls()].concat();
+    let checks = [samples(), sheets(), lengths(), forms(), limits(), properties(), calls(), store_checks()].concat();
     for (name, right) in &checks {
         println!("{} {name}", if *right { "ok" } else { "not ok" });
     }
@@ -237,7 +238,7 @@ const CALLS: [(&str, &str); 54] = [
     ("poke 12645 00ff", "bad line"),
     ("peek 12646 0", "bytes -"),
     ("peek 12643 1", "unmodelled"),
-    ("poke 0 00", "unmodelled"),
+    ("poke 0 00", "done"),
     ("trees", "unmodelled"),
     ("tree  0", "bad line"),
     ("tree 18446744073709551616", "bad line"),

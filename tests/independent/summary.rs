@@ -55,7 +55,7 @@ fn sheet(collection: &Collection, refused: u64) -> Vec<u8> {
     let trees = collection.number_of_trees();
     let counts = collection.counts();
     let mut lines: Vec<Vec<u8>> = Vec::new();
-    let taxa = collection.names().len();
+    let taxa = collection.opening().names.len();
     lines.push(format!("taxa {taxa} trees {trees} refused {refused} splits {}", counts.len()).into_bytes());
     lines.extend(counts.iter().map(|(mask, count)| format!("{mask} {count}").into_bytes()));
     let matrix = collection.matrix(usize::MAX).unwrap_or_default();

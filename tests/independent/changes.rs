@@ -1,0 +1,324 @@
+//! Changes of a store's fields: such that leave it whole, mostly, and faults that break one rule of "Whole means".
+
+use crate::layout::RUN_OVER;
+use crate::parts::Parts;
+use crate::random::Random;
+use crate::sets::{agree, is_proper, taxa_of};
+
+pub type Change = fn(&mut Random, &mut Parts);
+
+/// Another collection, with all that hangs on it.
+pub const CHANGES: [Change; 9] = [
+    other_names,
+    other_constants,
+    trees_exchanged,
+    tree_repeated,
+    tree_emptied,
+    split_left_out,
+    lane_with_any_bytes,
+    lane_run_over,
+    lane_with_text,
+];
+
+/// Nearly always no whole store, for one reason.
+pub const FAULTS: [Change; 27] = [
+    name_repeated,
+    name_empty,
+    name_with_any_byte,
+    first_constant_too_large,
+    mask_of_one_taxon,
+    mask_of_all_but_one,
+    mask_with_taxon_0,
+    mask_past_the_taxa,
+    mask_of_nothing,
+    mask_repeated,
+    mask_by_chance,
+    splits_disagree,
+    list_falls,
+    list_repeats,
+    list_has_no_row,
+    split_in_no_tree,
+    count_off,
+    identifier_off,
+    link_off,
+    start_off,
+    chains_rise,
+    split_not_chained,
+    rows_exchanged,
+    row_repeated,
+    no_such_row,
+    lane_too_long,
+    split_counted_and_not_listed,
+];
+
+fn some_index(random: &mut Random, long: usize) -> Option<usize> {
+    (long > 0).then(|| random.below(long))
+}
+
+/// One more or one less.
+fn off(random: &mut Random, value: &mut u64) {
+    *value = if random.one_in(2) { value.wrapping_add(1) } else { value.wrapping_sub(1) };
+}
+
+// Changes
+
+fn other_names(_: &mut Random, parts: &mut Parts) {
+    parts.names.rotate_left(1);
+}
+
+fn other_constants(random: &mut Random, parts: &mut Parts) {
+    let places = parts.numbers.places;
+    parts.first.iter_mut().for_each(|c| *c = random.next() % places);
+    parts.second.iter_mut().for_each(|c| *c = random.next());
+    parts.derive();
+}
+
+fn trees_exchanged(_: &mut Random, parts: &mut Parts) {
+    parts.lists.reverse();
+}
+
+fn tree_repeated(random: &mut Random, parts: &mut Parts) {
+    if let Some(from) = some_index(random, parts.lists.len()) {
+        let to = random.below(parts.lists.len());
+        parts.lists[to] = parts.lists[from].clone();
+        parts.derive();
+    }
+}
+
+fn tree_emptied(random: &mut Random, parts: &mut Parts) {
+    if let Some(tree) = some_index(random, parts.lists.len()) {
+        parts.lists[tree].clear();
+        parts.derive();
+    }
+}
+
+fn split_left_out(random: &mut Random, parts: &mut Parts) {
+    if let Some(tree) = some_index(random, parts.lists.len()) {
+        parts.lists[tree].pop();
+        parts.derive();
+    }
+}
+
+fn lane_with_any_bytes(random: &mut Random, parts: &mut Parts) {
+    let long = random.below(40);
+    let bytes = (0..long).map(|_| random.below(256) as u8).collect();
+    set_lane(random, parts, long as u64, bytes);
+}
+
+fn lane_run_over(random: &mut Random, parts: &mut Parts) {
+    set_lane(random, parts, RUN_OVER, Vec::new());
+}
+
+/// A text up to its last bracket, for the next feeding to end.
+fn lane_with_text(_: &mut Random, parts: &mut Parts) {
+    let text = [&b"("[..], &parts.names.join(&b','), b")"].concat();
+    parts.lanes[0] = (text.len() as u64, text);
+}
+
+fn set_lane(random: &mut Random, parts: &mut Parts, long: u64, bytes: Vec<u8>) {
+    let lane = random.below(parts.lanes.len());
+    parts.lanes[lane] = (long, bytes);
+}
+
+// Faults of the opening's numbers and names
+
+fn name_repeated(random: &mut Random, parts: &mut Parts) {
+    let at = random.between(1, parts.names.len() - 1);
+    parts.names[at] = parts.names[random.below(at)].clone();
+}
+
+fn name_empty(random: &mut Random, parts: &mut Parts) {
+    let at = random.below(parts.names.len());
+    parts.names[at].clear();
+}
+
+fn name_with_any_byte(random: &mut Random, parts: &mut Parts) {
+    let at = random.below(parts.names.len());
+    let byte = *random.pick(&[0, 9, 10, 32, 39, 40, 41, 44, 58, 59, 91, 93, 127, 128, 255]);
+    *parts.names[at].last_mut().expect("a name has a byte") = byte;
+}
+
+fn first_constant_too_large(random: &mut Random, parts: &mut Parts) {
+    let at = random.below(parts.first.len());
+    // The sums stay what they are modulo the places.
+    parts.first[at] += parts.numbers.places;
+}
+
+// Faults of masks, with all else as it must be for them
+
+fn with_mask(random: &mut Random, parts: &mut Parts, mask: u64) {
+    if let Some(row) = some_index(random, parts.masks.len()) {
+        parts.masks[row] = mask;
+        let masks = parts.masks.clone();
+        parts.lists.iter_mut().for_each(|list| list.sort_by_key(|row| masks[*row as usize]));
+        parts.derive();
+    }
+}
+
+fn all_taxa(parts: &Parts) -> u64 {
+    u64::MAX >> (64 - parts.numbers.taxa)
+}
+
+fn mask_of_one_taxon(random: &mut Random, parts: &mut Parts) {
+    let taxon = random.between(1, parts.names.len() - 1);
+    with_mask(random, parts, 1 << taxon);
+}
+
+fn mask_of_all_but_one(random: &mut Random, parts: &mut Parts) {
+    let mask = all_taxa(parts) - 1;
+    with_mask(random, parts, mask);
+}
+
+fn mask_with_taxon_0(random: &mut Random, parts: &mut Parts) {
+    with_mask(random, parts, 3);
+}
+
+fn mask_past_the_taxa(random: &mut Random, parts: &mut Parts) {
+    if parts.numbers.taxa < 64 {
+        let mask = 2 + (1 << parts.numbers.taxa);
+        with_mask(random, parts, mask);
+    }
+}
+
+fn mask_of_nothing(random: &mut Random, parts: &mut Parts) {
+    with_mask(random, parts, 0);
+}
+
+fn mask_repeated(random: &mut Random, parts: &mut Parts) {
+    if let Some(from) = some_index(random, parts.masks.len()) {
+        let mask = parts.masks[from];
+        with_mask(random, parts, mask);
+    }
+}
+
+/// It may be a split that fits by luck.
+fn mask_by_chance(random: &mut Random, parts: &mut Parts) {
+    let mask = random.next() & all_taxa(parts) & !1;
+    with_mask(random, parts, mask);
+}
+
+// Faults of lists
+
+/// A tree lists another split that it disagrees with.
+fn splits_disagree(random: &mut Random, parts: &mut Parts) {
+    let Some(tree) = some_index(random, parts.lists.len()) else {
+        return;
+    };
+    let masks = parts.masks.clone();
+    let apart = |a: u64, b: u64| !agree(&taxa_of(masks[a as usize]), &taxa_of(masks[b as usize]));
+    let list = &mut parts.lists[tree];
+    let other = (0..masks.len() as u64).find(|row| list.iter().any(|listed| apart(*row, *listed)));
+    if let Some(row) = other {
+        list.push(row);
+        list.sort_by_key(|row| masks[*row as usize]);
+        parts.derive();
+    }
+}
+
+fn list_falls(random: &mut Random, parts: &mut Parts) {
+    if let Some(tree) = some_index(random, parts.lists.len()) {
+        parts.lists[tree].reverse();
+    }
+}
+
+fn list_repeats(random: &mut Random, parts: &mut Parts) {
+    if let Some(tree) = some_index(random, parts.lists.len()) {
+        let last = parts.lists[tree].last().copied();
+        parts.lists[tree].extend(last);
+        parts.derive();
+    }
+}
+
+fn list_has_no_row(random: &mut Random, parts: &mut Parts) {
+    let none = *random.pick(&[parts.masks.len() as u64, parts.numbers.split_room, 65535]);
+    if let Some(tree) = some_index(random, parts.lists.len()) {
+        parts.lists[tree].push(none);
+    }
+}
+
+/// A recorded split of count 0, if there is room and one is free.
+fn split_in_no_tree(_: &mut Random, parts: &mut Parts) {
+    let n = parts.numbers.taxa as u32;
+    let is_free = |mask: &u64| is_proper(&taxa_of(*mask), n) && !parts.masks.contains(mask);
+    let free = (6..200).find(is_free).filter(|_| (parts.masks.len() as u64) < parts.numbers.split_room);
+    if let Some(mask) = free {
+        parts.masks.push(mask);
+        parts.derive();
+    }
+}
+
+fn split_counted_and_not_listed(random: &mut Random, parts: &mut Parts) {
+    if let Some(tree) = some_index(random, parts.lists.len()) {
+        parts.lists[tree].pop();
+    }
+}
+
+// Faults of what hangs on masks and lists
+
+fn count_off(random: &mut Random, parts: &mut Parts) {
+    some_index(random, parts.counts.len()).into_iter().for_each(|row| off(random, &mut parts.counts[row]));
+}
+
+fn identifier_off(random: &mut Random, parts: &mut Parts) {
+    some_index(random, parts.identifiers.len()).into_iter().for_each(|row| off(random, &mut parts.identifiers[row]));
+}
+
+fn link_off(random: &mut Random, parts: &mut Parts) {
+    if let Some(row) = some_index(random, parts.links.len()) {
+        parts.links[row] = random.between(0, parts.links.len() + 1) as u64;
+    }
+}
+
+fn start_off(random: &mut Random, parts: &mut Parts) {
+    if let Some(place) = some_index(random, parts.starts.len()) {
+        parts.starts[place] = random.between(0, parts.masks.len() + 1) as u64;
+    }
+}
+
+/// Every chain from its lowest row up: each split is met once, but not in the order of STORE.md.
+fn chains_rise(_: &mut Random, parts: &mut Parts) {
+    let (starts, links) = (parts.starts.clone(), parts.links.clone());
+    for (place, start) in starts.into_iter().enumerate() {
+        let (mut row, mut above) = (start, 0);
+        while row > 0 {
+            parts.links[row as usize - 1] = above;
+            above = row;
+            row = links[row as usize - 1];
+        }
+        parts.starts[place] = above;
+    }
+}
+
+/// The first row of some chain is passed over.
+fn split_not_chained(random: &mut Random, parts: &mut Parts) {
+    let used: Vec<usize> = (0..parts.starts.len()).filter(|place| parts.starts[*place] > 0).collect();
+    if let Some(at) = some_index(random, used.len()) {
+        let start = &mut parts.starts[used[at]];
+        *start = parts.links[*start as usize - 1];
+    }
+}
+
+fn rows_exchanged(random: &mut Random, parts: &mut Parts) {
+    if parts.rows.len() > 1 {
+        let at = random.below(parts.rows.len() - 1);
+        parts.rows.swap(at, at + 1);
+    }
+}
+
+fn row_repeated(random: &mut Random, parts: &mut Parts) {
+    if parts.rows.len() > 1 {
+        let at = random.below(parts.rows.len() - 1);
+        parts.rows[at] = parts.rows[at + 1];
+    }
+}
+
+fn no_such_row(random: &mut Random, parts: &mut Parts) {
+    if let Some(at) = some_index(random, parts.rows.len()) {
+        parts.rows[at] = parts.masks.len() as u64;
+    }
+}
+
+fn lane_too_long(random: &mut Random, parts: &mut Parts) {
+    let long = *random.pick(&[RUN_OVER + 1, 8192, 32768, 65535]);
+    set_lane(random, parts, long, Vec::new());
+}

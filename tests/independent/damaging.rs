@@ -1,0 +1,197 @@
+//! Damages to the bytes of stores that our program made: one or a few fields at a time, then mended and asked again.
+
+use crate::layout::{
+    first_constant, head_number, name_bytes, name_length, second_constant, Field, HEAD_SPARE, MOST_LISTED,
+};
+use crate::maker::{every_call, joined, QUESTIONS};
+use crate::opening::Numbers;
+use crate::parts::Parts;
+use crate::random::Random;
+use crate::words::{bytes, hex, lines};
+use std::ops::Range;
+
+/// So many damages to stores that a script peeked whole.
+pub fn damaged(seed: u64, count: usize, script: &[u8], answers: &[u8]) -> Vec<u8> {
+    let mut random = Random::new(seed);
+    let stores = peeked_stores(script, answers);
+    let mut lines = Vec::new();
+    let mut left = if stores.is_empty() { 0 } else { count };
+    while left > 0 {
+        let rounds = left.min(random.between(5, 15));
+        left -= rounds;
+        let mut lent = Lent::new(random.pick(&stores).clone());
+        lines.extend([format!("lend {}", lent.bytes.len()), lent.poke_all()]);
+        (0..rounds).for_each(|_| lines.extend(lent.round(&mut random)));
+    }
+    joined(&lines)
+}
+
+/// The answers of all peeks from 0 on that reach over a store; of those without trees only a few.
+fn peeked_stores(script: &[u8], answers: &[u8]) -> Vec<Vec<u8>> {
+    let pairs = lines(script).into_iter().zip(lines(answers));
+    let peeks = pairs.filter(|(call, _)| call.starts_with(b"peek 0 "));
+    let peeked = peeks.filter_map(|(_, answer)| bytes(answer.strip_prefix(b"bytes ")?));
+    let has_trees = |bytes: &Vec<u8>| Parts::read(bytes).map(|parts| !parts.lists.is_empty());
+    let (filled, empty): (Vec<_>, Vec<_>) =
+        peeked.filter(|bytes| has_trees(bytes).is_some()).partition(|bytes| has_trees(bytes) == Some(true));
+    let few = filled.len() / 6 + 1;
+    filled.into_iter().chain(empty.into_iter().take(few)).collect()
+}
+
+/// Lent memory whose bytes are those of a store, but for damages that are mended again.
+struct Lent {
+    bytes: Vec<u8>,
+    parts: Parts,
+}
+
+impl Lent {
+    fn new(bytes: Vec<u8>) -> Lent {
+        let parts = Parts::read(&bytes).expect("the bytes of a store");
+        Lent { bytes, parts }
+    }
+
+    fn poke_all(&self) -> String {
+        format!("poke 0 {}", hex(&self.bytes))
+    }
+
+    /// One to three damages, some calls, the damages mended, and a question again.
+    fn round(&mut self, random: &mut Random) -> Vec<String> {
+        let number = *random.pick(&[1, 1, 1, 2, 3]);
+        let damages: Vec<Damage> = (0..number).flat_map(|_| self.damage(random)).collect();
+        let mut lines: Vec<String> = damages.iter().map(Damage::line).collect();
+        let writes = random.one_in(4);
+        if writes {
+            lines.extend(every_call(b"(A,B,C,D,E);"));
+        } else {
+            lines.extend((0..random.between(1, 3)).map(|_| random.pick(&QUESTIONS).to_string()));
+        }
+        if random.one_in(3) {
+            lines.push(format!("peek 0 {}", self.bytes.len()));
+        }
+        match writes {
+            true => lines.push(self.poke_all()),
+            false => lines.extend(damages.iter().map(|damage| self.mended(damage))),
+        }
+        lines.push(random.pick(&QUESTIONS).to_string());
+        lines
+    }
+
+    fn mended(&self, damage: &Damage) -> String {
+        let range = damage.at..damage.at + damage.bytes.len();
+        format!("poke {} {}", damage.at, hex(&self.bytes[range]))
+    }
+
+    /// A field with another value, two fields exchanged, or any byte.
+    fn damage(&self, random: &mut Random) -> Vec<Damage> {
+        match random.below(10) {
+            0 => vec![self.any_byte(random)],
+            1 | 2 => self.exchanged(random),
+            _ => vec![self.field_changed(random)],
+        }
+    }
+
+    fn any_byte(&self, random: &mut Random) -> Damage {
+        let at = random.below(self.bytes.len());
+        Damage { at, bytes: vec![random.below(256) as u8] }
+    }
+
+    fn exchanged(&self, random: &mut Random) -> Vec<Damage> {
+        let kind = random.below(KINDS);
+        let (a, b) = (self.field(random, kind), self.field(random, kind));
+        let moved = |to: Field, from: Field| Damage { at: to.at, bytes: self.bytes[from.range()].to_vec() };
+        vec![moved(a, b), moved(b, a)]
+    }
+
+    fn field_changed(&self, random: &mut Random) -> Damage {
+        let kind = random.below(KINDS);
+        let (field, other) = (self.field(random, kind), self.field(random, kind));
+        let old = field.get(&self.bytes);
+        let bit = 1u64 << random.below(8 * field.width);
+        let values = [
+            old.wrapping_add(1),
+            old.wrapping_add(1),
+            old.wrapping_sub(1),
+            old.wrapping_sub(1),
+            old ^ bit,
+            old ^ bit,
+            other.get(&self.bytes),
+            0,
+            random.next(),
+            u64::MAX,
+        ];
+        Damage { at: field.at, bytes: field.bytes_of(*random.pick(&values)) }
+    }
+
+    /// A field of this kind, mostly one that is in use.
+    fn field(&self, random: &mut Random, kind: usize) -> Field {
+        let numbers = &self.parts.numbers;
+        let taxon = some_of(random, self.parts.names.len(), 64);
+        let lane = random.below(numbers.lanes as usize);
+        let tree = some_of(random, self.parts.lists.len(), numbers.tree_room as usize);
+        let row = some_of(random, self.parts.masks.len(), numbers.split_room as usize);
+        match kind {
+            0 => head_number(random.below(8)),
+            1 => name_length(taxon),
+            2 => self.name_byte(random, taxon),
+            3 => first_constant(taxon),
+            4 => second_constant(taxon),
+            5 => byte_of(random, HEAD_SPARE),
+            6 => numbers.lane_length(lane),
+            7 => self.lane_byte(random, lane),
+            8 => numbers.tree_length(tree),
+            9 => self.tree_row(random, numbers, tree),
+            10 => numbers.mask(row),
+            11 => numbers.identifier(row),
+            12 => numbers.count(row),
+            13 => numbers.link(row),
+            14 => numbers.numbered(row),
+            _ => numbers.start(random.below(numbers.places as usize)),
+        }
+    }
+
+    fn name_byte(&self, random: &mut Random, taxon: usize) -> Field {
+        let long = self.parts.names.get(taxon).map_or(0, Vec::len);
+        let range = name_bytes(taxon);
+        Field { at: range.start + some_of(random, long, range.len()), width: 1 }
+    }
+
+    /// One that is held, one that is not, or one of those between the length and the bytes.
+    fn lane_byte(&self, random: &mut Random, lane: usize) -> Field {
+        let (all, range) = (self.parts.numbers.lane(lane), self.parts.numbers.lane_bytes(lane));
+        match random.below(3) {
+            0 => byte_of(random, all.start + 2..range.start),
+            _ => Field { at: range.start + some_of(random, self.parts.lanes[lane].1.len(), range.len()), width: 1 },
+        }
+    }
+
+    fn tree_row(&self, random: &mut Random, numbers: &Numbers, tree: usize) -> Field {
+        let long = self.parts.lists.get(tree).map_or(0, Vec::len);
+        numbers.tree_row(tree, some_of(random, long, MOST_LISTED as usize + 1))
+    }
+}
+
+const KINDS: usize = 16;
+
+/// Mostly below the number used, else below the most.
+fn some_of(random: &mut Random, used: usize, most: usize) -> usize {
+    if used > 0 && !random.one_in(4) {
+        random.below(used)
+    } else {
+        random.below(most)
+    }
+}
+
+fn byte_of(random: &mut Random, range: Range<usize>) -> Field {
+    Field { at: random.between(range.start, range.end - 1), width: 1 }
+}
+
+struct Damage {
+    at: usize,
+    bytes: Vec<u8>,
+}
+
+impl Damage {
+    fn line(&self) -> String {
+        format!("poke {} {}", self.at, hex(&self.bytes))
+    }
+}

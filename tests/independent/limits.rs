@@ -1,0 +1,242 @@
+//! The limits: bytes of a text, taxa, nesting, tree room and split room, batches, and long collections.
+
+use crate::consensus::written;
+use crate::grow::{ladder, names, shape, text_of, tokens, Dress, Name};
+use crate::maker::{joined, open_line, Maker};
+use crate::opening::Numbers;
+use crate::random::Random;
+use crate::verdict::{judge, Masks, MOST_BYTES};
+use crate::words::hex;
+
+const BARE: Dress = Dress { lengths: usize::MAX, labels: usize::MAX, blanks: usize::MAX };
+
+/// A script of so many rounds over all but the largest collections.
+pub fn limits(seed: u64, count: usize) -> Vec<u8> {
+    let mut random = Random::new(seed);
+    let mut out = Vec::new();
+    for _ in 0..count {
+        out.extend(taxa(&mut random));
+        for part in [lengths, nesting, small_tree_rooms, small_split_rooms, batches] {
+            out.extend(part(Random::new(random.next())));
+        }
+    }
+    out
+}
+
+/// The largest collections: tree room 1,024 and split room 4,096 filled to the last, so many times.
+pub fn largest(seed: u64, count: usize) -> Vec<u8> {
+    let mut random = Random::new(seed);
+    let parts = [largest_tree_room, largest_split_room];
+    (0..count).flat_map(|i| parts[i % parts.len()](Random::new(random.next()))).collect()
+}
+
+fn opened(mut random: Random, n: usize, lanes: u64, tree_room: u64, split_room: u64) -> Maker {
+    let names = names(&mut random, n);
+    let places = random.between(1, 2 * split_room as usize) as u64;
+    Maker::open(random, names, Numbers { taxa: n as u64, lanes, tree_room, split_room, places }, 3)
+}
+
+// Texts
+
+/// The bytes of a text without blanks, lengths and labels.
+fn bare_text(random: &mut Random, names: &[Name], most_children: usize) -> Vec<u8> {
+    let shape = shape(random, names, most_children);
+    tokens(random, &shape, BARE).concat()
+}
+
+/// A text of so many bytes: filled with blanks in front or behind, or with a label at its end.
+fn filled(random: &mut Random, names: &[Name], long: usize) -> Vec<u8> {
+    let text = bare_text(random, names, 3);
+    let more = vec![*random.pick(b" \tx"); long.saturating_sub(text.len())];
+    let front = random.one_in(2) && more.first() != Some(&b'x');
+    if front {
+        [more, text].concat()
+    } else {
+        [text, more].concat()
+    }
+}
+
+/// 4,095 to 4,098 bytes and many more, in one piece and in pieces, and lanes that stand at the limit when closed.
+fn lengths(random: Random) -> Vec<u8> {
+    let mut maker = opened(random, 9, 2, 40, 200);
+    for long in [4095, 4096, 4097, 4098, 6000, 20_000] {
+        let text = filled(&mut maker.random, &maker.names, long);
+        maker.text(&text);
+        maker.peek();
+        feed_in_pieces(&mut maker, &text);
+        maker.feed(1, b";");
+        feed_in_pieces(&mut maker, &text);
+        maker.close(1);
+        maker.peek();
+    }
+    maker.feed(1, &[b' '; MOST_BYTES]);
+    maker.feed(1, b"");
+    maker.peek();
+    maker.feed(1, b" ");
+    maker.peek();
+    maker.feed(1, b"(A,B)");
+    maker.feed(1, b";");
+    maker.questions();
+    maker.script()
+}
+
+fn feed_in_pieces(maker: &mut Maker, text: &[u8]) {
+    let mut rest = text;
+    while !rest.is_empty() {
+        let long = *maker.random.pick(&[1, 2, 100, 1000, 4096, 5000]);
+        let (piece, behind) = rest.split_at(long.min(rest.len()));
+        maker.feed(1, piece);
+        rest = behind;
+    }
+}
+
+/// 62 to 65 brackets, of one name that comes again and of 64 names.
+fn nesting(random: Random) -> Vec<u8> {
+    let mut maker = opened(random, 64, 1, 40, 500);
+    let few = maker.names[..3].to_vec();
+    for brackets in [62, 63, 64, 65] {
+        for names in [few.clone(), maker.names.clone()] {
+            let tree = ladder(&mut maker.random, &names, brackets);
+            let text = text_of(&mut maker.random, &tree);
+            maker.text(&text);
+        }
+        let deep = [vec![b'('; brackets], vec![b')'; brackets]].concat();
+        maker.text(&deep);
+    }
+    maker.questions();
+    maker.script()
+}
+
+/// 3, 4, 64 and 65 taxa.
+fn taxa(random: &mut Random) -> Vec<u8> {
+    let mut lines = vec!["lend 20000".to_string()];
+    for n in [3, 4, 64, 65] {
+        let names = names(random, n);
+        let zeros = vec![0; n];
+        let numbers = Numbers { taxa: n as u64, lanes: 1, tree_room: 2, split_room: 200, places: 1 };
+        lines.push(open_line(&numbers, &names.join(&b' '), &zeros, &zeros));
+        let text = bare_text(random, &names, 2);
+        lines.push(format!("feed 0 {}3b", hex(&text)));
+        lines.extend(["splits", "majority", "collisions", "matrix"].map(str::to_string));
+    }
+    joined(&lines)
+}
+
+// Rooms
+
+/// The last free tree, and one past it.
+fn small_tree_rooms(mut random: Random) -> Vec<u8> {
+    let room = random.between(1, 4) as u64;
+    let mut maker = opened(random, 7, 1, room, 60);
+    for _ in 0..room + 2 {
+        let text = bare_text(&mut maker.random, &maker.names, 3);
+        maker.text(&text);
+        maker.ask("matrix");
+        maker.peek();
+    }
+    maker.questions();
+    maker.script()
+}
+
+fn small_split_rooms(mut random: Random) -> Vec<u8> {
+    let room = random.between(1, 30) as u64;
+    let mut maker = opened(random, 8, 1, 1000, room);
+    fill_split_room(&mut maker);
+    maker.peek();
+    maker.questions();
+    maker.script()
+}
+
+/// Trees until the split room is full to the last; one split past it; and a tree without new splits.
+fn fill_split_room(maker: &mut Maker) {
+    let room = maker.numbers.split_room as usize;
+    while maker.held.counts().len() < room {
+        let splits = some_new_splits(maker, room - maker.held.counts().len());
+        let text = written(&maker.names, &splits);
+        maker.feed(0, &text);
+    }
+    for new in [0, 1] {
+        let splits = some_new_splits(maker, new);
+        let text = written(&maker.names, &splits);
+        maker.feed(0, &text);
+        maker.ask("count");
+    }
+    let known = some_new_splits(maker, 0);
+    let text = written(&maker.names, &known);
+    maker.feed(0, &text);
+}
+
+/// Splits of one tree, at most so many of them new.
+fn some_new_splits(maker: &mut Maker, most: usize) -> Masks {
+    let text = bare_text(&mut maker.random, &maker.names, 2);
+    let all = judge(&maker.names, &text).expect("a tree of all names");
+    let is_known = |mask: &u64| maker.held.counts().contains_key(mask);
+    let known = all.iter().filter(|mask| is_known(mask));
+    let new = all.iter().filter(|mask| !is_known(mask)).take(most);
+    known.chain(new).copied().collect()
+}
+
+/// Many short texts at once, with verdicts of all kinds, in buffers of enough and of one too few.
+fn batches(random: Random) -> Vec<u8> {
+    let mut maker = opened(random, 6, 2, 900, 50);
+    for texts in [1, 10, 300, 2000] {
+        let mut piece = Vec::new();
+        for _ in 0..texts {
+            match maker.random.below(4) {
+                0 => piece.extend(bare_text(&mut maker.random, &maker.names, 2)),
+                1 => piece.extend(bare_text(&mut maker.random, &maker.names[1..].to_vec(), 4)),
+                2 => piece.extend(*maker.random.pick(&[&b""[..], b" ", b"(", b"x", b"(x,y)"])),
+                _ => piece.extend(maker.names.join(&b',')),
+            }
+            piece.push(b';');
+        }
+        maker.ask(format!("room {}", texts - 1));
+        maker.ask(format!("batch 1 {}", hex(&piece)));
+        maker.ask(format!("room {texts}"));
+        piece.extend(b"(");
+        maker.batch(1, &piece);
+        maker.close(1);
+    }
+    maker.questions();
+    maker.script()
+}
+
+// The largest collections
+
+/// 1,024 trees of 64 taxa that have splits in common, and one past them.
+fn largest_tree_room(random: Random) -> Vec<u8> {
+    let mut maker = opened(random, 64, 8, 1024, 4096);
+    let pool: Vec<Masks> = (0..12).map(|_| some_new_splits(&mut maker, 61)).collect();
+    let mut piece = Vec::new();
+    while maker.held.number_of_trees() < 1024 {
+        for _ in 0..64 {
+            let splits = thinned(&mut maker, &pool);
+            piece.extend(written(&maker.names, &splits));
+        }
+        maker.batch(3, &piece);
+        piece.clear();
+    }
+    let text = written(&maker.names, &pool[0]);
+    maker.feed(0, &text);
+    maker.peek();
+    for line in ["trees", "count", "splits", "matrix", "strict", "majority", "collisions", "tree 1023", "write 1023"] {
+        maker.ask(line);
+    }
+    maker.script()
+}
+
+/// One of the pool without some of its splits.
+fn thinned(maker: &mut Maker, pool: &[Masks]) -> Masks {
+    let splits = maker.random.pick(pool).clone();
+    let often = *maker.random.pick(&[2, 10, 100]);
+    splits.into_iter().filter(|_| !maker.random.one_in(often)).collect()
+}
+
+/// 4,096 splits, the last ones to the room's end.
+fn largest_split_room(random: Random) -> Vec<u8> {
+    let mut maker = opened(random, 64, 1, 200, 4096);
+    fill_split_room(&mut maker);
+    maker.peek();
+    maker.questions();
+    maker.script()
+}

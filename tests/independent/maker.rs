@@ -1,0 +1,134 @@
+//! A script as it grows, with the collection that its calls come to.
+
+use crate::collection::{Collection, Fed};
+use crate::generator::{first_constants, name_list, second_constants};
+use crate::grow::Name;
+use crate::opening::{open, Numbers};
+use crate::random::Random;
+use crate::words::{comma_list, hex};
+
+pub struct Maker {
+    pub random: Random,
+    pub names: Vec<Name>,
+    pub numbers: Numbers,
+    /// What the calls so far come to.
+    pub held: Collection,
+    pub lent: u64,
+    lines: Vec<String>,
+}
+
+impl Maker {
+    /// Memory with so many bytes to spare, and the opening with constants by chance.
+    pub fn open(random: Random, names: Vec<Name>, numbers: Numbers, spare: u64) -> Maker {
+        let mut random = random;
+        let first = first_constants(&mut random, names.len(), numbers.places);
+        let second = second_constants(&mut random, names.len());
+        Maker::open_with(random, names, numbers, &first, &second, spare)
+    }
+
+    pub fn open_with(
+        random: Random,
+        names: Vec<Name>,
+        numbers: Numbers,
+        first: &[u64],
+        second: &[u64],
+        spare: u64,
+    ) -> Maker {
+        let lent = numbers.size().expect("numbers in range") + spare;
+        let Ok(opening) = open(numbers, &name_list(&names), first, second, lent) else {
+            panic!("the opening of a script is refused");
+        };
+        let line = open_line(&numbers, &name_list(&names), first, second);
+        let lines = vec![format!("size {}", five_words(&numbers)), format!("lend {lent}"), line];
+        Maker { random, names, numbers, held: Collection::new(opening), lent, lines }
+    }
+
+    /// A script from the lines.
+    pub fn script(&self) -> Vec<u8> {
+        joined(&self.lines)
+    }
+
+    /// A call that changes nothing.
+    pub fn ask(&mut self, line: impl ToString) {
+        self.lines.push(line.to_string());
+    }
+
+    pub fn peek(&mut self) {
+        self.ask(format!("peek 0 {}", self.lent));
+    }
+
+    pub fn feed(&mut self, lane: u64, piece: &[u8]) -> Fed {
+        self.ask(format!("feed {lane} {}", hex(piece)));
+        self.held.feed(lane, piece)
+    }
+
+    /// Feeds a text and its semicolon to lane 0.
+    pub fn text(&mut self, text: &[u8]) -> Fed {
+        self.feed(0, &[text, b";"].concat())
+    }
+
+    pub fn batch(&mut self, lane: u64, piece: &[u8]) {
+        self.ask(format!("batch {lane} {}", hex(piece)));
+        // Refused or not, the collection is what it comes to.
+        let _ = self.held.batch(lane, piece, usize::MAX);
+    }
+
+    pub fn close(&mut self, lane: u64) {
+        self.ask(format!("close {lane}"));
+        let _ = self.held.close(lane);
+    }
+
+    /// Every question, with every tree, behind a lifted limit.
+    pub fn questions(&mut self) {
+        for line in ["room -", "trees", "count", "splits", "matrix", "strict", "majority", "collisions"] {
+            self.ask(line);
+        }
+        for tree in 0..=self.held.number_of_trees() {
+            self.ask(format!("tree {tree}"));
+            self.ask(format!("write {tree}"));
+        }
+    }
+}
+
+/// Each kind of call on a collection once, with these bytes fed.
+pub fn every_call(piece: &[u8]) -> Vec<String> {
+    let mut calls: Vec<String> = QUESTIONS.iter().map(|line| line.to_string()).collect();
+    calls.extend([format!("feed 0 {}", hex(piece)), "close 0".to_string(), format!("batch 0 {}", hex(piece))]);
+    calls
+}
+
+pub const QUESTIONS: [&str; 12] = [
+    "trees",
+    "count",
+    "splits",
+    "split 0",
+    "tree 0",
+    "one 0 1",
+    "two 1 0",
+    "matrix",
+    "strict",
+    "majority",
+    "write 0",
+    "collisions",
+];
+
+pub fn open_line(numbers: &Numbers, names: &[u8], first: &[u64], second: &[u64]) -> String {
+    format!("open {} {} {} {}", five_words(numbers), hex(names), list_word(first), list_word(second))
+}
+
+fn list_word(numbers: &[u64]) -> String {
+    if numbers.is_empty() {
+        "-".to_string()
+    } else {
+        comma_list(numbers)
+    }
+}
+
+pub fn five_words(numbers: &Numbers) -> String {
+    let Numbers { taxa, lanes, tree_room, split_room, places } = numbers;
+    format!("{taxa} {lanes} {tree_room} {split_room} {places}")
+}
+
+pub fn joined(lines: &[String]) -> Vec<u8> {
+    lines.iter().flat_map(|line| format!("{line}\n").into_bytes()).collect()
+}

@@ -1,0 +1,195 @@
+//! The same texts four ways: cut anywhere and mixed over 8 lanes; whole, in the order of their semicolons; in
+//! batches; and cut and mixed again with one place and all constants 0.
+
+use crate::generator::{first_constants, one_text, second_constants, some_names, some_places, some_shapes};
+use crate::grow::{Name, Shape};
+use crate::maker::Maker;
+use crate::opening::Numbers;
+use crate::random::Random;
+
+const LANES: usize = 8;
+/// The most texts of a batch.
+const MOST_IN_BATCH: usize = 40;
+
+enum Step {
+    /// A piece for a lane; it may go on behind a semicolon, and the rest comes again.
+    Piece(usize, Vec<u8>),
+    Close(usize),
+    /// A question on the way, for the ways that cut alike.
+    Ask(String),
+    Peek,
+}
+
+/// One of the four ways; none for another word.
+pub fn way(word: &str) -> Option<fn(u64, usize) -> Vec<u8>> {
+    match word {
+        "mixed" => Some(|seed, count| cut(&Plan::new(seed, count), false)),
+        "whole" => Some(|seed, count| whole(&Plan::new(seed, count))),
+        "batched" => Some(|seed, count| batched(&Plan::new(seed, count))),
+        "zeros" => Some(|seed, count| cut(&Plan::new(seed, count), true)),
+        _ => None,
+    }
+}
+
+/// What a seed gives, for every way.
+struct Plan {
+    names: Vec<Name>,
+    numbers: Numbers,
+    first: Vec<u64>,
+    second: Vec<u64>,
+    steps: Vec<Step>,
+}
+
+impl Plan {
+    /// So many steps.
+    fn new(seed: u64, count: usize) -> Plan {
+        let mut random = Random::new(seed);
+        let names = some_names(&mut random);
+        let pool = some_shapes(&mut random, &names);
+        let n = names.len();
+        let split_room = *random.pick(&[n, 3 * n, 10 * n, 1000]);
+        let places = some_places(&mut random, split_room);
+        let tree_room = *random.pick(&[8, 200, 1024, 1024]);
+        let numbers = Numbers { taxa: n as u64, lanes: LANES as u64, tree_room, split_room: split_room as u64, places };
+        let first = first_constants(&mut random, n, places);
+        let second = second_constants(&mut random, n);
+        let steps = some_steps(&mut random, count, &names, &pool);
+        Plan { names, numbers, first, second, steps }
+    }
+
+    fn opened(&self) -> Maker {
+        Maker::open_with(Random::new(0), self.names.clone(), self.numbers, &self.first, &self.second, 7)
+    }
+
+    /// One place, all constants 0, and as much memory.
+    fn opened_with_zeros(&self) -> Maker {
+        let zeros = vec![0; self.names.len()];
+        let numbers = Numbers { places: 1, ..self.numbers };
+        Maker::open_with(Random::new(0), self.names.clone(), numbers, &zeros, &zeros, 5 + 2 * self.numbers.places)
+    }
+}
+
+fn some_steps(random: &mut Random, count: usize, names: &[Name], pool: &[Shape]) -> Vec<Step> {
+    let mut waiting = vec![Vec::new(); LANES];
+    let mut steps = Vec::new();
+    while steps.len() < count {
+        let lane = random.below(LANES);
+        steps.push(match random.below(100) {
+            0..=2 => Step::Close(lane),
+            3..=14 => Step::Ask(some_question(random)),
+            15 if random.one_in(4) => Step::Peek,
+            _ => Step::Piece(lane, some_piece(random, &mut waiting[lane], names, pool)),
+        });
+    }
+    steps
+}
+
+fn some_question(random: &mut Random) -> String {
+    let (a, b) = (random.below(6), random.below(6));
+    let lines = [
+        "trees".to_string(),
+        "count".to_string(),
+        "splits".to_string(),
+        format!("split {a}"),
+        format!("tree {a}"),
+        format!("one {a} {b}"),
+        format!("two {a} {b}"),
+        "strict".to_string(),
+        "majority".to_string(),
+        format!("write {b}"),
+        "collisions".to_string(),
+    ];
+    random.pick(&lines).clone()
+}
+
+/// The next bytes of a lane; they are waited for no more up to the first semicolon.
+fn some_piece(random: &mut Random, waiting: &mut Vec<u8>, names: &[Name], pool: &[Shape]) -> Vec<u8> {
+    if waiting.len() < 2 || random.one_in(10) {
+        waiting.extend(one_text(random, names, pool));
+        waiting.push(b';');
+    }
+    let most = waiting.len();
+    let long = random.between(0, most);
+    let piece = waiting[..*random.pick(&[long, long, most])].to_vec();
+    waiting.drain(..taken_of(&piece));
+    piece
+}
+
+/// "Up to the first semicolon and that semicolon, or all if there is none."
+fn taken_of(piece: &[u8]) -> usize {
+    piece.iter().position(|b| *b == b';').map_or(piece.len(), |at| at + 1)
+}
+
+fn cut(plan: &Plan, zeros: bool) -> Vec<u8> {
+    let mut maker = if zeros { plan.opened_with_zeros() } else { plan.opened() };
+    for step in &plan.steps {
+        match step {
+            Step::Piece(lane, piece) => drop(maker.feed(*lane as u64, piece)),
+            Step::Close(lane) => maker.close(*lane as u64),
+            Step::Ask(line) => maker.ask(line),
+            Step::Peek => maker.peek(),
+        }
+    }
+    maker.questions();
+    maker.script()
+}
+
+/// What the steps come to in whole texts: one with its semicolon, or a closing with what the lane then held.
+enum Whole {
+    Text(usize, Vec<u8>),
+    Closing(usize, Vec<u8>),
+}
+
+fn whole_texts(plan: &Plan) -> Vec<Whole> {
+    let mut held = vec![Vec::new(); LANES];
+    let mut out = Vec::new();
+    for step in &plan.steps {
+        match step {
+            Step::Piece(lane, piece) => {
+                held[*lane].extend_from_slice(&piece[..taken_of(piece)]);
+                if held[*lane].ends_with(b";") {
+                    out.push(Whole::Text(*lane, std::mem::take(&mut held[*lane])));
+                }
+            }
+            Step::Close(lane) => out.push(Whole::Closing(*lane, std::mem::take(&mut held[*lane]))),
+            Step::Ask(_) | Step::Peek => (),
+        }
+    }
+    out
+}
+
+fn whole(plan: &Plan) -> Vec<u8> {
+    let mut maker = plan.opened();
+    for text in whole_texts(plan) {
+        match text {
+            Whole::Text(lane, text) => drop(maker.feed(lane as u64, &text)),
+            Whole::Closing(lane, rest) => {
+                maker.feed(lane as u64, &rest);
+                maker.close(lane as u64);
+            }
+        }
+    }
+    maker.questions();
+    maker.script()
+}
+
+/// All in lane 0.
+fn batched(plan: &Plan) -> Vec<u8> {
+    let mut maker = plan.opened();
+    let mut texts: Vec<Vec<u8>> = Vec::new();
+    for text in whole_texts(plan) {
+        let closing = matches!(text, Whole::Closing(..));
+        let (Whole::Text(_, bytes) | Whole::Closing(_, bytes)) = text;
+        texts.push(bytes);
+        if closing || texts.len() == MOST_IN_BATCH {
+            maker.batch(0, &texts.concat());
+            texts.clear();
+        }
+        if closing {
+            maker.close(0);
+        }
+    }
+    maker.batch(0, &texts.concat());
+    maker.questions();
+    maker.script()
+}

@@ -1,0 +1,168 @@
+//! Lines that are no calls, and calls at the edges of numbers, lists and lent memory.
+
+use crate::maker::joined;
+use crate::random::Random;
+
+/// A line of every call that is one once something is opened.
+const GOOD: [&str; 22] = [
+    "size 4 1 1 1 1",
+    "open 4 1 1 1 1 41204220432044 0,0,0,0 0,0,0,0",
+    "feed 0 28",
+    "feed 0 -",
+    "close 0",
+    "batch 0 3b",
+    "trees",
+    "count",
+    "splits",
+    "split 0",
+    "tree 0",
+    "one 0 0",
+    "two 0 0",
+    "matrix",
+    "strict",
+    "majority",
+    "write 0",
+    "collisions",
+    "agree 6 12",
+    "room 7",
+    "peek 0 1",
+    "poke 8354 00",
+];
+
+const OTHERS: [&str; 40] = [
+    "",
+    " ",
+    "  ",
+    "-",
+    "0",
+    "xyzzy",
+    "lend",
+    "lend -",
+    "lend 1048577",
+    "lend 18446744073709551615",
+    "lend 18446744073709551616",
+    "peek 0 18446744073709551615",
+    "peek 18446744073709551615 1",
+    "peek 18446744073709551615 18446744073709551615",
+    "peek 18446744073709551615 0",
+    "poke 18446744073709551615 00",
+    "poke 18446744073709551615 -",
+    "poke 0 0",
+    "poke 0 000",
+    "poke 0 0x",
+    "poke 0 AA",
+    "room -1",
+    "room --",
+    "room 18446744073709551615",
+    "room 18446744073709551616",
+    "agree 18446744073709551615 18446744073709551615",
+    "agree 18446744073709551616 0",
+    "agree 9223372036854775808 9223372036854775809",
+    "size 4 1 1 1 18446744073709551615",
+    "size 18446744073709551616 1 1 1 1",
+    "open 4 1 1 1 1 - - -",
+    "open 4 1 1 1 1 - 0,,0,0 0,0,0,0",
+    "open 4 1 1 1 1 - ,0,0,0 0,0,0,0",
+    "open 4 1 1 1 1 - 0,0,0,0, 0,0,0,0",
+    "open 4 1 1 1 1 - 0,0,0,-1 0,0,0,0",
+    "open 4 1 1 1 1 - 0,0,0,0 0,0,0,18446744073709551616",
+    "open 4 1 1 1 1 - 0,0,0,0 0,0,0,18446744073709551615",
+    "open 4 1 1 1 1 4120422043204 0,0,0,0 0,0,0,0",
+    "open 4 1 1 1 1 41204220432044 0,0,0,0 0,0,0,0",
+    "feed 0 --",
+];
+
+/// A script of so many rounds; its last line has no end.
+pub fn oddities(seed: u64, count: usize) -> Vec<u8> {
+    let mut random = Random::new(seed);
+    let mut lines = before_lending();
+    for _ in 0..count {
+        lines.extend(opened());
+        for line in GOOD {
+            lines.extend(changed_lines(&mut random, line));
+        }
+        lines.extend(OTHERS.map(str::to_string));
+        lines.extend(edges_of_memory());
+    }
+    lines.push("x".repeat(3_000_000));
+    let mut script = joined(&lines);
+    script.extend(any_bytes(&mut random));
+    script.extend(b"trees");
+    script
+}
+
+/// No byte is lent before the first `lend`.
+fn before_lending() -> Vec<String> {
+    let lines = ["peek 0 0", "peek 0 1", "peek 1 0", "poke 0 -", "poke 1 -", "poke 0 00", "trees", "feed 0 3b"];
+    lines.map(str::to_string).to_vec()
+}
+
+fn opened() -> Vec<String> {
+    let open = "open 4 1 1 1 1 41204220432044 0,0,0,0 0,0,0,0";
+    ["lend 8355", "room -", open, "trees"].map(str::to_string).to_vec()
+}
+
+/// The line as it is, and changed in each way that makes it no call, or nearly.
+fn changed_lines(random: &mut Random, line: &str) -> Vec<String> {
+    let words: Vec<&str> = line.split(' ').collect();
+    let last = words.len() - 1;
+    let with_last = |word: &str| [&words[..last], &[word]].concat().join(" ");
+    let mut out = vec![line.to_string(), words[..last].join(" ")];
+    for change in ["L ", " L", "L 0", "L\t", "L\r", "L -", "\0L", "L\0", "xL"] {
+        out.push(change.replace('L', line));
+    }
+    out.push(line.to_uppercase());
+    out.push(line.replacen(' ', "  ", 1));
+    out.push(line.replacen(' ', "\t", 1));
+    for word in ["", "-", "--", "x", "0x0", "-0", "+0", "0,", ",", "0,0", "1e0", "0.0", "18446744073709551616", "3B"] {
+        out.push(with_last(word));
+    }
+    out.push(cut_anywhere(random, line));
+    out
+}
+
+fn cut_anywhere(random: &mut Random, line: &str) -> String {
+    line[..random.between(0, line.len())].to_string()
+}
+
+fn edges_of_memory() -> Vec<String> {
+    let lines = [
+        "lend 1048576",
+        "peek 1048576 0",
+        "peek 1048575 1",
+        "peek 1048575 2",
+        "peek 1048576 1",
+        "poke 1048576 -",
+        "poke 1048575 07",
+        "peek 1048574 2",
+        "poke 1048575 0708",
+        "poke 1048576 07",
+        "peek 1048575 1",
+        "trees",
+        "lend 2",
+        "peek 0 2",
+        "peek 0 3",
+        "peek 2 0",
+        "peek 3 0",
+        "poke 0 0102",
+        "peek 0 2",
+        "poke 1 0304",
+        "peek 0 2",
+        "poke 1 03",
+        "peek 0 2",
+        "lend 2",
+        "peek 0 2",
+        "lend 0",
+        "peek 0 0",
+        "peek 0 1",
+        "trees",
+        "room 0",
+        "room -",
+    ];
+    lines.map(str::to_string).to_vec()
+}
+
+/// Lines of bytes by chance.
+fn any_bytes(random: &mut Random) -> Vec<u8> {
+    (0..2000).map(|_| if random.one_in(30) { b'\n' } else { random.below(256) as u8 }).chain([b'\n']).collect()
+}

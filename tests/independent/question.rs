@@ -1,0 +1,132 @@
+//! The calls on a collection from their words, and the lines that answer them.
+
+use crate::collection::{Batch, Collection, Fed};
+use crate::words::{bytes, number};
+
+pub enum Question {
+    Close(u64),
+    Batch(u64, Vec<u8>),
+    Trees,
+    Count,
+    Splits,
+    Split(u64),
+    Tree(u64),
+    One(u64, u64),
+    Two(u64, u64),
+    Matrix,
+    Strict,
+    Majority,
+    Write(u64),
+    Collisions,
+}
+
+impl Question {
+    pub fn of(words: &[&[u8]]) -> Option<Question> {
+        Some(match words {
+            [b"close", lane] => Question::Close(number(lane)?),
+            [b"batch", lane, piece] => Question::Batch(number(lane)?, bytes(piece)?),
+            [b"trees"] => Question::Trees,
+            [b"count"] => Question::Count,
+            [b"splits"] => Question::Splits,
+            [b"split", s] => Question::Split(number(s)?),
+            [b"tree", t] => Question::Tree(number(t)?),
+            [b"one", a, b] => Question::One(number(a)?, number(b)?),
+            [b"two", a, b] => Question::Two(number(a)?, number(b)?),
+            [b"matrix"] => Question::Matrix,
+            [b"strict"] => Question::Strict,
+            [b"majority"] => Question::Majority,
+            [b"write", t] => Question::Write(number(t)?),
+            [b"collisions"] => Question::Collisions,
+            _ => return None,
+        })
+    }
+
+    /// The answer's line, or the refusal.
+    pub fn ask(&self, collection: &mut Collection, room: usize) -> Result<Vec<u8>, u32> {
+        Ok(match self {
+            Question::Close(lane) => collection.close(*lane).map(|()| b"done".to_vec())?,
+            Question::Batch(lane, piece) => batch_line(&collection.batch(*lane, piece, room)?),
+            Question::Trees => number_line(collection.number_of_trees() as u64),
+            Question::Count => number_line(collection.counts().len() as u64),
+            Question::Splits => splits_line(&collection.splits(room)?),
+            Question::Split(s) => split_line(collection.split(*s)?),
+            Question::Tree(t) => listed("tree", &collection.tree(*t, room)?),
+            Question::One(a, b) => number_line(collection.one_sided(*a, *b)?),
+            Question::Two(a, b) => number_line(collection.doubled(*a, *b)?),
+            Question::Matrix => matrix_line(collection.number_of_trees(), &collection.matrix(room)?),
+            Question::Strict => text_line(&collection.strict_text(room)?),
+            Question::Majority => text_line(&collection.majority_text(room)?),
+            Question::Write(t) => text_line(&collection.tree_text(*t, room)?),
+            Question::Collisions => number_line(collection.collisions()),
+        })
+    }
+
+    /// The lane that the call may write to; a refused batch writes nothing, a refused closing empties its lane.
+    pub fn writes_lane(&self, done: bool) -> Option<u64> {
+        match self {
+            Question::Close(lane) => Some(*lane),
+            Question::Batch(lane, _) if done => Some(*lane),
+            _ => None,
+        }
+    }
+}
+
+impl Fed {
+    pub fn line(&self) -> String {
+        match self {
+            Fed::More { taken } => format!("more {taken}"),
+            Fed::Accepted { taken, tree } => format!("accepted {taken} {tree}"),
+            Fed::Refused { taken, refusal } => format!("refused {taken} {refusal}"),
+        }
+    }
+}
+
+// Answers
+
+pub fn refused(refusal: u32) -> Vec<u8> {
+    format!("refused {refusal}").into_bytes()
+}
+
+fn number_line(n: u64) -> Vec<u8> {
+    format!("number {n}").into_bytes()
+}
+
+fn split_line((mask, count): (u64, u64)) -> Vec<u8> {
+    format!("split {mask} {count}").into_bytes()
+}
+
+fn splits_line(splits: &[(u64, u64)]) -> Vec<u8> {
+    let words: Vec<String> = splits.iter().map(|(mask, count)| format!("{mask}:{count}")).collect();
+    listed("splits", &words)
+}
+
+fn matrix_line(trees: usize, distances: &[u64]) -> Vec<u8> {
+    listed(&format!("matrix {trees}:"), distances)
+}
+
+fn batch_line(batch: &Batch) -> Vec<u8> {
+    let mut words: Vec<String> = batch.verdicts.iter().map(verdict_word).collect();
+    words.push(format!("taken {}", batch.taken));
+    listed("batch", &words)
+}
+
+fn verdict_word(verdict: &Result<usize, u32>) -> String {
+    match verdict {
+        Ok(tree) => tree.to_string(),
+        Err(refusal) => format!("-{refusal}"),
+    }
+}
+
+fn text_line(text: &[u8]) -> Vec<u8> {
+    [b"text ", text].concat()
+}
+
+/// A word, and each element after one space.
+fn listed<T: ToString>(word: &str, elements: &[T]) -> Vec<u8> {
+    let mut out = word.to_string();
+    for element in elements {
+        out.push(' ');
+        out.push_str(&element.to_string());
+    }
+    out.into_bytes()
+}

@@ -1,0 +1,353 @@
+//! Every refusal number in every place that can give it, with all lent bytes peeked before and after.
+
+use crate::collection::Collection;
+use crate::generator::{first_constants, name_list, second_constants};
+use crate::grow::{names, shape, text_of, Name};
+use crate::maker::{every_call, five_words, open_line, Maker};
+use crate::opening::Numbers;
+use crate::random::Random;
+use crate::verdict::MOST_BYTES;
+use crate::words::hex;
+
+/// Numbers that are past the range of any lane, tree or split.
+const FAR: [u64; 5] = [1025, 4097, 1 << 32, (1 << 32) + 1, u64::MAX];
+
+/// A script of so many rounds, each over names and numbers of its own.
+pub fn refusals(seed: u64, count: usize) -> Vec<u8> {
+    let mut random = Random::new(seed);
+    (0..count).flat_map(|_| round(Random::new(random.next()))).collect()
+}
+
+fn round(mut random: Random) -> Vec<u8> {
+    let n = *random.pick(&[5, 6, 9, 64]);
+    let names = names(&mut random, n);
+    let lanes = random.between(1, 8) as u64;
+    let (tree_room, split_room) = (random.between(3, 6) as u64, 3 * n as u64);
+    let places = random.between(1, 2 * split_room as usize) as u64;
+    let numbers = Numbers { taxa: n as u64, lanes, tree_room, split_room, places };
+    let mut maker = Maker::open(random, names, numbers, 9);
+    no_trees(&mut maker);
+    lanes_and_texts(&mut maker);
+    numbers_and_rooms(&mut maker);
+    full_rooms(&mut maker);
+    openings(&mut maker);
+    not_whole(&mut maker);
+    maker.script()
+}
+
+impl Maker {
+    /// A call, and all lent bytes after it.
+    fn watched(&mut self, line: impl ToString) {
+        self.ask(line);
+        self.peek();
+    }
+
+    fn any_text(&mut self) -> Vec<u8> {
+        let shape = shape(&mut self.random, &self.names, 3);
+        text_of(&mut self.random, &shape)
+    }
+
+    /// Leaves in one bracket: a tree without splits.
+    fn star(&self, leaves: &[Name]) -> Vec<u8> {
+        [&b"("[..], &leaves.join(&b','), b")"].concat()
+    }
+
+    fn watched_text(&mut self, text: &[u8]) {
+        self.text(text);
+        self.peek();
+    }
+}
+
+/// 14 and 13 before 4, and the answers of an empty collection in buffers of no element.
+fn no_trees(maker: &mut Maker) {
+    maker.peek();
+    for room in ["room 0", "room -"] {
+        maker.ask(room);
+        for line in ["strict", "majority", "tree 0", "write 0", "split 0", "one 0 0", "two 0 0", "matrix", "splits"] {
+            maker.watched(line);
+        }
+        maker.watched("batch 0 -");
+    }
+}
+
+/// 5 in each place, before 4; verdicts 6 to 10 and their order; closings.
+fn lanes_and_texts(maker: &mut Maker) {
+    let lanes = maker.numbers.lanes;
+    maker.ask("room 0");
+    for lane in [lanes, lanes + 1, 8, 255, 256].into_iter().chain(FAR).filter(|lane| *lane >= lanes) {
+        let text = [maker.any_text(), b";".to_vec()].concat();
+        for piece in [&b""[..], b"(", &text] {
+            maker.watched(format!("feed {lane} {}", hex(piece)));
+            maker.watched(format!("batch {lane} {}", hex(piece)));
+        }
+        maker.watched(format!("close {lane}"));
+    }
+    maker.watched(format!("batch 0 {}", hex(b";")));
+    maker.ask("room -");
+    for text in faulty_texts(maker) {
+        maker.watched_text(&text);
+        maker.batch(lanes - 1, &[&text, &b";"[..], &text[..text.len().min(5000)], b";"].concat());
+        maker.peek();
+    }
+    closings(maker);
+}
+
+/// Texts with one or more faults, from 6 to 10.
+fn faulty_texts(maker: &mut Maker) -> Vec<Vec<u8>> {
+    let names = maker.names.clone();
+    let with = |first: &[Name]| -> Vec<Name> { first.iter().chain(&names[first.len()..]).cloned().collect() };
+    let (no, twice) = (b"no.such.taxon.is.in.the.list.of.names".to_vec(), names[0].clone());
+    let long = |text: Vec<u8>, to: usize| [&text[..], &vec![b' '; to.saturating_sub(text.len())]].concat();
+    let star = |leaves: &[Name]| maker.star(leaves);
+    let unclosed = |leaves: &[Name]| star(leaves)[..star(leaves).len() - 1].to_vec();
+    vec![
+        long(star(&names), MOST_BYTES + 1),
+        long(unclosed(&with(&[no.clone()])), MOST_BYTES + 1),
+        vec![b' '; MOST_BYTES + 1],
+        unclosed(&names),
+        unclosed(&with(&[no.clone(), twice.clone(), twice.clone()])),
+        unclosed(&names[1..]),
+        Vec::new(),
+        b" \t\r\n".to_vec(),
+        star(&with(&[no.clone(), twice.clone(), twice.clone()])),
+        star(&with(&[twice.clone(), twice.clone(), no.clone()])),
+        star(&with(&[twice.clone(), twice.clone()])),
+        star(&[&names[..], &[twice]].concat()),
+        star(&[&names[1..], &[no]].concat()),
+        star(&names[1..]),
+        star(&names[..names.len() - 1]),
+        names[0].clone(),
+    ]
+}
+
+/// 6, 7 and done, and done again, in the last lane.
+fn closings(maker: &mut Maker) {
+    let lane = maker.numbers.lanes - 1;
+    let blanks = vec![b'\n'; MOST_BYTES];
+    for held in [&b""[..], b"x", b" \r\n\t", b" ;"] {
+        maker.feed(lane, held);
+        maker.peek();
+        maker.close(lane);
+        maker.peek();
+        maker.close(lane);
+        maker.peek();
+    }
+    for more in [&b""[..], b" ", b"(A,"] {
+        maker.feed(lane, &blanks);
+        maker.feed(lane, more);
+        maker.peek();
+        maker.close(lane);
+        maker.peek();
+    }
+}
+
+/// 13 in each place, before 4; 4 in buffers of one element too few; the answers in buffers of just enough.
+fn numbers_and_rooms(maker: &mut Maker) {
+    for _ in 0..2 {
+        let text = maker.any_text();
+        maker.watched_text(&text);
+    }
+    for room in ["room 0", "room -"] {
+        maker.ask(room);
+        wrong_numbers(maker);
+    }
+    for (line, long) in answers_with_lengths(&maker.held) {
+        for room in [long.saturating_sub(1), long, long + 1] {
+            maker.ask(format!("room {room}"));
+            maker.watched(&line);
+        }
+    }
+    batches_with_rooms(maker);
+}
+
+fn wrong_numbers(maker: &mut Maker) {
+    let (t, s) = (maker.held.number_of_trees() as u64, maker.held.counts().len() as u64);
+    for far in [t, t + 1].into_iter().chain(FAR) {
+        for line in ["one FAR 0", "one 0 FAR", "one FAR FAR", "two FAR 0", "two 0 FAR", "tree FAR", "write FAR"] {
+            maker.watched(line.replace("FAR", &far.to_string()));
+        }
+    }
+    for far in [s, s + 1].into_iter().chain(FAR) {
+        maker.watched(format!("split {far}"));
+    }
+}
+
+/// Each call that writes into a buffer, and the elements of its answer.
+fn answers_with_lengths(held: &Collection) -> Vec<(String, usize)> {
+    let all = usize::MAX;
+    let long = |text: Result<Vec<u8>, u32>| text.map_or(0, |bytes| bytes.len());
+    let mut out = vec![
+        ("splits".to_string(), held.counts().len()),
+        ("matrix".to_string(), held.number_of_trees().pow(2)),
+        ("strict".to_string(), long(held.strict_text(all))),
+        ("majority".to_string(), long(held.majority_text(all))),
+    ];
+    for tree in 0..held.number_of_trees() {
+        out.push((format!("tree {tree}"), held.trees()[tree].len()));
+        out.push((format!("write {tree}"), long(held.tree_text(tree as u64, all))));
+    }
+    out
+}
+
+/// Three texts and the beginning of a fourth, with room for two and for three verdicts.
+fn batches_with_rooms(maker: &mut Maker) {
+    let lane = maker.random.below(maker.numbers.lanes as usize) as u64;
+    let piece = b"x;;(;\n";
+    for room in [0, 1, 2] {
+        maker.ask(format!("room {room}"));
+        maker.watched(format!("batch {lane} {}", hex(piece)));
+    }
+    maker.ask("room 3");
+    maker.batch(lane, piece);
+    maker.peek();
+    maker.close(lane);
+    maker.ask("room -");
+}
+
+/// 12, then at full rooms 6 to 10 before 11, and 11 before 12.
+fn full_rooms(maker: &mut Maker) {
+    let room = maker.numbers.tree_room as usize;
+    for _ in 0..4 * room {
+        let text = maker.any_text();
+        maker.watched_text(&text);
+    }
+    while maker.held.number_of_trees() < room {
+        let star = maker.star(&maker.names);
+        maker.watched_text(&star);
+    }
+    for text in faulty_texts(maker) {
+        maker.watched_text(&text);
+    }
+    for _ in 0..4 {
+        let text = [maker.any_text(), b";".to_vec()].concat();
+        maker.batch(0, &text);
+        maker.peek();
+    }
+    maker.questions();
+}
+
+/// 2, 3 and 4 at opening; each is refused, so that the collection stays.
+fn openings(maker: &mut Maker) {
+    let n = maker.names.len();
+    let numbers = maker.numbers;
+    let list = name_list(&maker.names);
+    let first = first_constants(&mut maker.random, n, numbers.places);
+    let second = second_constants(&mut maker.random, n);
+    for wrong in wrong_openings(&numbers) {
+        maker.ask(format!("size {}", five_words(&wrong)));
+        maker.watched(open_line(&wrong, &list, &first, &second));
+        maker.watched(open_line(&wrong, b" ", &first, &second));
+    }
+    for (first, second) in wrong_constants(&numbers, &first, &second) {
+        maker.watched(open_line(&numbers, &list, &first, &second));
+        maker.watched(open_line(&numbers, b"", &first, &second));
+    }
+    for names in wrong_names(&maker.names) {
+        maker.watched(open_line(&numbers, &names, &first, &second));
+    }
+    too_little_memory(maker, &first, &second);
+}
+
+/// Each number one below its least, one above its most, and far from it.
+fn wrong_openings(numbers: &Numbers) -> Vec<Numbers> {
+    let limits = [(4, 64), (1, 8), (1, 1024), (1, 4096), (1, 2 * numbers.split_room)];
+    let mut out = Vec::new();
+    for (which, (least, most)) in limits.into_iter().enumerate() {
+        for value in [least - 1, most + 1, 65536 + least, (1 << 32) + least, 1 << 63, u64::MAX] {
+            out.push(with_number(numbers, which, value));
+        }
+    }
+    out
+}
+
+fn with_number(numbers: &Numbers, which: usize, value: u64) -> Numbers {
+    let mut changed = *numbers;
+    match which {
+        0 => changed.taxa = value,
+        1 => changed.lanes = value,
+        2 => changed.tree_room = value,
+        3 => changed.split_room = value,
+        _ => changed.places = value,
+    }
+    changed
+}
+
+/// A constant past its range at either end of its list; lists that are too short and too long.
+fn wrong_constants(numbers: &Numbers, first: &[u64], second: &[u64]) -> Vec<(Vec<u64>, Vec<u64>)> {
+    let n = first.len();
+    let mut out = Vec::new();
+    for at in [0, n / 2, n - 1] {
+        for value in [numbers.places, numbers.places + 1, 65536, 1 << 32, u64::MAX] {
+            let mut wrong = first.to_vec();
+            wrong[at] = value;
+            out.push((wrong, second.to_vec()));
+        }
+    }
+    let longer = |list: &[u64]| [list, &[0]].concat();
+    for (a, b) in [(0, n), (n - 1, n), (n, 0), (n, n - 1)] {
+        out.push((first[..a].to_vec(), second[..b].to_vec()));
+    }
+    out.extend([(longer(first), second.to_vec()), (first.to_vec(), longer(second)), (longer(first), longer(second))]);
+    out
+}
+
+fn wrong_names(names: &[Name]) -> Vec<Vec<u8>> {
+    let n = names.len();
+    let list = name_list(names);
+    let with = |at: usize, name: &[u8]| {
+        let mut changed = names.to_vec();
+        changed[at] = name.to_vec();
+        name_list(&changed)
+    };
+    let mut out = vec![
+        Vec::new(),
+        b" ".to_vec(),
+        name_list(&names[1..]),
+        [&list[..], b" one.more.taxon"].concat(),
+        [&list[..], b" "].concat(),
+        [b" ", &list[..]].concat(),
+        [&list[..], b"\n"].concat(),
+        with(1, b""),
+        with(0, &[b'x'; 33]),
+        with(n - 1, &[b'x'; 300]),
+        with(0, &names[n - 1]),
+        with(n - 1, &names[0]),
+    ];
+    for byte in [0, 9, 10, 13, 31, 39, 40, 41, 44, 58, 59, 91, 93, 127, 128, 255] {
+        out.push(with(n / 2, &[b'x', byte, b'y']));
+    }
+    out
+}
+
+/// 3 before 4, one byte too few, just enough; and the collection that was there is no more.
+fn too_little_memory(maker: &mut Maker, first: &[u64], second: &[u64]) {
+    let numbers = maker.numbers;
+    let (list, size) = (name_list(&maker.names), numbers.size().expect("numbers in range"));
+    for lent in [0, 1, 15, 16, 4096, size - 1, size] {
+        maker.lent = lent;
+        maker.ask(format!("lend {lent}"));
+        maker.watched(open_line(&with_number(&numbers, 1, 9), &list, first, second));
+        maker.watched(open_line(&numbers, &list[1..], first, &second[1..]));
+        maker.watched(open_line(&numbers, &[&list[..], b" "].concat(), first, second));
+        maker.watched(open_line(&numbers, &list, first, second));
+        maker.watched("trees");
+    }
+}
+
+/// 1 in each place, before 5, 13, 14 and 4: in no memory, in too little, in enough that was never opened.
+fn not_whole(maker: &mut Maker) {
+    let size = maker.numbers.size().expect("numbers in range");
+    for lent in [0, 1, 100, size - 1, size + 100] {
+        maker.lent = lent;
+        maker.ask(format!("lend {lent}"));
+        maker.peek();
+        for room in ["room 0", "room -"] {
+            maker.ask(room);
+            let text = [maker.any_text(), b";".to_vec()].concat();
+            let wrong = ["feed 8 28", "close 8", "batch 9 3b", "split 9", "tree 9", "one 9 9", "two 9 9", "write 9"];
+            for line in every_call(&text).into_iter().chain(wrong.map(str::to_string)) {
+                maker.watched(line);
+            }
+        }
+    }
+}

@@ -1,0 +1,162 @@
+//! Checks of the store's decoder: a store made by hand from docs/STORE.md, and changes of its bytes.
+
+use crate::changes::{CHANGES, FAULTS};
+use crate::check::Report;
+use crate::random::Random;
+use crate::stores::made_bytes;
+use crate::whole::held_in;
+use crate::words::hex;
+use std::collections::BTreeSet;
+
+type Check = (String, bool);
+
+/// One lane that holds `(A,`, two trees of room and three splits, two places; S1's tree and S2's over A to E.
+fn by_hand() -> Vec<u8> {
+    let mut store = vec![165; 8532];
+    let fields: [(usize, usize, &[u64]); 14] = [
+        (0, 2, &[5, 1, 2, 3, 2, 2, 3]),
+        (2128, 2, &[0, 1, 0, 1, 0]),
+        (2256, 8, &[10, 20, 30, 40, 50]),
+        (4096, 2, &[3]),
+        (8200, 2, &[2, 0, 1]),
+        (8328, 2, &[2, 2, 1]),
+        (8456, 8, &[24, 28, 20]),
+        (8480, 8, &[90, 120, 80]),
+        (8504, 4, &[1, 2, 1]),
+        (8516, 2, &[0, 1, 0]),
+        (8522, 2, &[2, 0, 1]),
+        (8528, 2, &[3, 2]),
+        (16, 1, &[1, 65]),
+        (4104, 1, &[40, 65, 44]),
+    ];
+    for (from, width, values) in fields {
+        for (i, value) in values.iter().enumerate() {
+            store[from + width * i..][..width].copy_from_slice(&value.to_le_bytes()[..width]);
+        }
+    }
+    for (taxon, letter) in b"ABCDE".iter().enumerate() {
+        store[16 + 33 * taxon] = 1;
+        store[17 + 33 * taxon] = *letter;
+    }
+    store
+}
+
+/// Bytes and what they are changed to; the store is no more whole.
+const BROKEN: [(&str, usize, u8); 26] = [
+    ("3 taxa", 0, 3),
+    ("6 taxa", 0, 6),
+    ("no lane", 2, 0),
+    ("2 lanes", 2, 2),
+    ("3 trees of room", 4, 3),
+    ("2 splits of room", 6, 2),
+    ("7 places", 8, 7),
+    ("3 trees", 10, 3),
+    ("1 tree", 10, 1),
+    ("2 splits", 12, 2),
+    ("a name of 33 bytes", 16, 33),
+    ("an empty name", 16, 0),
+    ("a name twice", 17, 66),
+    ("a bracket as a name", 17, 40),
+    ("a first constant of 2", 2128, 2),
+    ("another first constant", 2134, 0),
+    ("another second constant", 2280, 41),
+    ("a lane of 4,099 bytes", 4097, 16),
+    ("a tree of one split", 8200, 1),
+    ("a tree that falls", 8202, 1),
+    ("a row that is not there", 8204, 3),
+    ("another mask", 8456, 26),
+    ("another identifier", 8480, 91),
+    ("another count", 8504, 2),
+    ("another link", 8516, 2),
+    ("another start", 8530, 1),
+];
+
+/// Bytes that may have any value, or that hold something else.
+const UNHARMED: [(&str, usize, u8); 9] = [
+    ("head, not used", 14, 0),
+    ("name, behind its length", 18, 0),
+    ("name of no taxon", 16 + 33 * 5, 77),
+    ("constant of no taxon", 2138, 255),
+    ("head's end", 4095, 0),
+    ("lane, not used", 4098, 0),
+    ("lane, behind its length", 4107, 0),
+    ("tree, behind its list", 8206, 0),
+    ("second constant of taxon 0", 2256, 11),
+];
+
+pub fn store_checks() -> Vec<Check> {
+    let store = by_hand();
+    let changed = |at: usize, byte: u8| {
+        let mut bytes = store.clone();
+        bytes[at] = byte;
+        held_in(&bytes)
+    };
+    let mut checks = vec![
+        ("store by hand".to_string(), holds_samples(&store)),
+        ("store by hand, one byte less".to_string(), held_in(&store[..8531]).is_none()),
+        ("store by hand, one byte more".to_string(), held_in(&[&store[..], &[0]].concat()) == held_in(&store)),
+        ("no bytes".to_string(), held_in(&[]).is_none()),
+    ];
+    let name = |what: &str| format!("store by hand, {what}");
+    checks.extend(BROKEN.iter().map(|(what, at, byte)| (name(what), changed(*at, *byte).is_none())));
+    checks.extend(UNHARMED.iter().map(|(what, at, byte)| (name(what), changed(*at, *byte).is_some())));
+    checks.extend(checker_checks(&store));
+    checks.push(("made stores".to_string(), made_stores_fit()));
+    checks
+}
+
+/// Those without a change are whole; each change leaves some whole, and each fault leaves some not whole.
+fn made_stores_fit() -> bool {
+    let mut random = Random::new(1);
+    let (mut changes, mut faults) = (BTreeSet::new(), BTreeSet::new());
+    let mut plain = true;
+    for i in 0..20 * 3 * FAULTS.len() {
+        let whole = held_in(&made_bytes(&mut random, i).1).is_some();
+        match i % 3 {
+            0 => plain &= whole,
+            1 if whole => drop(changes.insert(i / 3 % CHANGES.len())),
+            2 if !whole => drop(faults.insert(i / 3 % FAULTS.len())),
+            _ => (),
+        }
+    }
+    plain && changes.len() == CHANGES.len() && faults.len() == FAULTS.len()
+}
+
+fn holds_samples(store: &[u8]) -> bool {
+    held_in(store).is_some_and(|held| {
+        let trees: Vec<Vec<u64>> = held.trees().iter().map(|tree| tree.iter().copied().collect()).collect();
+        let majority = held.majority_text(100).unwrap_or_default();
+        trees == [[24, 28], [20, 28]] && majority == b"(A,B,(C,D,E));" && held.lanes().len() == 1
+    })
+}
+
+/// The checker on a run that is right, and on runs with one answer changed.
+fn checker_checks(store: &[u8]) -> Vec<Check> {
+    let bytes = hex(store);
+    let script = format!("lend 8532\npoke 0 {bytes}\ncount\nfeed 0 3b\npeek 0 8532\nclose 1\npeek 0 8532\n");
+    let empty = with_byte(store, 4096, 0);
+    let right = format!("done\ndone\nnumber 3\nrefused 1 7\nbytes {0}\nrefused 5\nbytes {0}\n", hex(&empty));
+    let differences = |answers: &str| Report::of(script.as_bytes(), answers.as_bytes()).differences;
+    let with = |at: usize, line: String| {
+        let mut lines: Vec<&str> = right.lines().collect();
+        lines[at] = &line;
+        differences(&format!("{}\n", lines.join("\n")))
+    };
+    let peeked = |bytes: &[u8]| format!("bytes {}", hex(bytes));
+    vec![
+        ("checker, right answers".to_string(), differences(&right) == 0),
+        ("checker, another number".to_string(), with(2, "number 4".to_string()) == 1),
+        ("checker, another refusal".to_string(), with(3, "refused 1 8".to_string()) == 1),
+        ("checker, lane not emptied".to_string(), with(4, peeked(store)) > 0),
+        ("checker, byte outside the lane".to_string(), with(4, peeked(&with_byte(&empty, 14, 0))) > 0),
+        ("checker, byte changed by a refusal".to_string(), with(6, peeked(&with_byte(&empty, 5000, 0))) == 1),
+        ("checker, answer missing".to_string(), differences(&right[..right.len() - 1]) == 1),
+        ("checker, answers too many".to_string(), differences(&format!("{right}done\n")) == 1),
+    ]
+}
+
+fn with_byte(store: &[u8], at: usize, byte: u8) -> Vec<u8> {
+    let mut changed = store.to_vec();
+    changed[at] = byte;
+    changed
+}
