@@ -80,8 +80,6 @@ module _ (s : List ℕ) (to : ℕ) (t : List ℕ) (from n : ℕ) where
       let e = length-take n (drop from t) in
       sets-outside (take n (drop from t)) s to i (inr (omega arith))
 
-  -- ---- a number after the copy
-
   -- ---- a copy as the loops make it
 
   -- one byte more at the end
