@@ -3,8 +3,8 @@
  *     collection equal|random|mixed SEED
  *
  * equal: one tree, its branches turned about in each text. random: each tree is a base tree after some exchanges of neighbouring
- * branches, as many as keep the collection's splits growing evenly to just below 4,096. mixed: the two in turn. Every second text
- * has lengths; one tree in eight has some branches joined to nodes of more than two children. */
+ * branches, as many as keep the collection's splits growing evenly to just below 4,096. mixed: the two in turn. Two texts in four
+ * have lengths; of the random trees one in eight has nodes of more than two children. */
 #include "small.h"
 
 enum { TAXA = 64, TREES = 1024, SPLITS = 4096, NODES = 2 * TAXA - 1, ROOT = NODES - 1, MOST_MOVES = 200, SLOTS = 16384 };

@@ -8,7 +8,7 @@ use table::Number;
 pub(crate) fn write_answers(
     names: &[u8],
     texts: &[u8],
-    s: &mut [u8; 262144],
+    s: &mut [u8; 253960],
     verdicts: &mut [u32; 2048],
     matrix: &mut [u16; 1048576],
     strict: &mut [u8; 4096],

@@ -51,7 +51,7 @@ fn take_names(rounds: u64, input: &[u8])
 fn make_calls(rounds: u64, names: &[u8], texts: &[u8])
     requires { ⌜ rounds ≤ 1000 ⌝ }
 {
-    let mut store = [0u8; 262144];
+    let mut store = [0u8; 253960];
     let mut verdicts = [0u32; 2048];
     let mut matrix = [0u16; 1048576];
     let mut strict = [0u8; 4096];
