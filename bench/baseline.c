@@ -1,0 +1,465 @@
+/* The yardstick: the same work as crate timing makes the library do, as a C programmer would write it for one program.
+ *
+ * It keeps the collection in its own structures and never tests them. Splits are told apart by their whole masks. Input and output
+ * are those of crate timing: a line `answers` or `times R`, a line of names, then texts. */
+#include "small.h"
+
+enum { TAXA = 64, TREES = 1024, SPLITS = 4096, SLOTS = 8192, NAME_SLOTS = 256, TEXT = 4096, NESTING = 63 };
+enum { INPUT = 2097152, CALLS = 16 };
+
+static u8 input[INPUT];
+static u32 verdicts[2 * TREES];
+static u16 matrix[TREES * TREES];
+static u8 marks[SPLITS];
+
+static u32 taxa;
+static u64 every_taxon;
+static const u8 *names[TAXA];
+static u32 name_sizes[TAXA];
+static u8 name_slots[NAME_SLOTS]; /* a taxon's number and 1; 0 for none */
+
+static u32 trees, splits;
+static u64 masks[SPLITS];
+static u32 counts[SPLITS];
+static u16 slots[SLOTS]; /* a split's row and 1; 0 for none */
+static u16 rows[TREES][TAXA];
+static u32 sizes[TREES];
+
+/* ---- texts */
+
+enum { BLANK, LABEL, OTHER };
+
+static u8 kinds[256];
+
+static void set_kinds(void)
+{
+    for (int c = 0; c < 256; c++)
+        kinds[c] = 33 <= c && c <= 126 ? LABEL : OTHER;
+    for (const char *p = "()[]':;,"; *p; p++)
+        kinds[(u8)*p] = OTHER;
+    for (const char *p = " \t\r\n"; *p; p++)
+        kinds[(u8)*p] = BLANK;
+}
+
+static const u8 *skip_blanks(const u8 *p, const u8 *end)
+{
+    while (p < end && kinds[*p] == BLANK)
+        p++;
+    return p;
+}
+
+static u32 hash_step(u32 h, u8 c) { return h * 31 + c; }
+
+static u32 name_slot(u32 h) { return (h * 2654435761u) >> 24; }
+
+static int find_taxon(const u8 *name, u32 size, u32 h)
+{
+    for (u32 k = name_slot(h); name_slots[k]; k = (k + 1) % NAME_SLOTS) {
+        u32 t = name_slots[k] - 1u;
+        if (name_sizes[t] == size && !memcmp(names[t], name, size))
+            return (int)t;
+    }
+    return -1;
+}
+
+static const u8 *skip_digits(const u8 *p, const u8 *end)
+{
+    while (p < end && '0' <= *p && *p <= '9')
+        p++;
+    return p;
+}
+
+/* Past a length, or 0 where none stands there. */
+static const u8 *skip_length(const u8 *p, const u8 *end)
+{
+    if (p < end && (*p == '+' || *p == '-'))
+        p++;
+    const u8 *from = p;
+    p = skip_digits(p, end);
+    long digits = p - from;
+    if (p < end && *p == '.') {
+        from = ++p;
+        p = skip_digits(p, end);
+        digits += p - from;
+    }
+    if (!digits)
+        return 0;
+    if (p < end && (*p == 'e' || *p == 'E')) {
+        p++;
+        if (p < end && (*p == '+' || *p == '-'))
+            p++;
+        from = p;
+        p = skip_digits(p, end);
+        if (p == from)
+            return 0;
+    }
+    return p < end && kinds[*p] == LABEL ? 0 : p;
+}
+
+/* The verdict on a text: a refusal's number from 7 to 10, or 0, with the splits' masks in `list` and how many there are in `found`. */
+static u32 judge(const u8 *p, const u8 *end, u64 *list, u32 *found)
+{
+    u64 below[NESTING];
+    u32 kids[NESTING];
+    u64 seen = 0;
+    u32 depth = 0, clusters = 0, root_kids = 0, fault = 0;
+    u64 node[TAXA];
+    for (;;) {
+        p = skip_blanks(p, end);
+        while (p < end && *p == '(') {
+            if (depth == NESTING)
+                return 7;
+            below[depth] = 0;
+            kids[depth++] = 0;
+            p = skip_blanks(p + 1, end);
+        }
+        const u8 *name = p;
+        u32 h = 0;
+        while (p < end && kinds[*p] == LABEL)
+            h = hash_step(h, *p++);
+        if (p == name)
+            return 7;
+        int t = find_taxon(name, (u32)(p - name), h);
+        u64 mask = t < 0 ? 0 : 1ul << t;
+        if (!fault)
+            fault = t < 0 ? 8 : seen & mask ? 9 : 0;
+        seen |= mask;
+        for (;;) {
+            p = skip_blanks(p, end);
+            if (p < end && *p == ':') {
+                p = skip_length(skip_blanks(p + 1, end), end);
+                if (!p)
+                    return 7;
+                p = skip_blanks(p, end);
+            }
+            if (depth == 0) {
+                if (p < end)
+                    return 7;
+                goto read;
+            }
+            below[depth - 1] |= mask;
+            kids[depth - 1]++;
+            if (p == end || *p != ')')
+                break;
+            depth--;
+            if (kids[depth] < 2)
+                return 7;
+            mask = below[depth];
+            if (depth == 0)
+                root_kids = kids[0];
+            else if (clusters < TAXA)
+                node[clusters++] = mask;
+            p = skip_blanks(p + 1, end);
+            while (p < end && kinds[*p] == LABEL)
+                p++;
+        }
+        if (p == end || *p != ',')
+            return 7;
+        p++;
+    }
+read:
+    if (fault)
+        return fault;
+    if (seen != every_taxon)
+        return 10;
+    if (root_kids == 2 && clusters)
+        clusters--; /* the other side of an edge that another node has told of, or all taxa but one */
+    u32 k = 0;
+    for (u32 i = 0; i < clusters; i++) {
+        u64 mask = node[i] & 1 ? every_taxon & ~node[i] : node[i];
+        if (mask & (mask - 1) && mask != (every_taxon & ~1ul)) /* two taxa or more on both sides */
+            list[k++] = mask;
+    }
+    *found = k;
+    return 0;
+}
+
+/* ---- recording */
+
+static u32 slot_of(u64 mask)
+{
+    u32 k = (u32)((mask * 0x9E3779B97F4A7C15ul) >> 51);
+    while (slots[k] && masks[slots[k] - 1] != mask)
+        k = (k + 1) % SLOTS;
+    return k;
+}
+
+static u32 count_new(const u64 *list, u32 n)
+{
+    u32 k = 0;
+    for (u32 i = 0; i < n; i++)
+        k += !slots[slot_of(list[i])];
+    return k;
+}
+
+static u32 row_of(u64 mask)
+{
+    u32 k = slot_of(mask);
+    if (!slots[k]) {
+        masks[splits] = mask;
+        counts[splits] = 0;
+        slots[k] = (u16)++splits;
+    }
+    return slots[k] - 1u;
+}
+
+static u32 record(const u64 *list, u32 n)
+{
+    if (trees == TREES)
+        return 11;
+    if (SPLITS < splits + n && SPLITS < splits + count_new(list, n))
+        return 12;
+    for (u32 i = 0; i < n; i++) {
+        u32 row = row_of(list[i]);
+        counts[row]++;
+        rows[trees][i] = (u16)row;
+    }
+    sizes[trees] = n;
+    return 256 + trees++;
+}
+
+/* Reads and records every text of the piece; answers how many there were. */
+static u32 batch(const u8 *p, const u8 *end)
+{
+    u64 list[TAXA];
+    u32 n = 0;
+    const u8 *semicolon;
+    while (n < 2 * TREES && (semicolon = memchr(p, ';', (u64)(end - p)))) {
+        u32 k = 0;
+        u32 verdict = TEXT < semicolon - p ? 6 : judge(p, semicolon, list, &k);
+        verdicts[n++] = verdict ? verdict : record(list, k);
+        p = semicolon + 1;
+    }
+    return n;
+}
+
+static void open(void)
+{
+    trees = splits = 0;
+    memset(slots, 0, sizeof slots);
+}
+
+/* ---- the matrix */
+
+static void write_matrix(void)
+{
+    for (u32 i = 0; i < trees; i++) {
+        for (u32 k = 0; k < sizes[i]; k++)
+            marks[rows[i][k]] = 1;
+        matrix[i * trees + i] = 0;
+        for (u32 j = i + 1; j < trees; j++) {
+            u32 shared = 0;
+            for (u32 k = 0; k < sizes[j]; k++)
+                shared += marks[rows[j][k]];
+            u16 d = (u16)(sizes[i] + sizes[j] - 2 * shared);
+            matrix[i * trees + j] = d;
+            matrix[j * trees + i] = d;
+        }
+        for (u32 k = 0; k < sizes[i]; k++)
+            marks[rows[i][k]] = 0;
+    }
+}
+
+/* ---- consensus */
+
+/* A node's first child and next sibling: a leaf's number, or TAXA and more for the inner nodes; NONE for none. */
+enum { NODES = 2 * TAXA, NONE = 255 };
+static u8 first[NODES], next[NODES];
+
+static char *write_node(char *to, u32 node)
+{
+    if (node < TAXA) {
+        memcpy(to, names[node], name_sizes[node]);
+        return to + name_sizes[node];
+    }
+    *to++ = '(';
+    for (u32 k = first[node]; k != NONE; k = next[k]) {
+        to = write_node(to, k);
+        if (next[k] != NONE)
+            *to++ = ',';
+    }
+    *to++ = ')';
+    return to;
+}
+
+static void sort_by_size(u64 *list, u32 n)
+{
+    for (u32 i = 1; i < n; i++) {
+        u64 x = list[i];
+        int size = __builtin_popcountl(x);
+        u32 j = i;
+        for (; 0 < j && __builtin_popcountl(list[j - 1]) < size; j--)
+            list[j] = list[j - 1];
+        list[j] = x;
+    }
+}
+
+static void push_child(u32 node, u32 kid)
+{
+    next[kid] = first[node];
+    first[node] = (u8)kid;
+}
+
+/* Writes the tree of n splits, the children of each node in order of their smallest taxon; answers its length. */
+static u32 write_tree(u64 *list, u32 n, char *to)
+{
+    u8 over[TAXA], parent[TAXA], starts[TAXA];
+    u8 deeper[TAXA];
+    sort_by_size(list, n);
+    memset(over, TAXA, sizeof over);
+    memset(starts, NONE, sizeof starts);
+    memset(first, NONE, sizeof first);
+    for (u32 i = 0; i < n; i++) {
+        u32 lowest = (u32)__builtin_ctzl(list[i]);
+        parent[i] = over[lowest];
+        deeper[i] = starts[lowest];
+        starts[lowest] = (u8)i;
+        for (u64 rest = list[i]; rest; rest &= rest - 1)
+            over[__builtin_ctzl(rest)] = (u8)(TAXA + 1 + i);
+    }
+    for (u32 t = taxa; t--;) {
+        push_child(over[t], t);
+        for (u32 i = starts[t]; i != NONE; i = deeper[i])
+            push_child(parent[i], TAXA + 1 + i);
+    }
+    next[TAXA] = NONE;
+    char *end = write_node(to, TAXA);
+    *end++ = ';';
+    return (u32)(end - to);
+}
+
+/* Writes the tree of the splits that at least `least` trees have. */
+static u32 consensus(u32 least, char *to)
+{
+    u64 list[TAXA];
+    u32 n = 0;
+    for (u32 k = 0; k < splits; k++)
+        if (least <= counts[k])
+            list[n++] = masks[k];
+    return write_tree(list, n, to);
+}
+
+/* ---- the program */
+
+static char strict_text[4096], majority_text[4096];
+static u32 strict_size, majority_size;
+
+static void both_trees(void)
+{
+    strict_size = consensus(trees, strict_text);
+    majority_size = consensus(trees / 2 + 1, majority_text);
+}
+
+static void answers(u32 n)
+{
+    u64 verdict_sum = 0, verdict_sums = 0, matrix_sum = 0, matrix_sums = 0;
+    for (u32 i = 0; i < n; i++)
+        verdict_sums += verdict_sum += verdicts[i];
+    for (u64 i = 0; i < (u64)trees * trees; i++)
+        matrix_sums += matrix_sum += matrix[i];
+    put_text("texts ");
+    put_number(n);
+    put_text("\ntrees ");
+    put_number(trees);
+    put_text("\nsplits ");
+    put_number(splits);
+    put_text("\nverdicts ");
+    put_number(verdict_sums);
+    put_text("\nmatrix ");
+    put_number(matrix_sums);
+    put_text("\nstrict ");
+    put_bytes(strict_text, strict_size);
+    put_text("\nmajority ");
+    put_bytes(majority_text, majority_size);
+    put_char('\n');
+}
+
+static void put_time(const char *what, long from, long to, u64 calls)
+{
+    put_text(what);
+    put_number((u64)(to - from) * 1000 / calls);
+}
+
+/* One round of each part; the times, in nanoseconds a call, are written where they are wanted. */
+static void round_of(const u8 *p, const u8 *end, int wanted)
+{
+    open();
+    long a = clock();
+    batch(p, end);
+    long b = clock();
+    write_matrix();
+    long c = clock();
+    for (int i = 0; i < CALLS; i++)
+        both_trees();
+    long d = clock();
+    if (!wanted)
+        return;
+    put_time("batch ", a, b, 1);
+    put_time(" matrix ", b, c, 1);
+    put_time(" consensus ", c, d, CALLS);
+    put_char('\n');
+}
+
+static void add_name(const u8 *p, const u8 *end)
+{
+    u32 h = 0;
+    names[taxa] = p;
+    name_sizes[taxa] = (u32)(end - p);
+    while (p < end)
+        h = hash_step(h, *p++);
+    u32 k = name_slot(h);
+    while (name_slots[k])
+        k = (k + 1) % NAME_SLOTS;
+    name_slots[k] = (u8)++taxa;
+}
+
+/* Takes the line of names; answers the place behind it. */
+static const u8 *take_names(const u8 *p, const u8 *end)
+{
+    while (p < end && taxa < TAXA) {
+        const u8 *from = p;
+        while (p < end && *p != ' ' && *p != '\n')
+            p++;
+        add_name(from, p);
+        if (p == end)
+            break;
+        if (*p++ == '\n')
+            break;
+    }
+    every_taxon = taxa == 64 ? ~0ul : (1ul << taxa) - 1;
+    return p;
+}
+
+static u64 read_all(void)
+{
+    u64 used = 0;
+    long n;
+    while (used < INPUT && 0 < (n = read(0, input + used, INPUT - used)))
+        used += (u64)n;
+    return used;
+}
+
+int main(void)
+{
+    const u8 *end = input + read_all();
+    const u8 *p = memchr(input, '\n', (u64)(end - input));
+    if (!p)
+        return 1;
+    int rounds = 0;
+    for (const u8 *q = input; q < p; q++)
+        if ('0' <= *q && *q <= '9')
+            rounds = rounds * 10 + *q - '0';
+    set_kinds();
+    p = take_names(p + 1, end);
+    if (input[0] == 'a') {
+        open();
+        u32 n = batch(p, end);
+        write_matrix();
+        both_trees();
+        answers(n);
+    }
+    for (int i = 0; i <= rounds && input[0] == 't'; i++)
+        round_of(p, end, 0 < i);
+    flush_output();
+    return 0;
+}

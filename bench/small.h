@@ -1,0 +1,59 @@
+/* What the programs in C need of the C library: the kit that compiles them has no headers. */
+#ifndef SMALL_H
+#define SMALL_H
+
+typedef unsigned char u8;
+typedef unsigned short u16;
+typedef unsigned int u32;
+typedef unsigned long u64;
+
+extern long read(int fd, void *to, u64 bytes);
+extern long write(int fd, const void *from, u64 bytes);
+extern long clock(void);
+extern int memcmp(const void *a, const void *b, u64 bytes);
+extern void *memcpy(void *to, const void *from, u64 bytes);
+extern void *memset(void *to, int value, u64 bytes);
+extern void *memchr(const void *in, int value, u64 bytes);
+
+/* Output, collected and written in one go. */
+static char out_bytes[1 << 22];
+static u64 out_used;
+
+static inline void put_char(char c) { out_bytes[out_used++] = c; }
+
+static inline void put_bytes(const char *from, u64 bytes)
+{
+    memcpy(out_bytes + out_used, from, bytes);
+    out_used += bytes;
+}
+
+static inline void put_text(const char *text)
+{
+    while (*text)
+        put_char(*text++);
+}
+
+static inline void put_number(u64 n)
+{
+    char digits[20];
+    int k = 0;
+    do
+        digits[k++] = (char)('0' + n % 10);
+    while (n /= 10);
+    while (k)
+        put_char(digits[--k]);
+}
+
+static inline void flush_output(void)
+{
+    u64 done = 0;
+    while (done < out_used) {
+        long n = write(1, out_bytes + done, out_used - done);
+        if (n <= 0)
+            return;
+        done += (u64)n;
+    }
+    out_used = 0;
+}
+
+#endif

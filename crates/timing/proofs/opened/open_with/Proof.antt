@@ -1,0 +1,21 @@
+-- `timing::opened::open_with` is safe and ends. Assumes nothing.
+use native.Mathlib.Omega.{arith}
+use lib.ListN.{length}
+use lib.ListN.{length-take}
+use borrow.Author.Needs.{needs}
+use Rattle.timing.proofs.opened.open_with.Statement.{statement}
+use Rattle.timing.proofs.opened.open_with.Tie as tie
+
+pub open-with-spec : {M : Type 1} → statement M
+open-with-spec =
+    tie.close
+    (tie.spec
+    (λ c κs. search needs)
+    (λ c. search needs)
+    (λ c. search needs)
+    (λ c. search needs)
+    (λ c. simp length-take (omega arith))
+    (λ c. simp length-take (omega arith))
+    (λ c κs. search needs)
+    (λ c. search needs)
+    (λ c. search needs))

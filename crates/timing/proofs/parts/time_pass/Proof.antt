@@ -1,0 +1,28 @@
+-- `timing::parts::time_pass` is safe and ends. Assumes nothing.
+use Prim.Native.Nat.{_≤_, _-_}
+use borrow.Author.Needs.{needs}
+use Rattle.timing.proofs.parts.time_pass.Statement.{statement}
+use Rattle.timing.proofs.parts.time_pass.Tie as tie
+
+abbrev Inv-loop : tie.InvT-loop
+Inv-loop s₀ from i₀ s i = i ≤ 1024
+
+abbrev μ-loop : tie.MeasureT-loop
+μ-loop s₀ from i₀ s i = 1024 - i
+
+pub time-pass-spec : {M : Type 1} → statement M
+time-pass-spec =
+    tie.close
+    (tie.spec
+    Inv-loop
+    μ-loop
+    (λ c κs. search needs)
+    (λ c. search needs)
+    (λ c κs. search needs)
+    (λ c. search needs)
+    (λ c. search needs)
+    (λ c. search needs)
+    (λ c. search needs)
+    (λ c. search needs)
+    (λ c κs. search needs)
+    (λ c. search needs))

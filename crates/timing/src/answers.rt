@@ -1,0 +1,110 @@
+// What the calls answer, in a few numbers and the two consensus trees.
+use crate::opened;
+use layout::Lane;
+use libc::STDOUT_FILENO;
+use table::Number;
+
+// Opens the collection, makes each call once and writes what it answered.
+pub(crate) fn write_answers(
+    names: &[u8],
+    texts: &[u8],
+    s: &mut [u8; 253960],
+    verdicts: &mut [u32; 2048],
+    matrix: &mut [u16; 1048576],
+    strict: &mut [u8; 4096],
+    majority: &mut [u8; 4096],
+) {
+    opened::open(s, names);
+    write_batch(s, texts, verdicts);
+    write_matrix(s, matrix);
+    write_consensus(s, strict, majority);
+}
+
+// How many texts, trees and splits there are, and the verdicts.
+fn write_batch(s: &mut [u8], texts: &[u8], verdicts: &mut [u32]) {
+    let n = given(feeding::batch(s, Lane(0), texts, verdicts));
+    write_number(b"texts ", n as u64);
+    write_number(b"trees ", given(table::tree_count(s)) as u64);
+    write_number(b"splits ", given(table::split_count(s)) as u64);
+    write_number(b"verdicts ", verdict_sum(verdicts, n));
+}
+
+// All distances.
+fn write_matrix(s: &[u8], matrix: &mut [u16]) {
+    let n = given(comparing::matrix(s, matrix));
+    write_number(b"matrix ", matrix_sum(matrix, n));
+}
+
+// Both consensus trees.
+fn write_consensus(s: &[u8], strict: &mut [u8], majority: &mut [u8]) {
+    let a = given(consensus::strict(s, strict));
+    write_text(b"strict ", strict, a);
+    let b = given(consensus::majority(s, majority));
+    write_text(b"majority ", majority, b);
+}
+
+// The number that a call gives; 0 where it refuses.
+fn given(x: Number) -> usize {
+    match x {
+        Number::Gives(n) => n,
+        Number::Refused(_) => 0,
+    }
+}
+
+// Writes a number behind its name.
+fn write_number(name: &[u8], x: u64) {
+    io::write_all(STDOUT_FILENO, name);
+    io::print_decimal(STDOUT_FILENO, x);
+    io::write_all(STDOUT_FILENO, b"\n");
+}
+
+// Writes the first n bytes of a text behind its name.
+fn write_text(name: &[u8], text: &[u8], n: usize) {
+    io::write_all(STDOUT_FILENO, name);
+    if n <= text.len() {
+        io::write_all(STDOUT_FILENO, &text[..n]);
+    }
+    io::write_all(STDOUT_FILENO, b"\n");
+}
+
+// The sum of the sums of the first 1, 2, .. n verdicts, which tells their order too.
+fn verdict_sum(verdicts: &[u32], n: usize) -> u64 {
+    let mut sum = 0u64;
+    let mut sums = 0u64;
+    let mut i = 0;
+    while i < n {
+        if verdicts.len() <= i {
+            return sums;
+        }
+        sum = std::num::wrapping_add_u64(sum, wide32(verdicts[i]));
+        sums = std::num::wrapping_add_u64(sums, sum);
+        i += 1;
+    }
+    sums
+}
+
+// The same of the first n entries of the matrix.
+fn matrix_sum(matrix: &[u16], n: usize) -> u64 {
+    let mut sum = 0u64;
+    let mut sums = 0u64;
+    let mut i = 0;
+    while i < n {
+        if matrix.len() <= i {
+            return sums;
+        }
+        sum = std::num::wrapping_add_u64(sum, wide16(matrix[i]));
+        sums = std::num::wrapping_add_u64(sums, sum);
+        i += 1;
+    }
+    sums
+}
+
+// x in 64 bits.
+fn wide32(x: u32) -> u64 {
+    x as u64
+}
+
+// x in 64 bits.
+fn wide16(x: u16) -> u64 {
+    x as u64
+}

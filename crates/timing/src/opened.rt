@@ -1,0 +1,50 @@
+// The collection that is timed: one lane, room for 1,024 trees and 4,096 splits, 8,192 places, constants that jump about. Its
+// store has 253,960 bytes.
+use crate::lines;
+
+// Opens the collection in the store.
+pub(crate) fn open(s: &mut [u8], names: &[u8]) {
+    let mut first = [0u64; 64];
+    let mut second = [0u64; 64];
+    spread(&mut first, 1);
+    spread(&mut second, 2);
+    open_with(s, names, &first, &second);
+}
+
+// Opens the collection with as many of the constants as there are names.
+fn open_with(s: &mut [u8], names: &[u8], first: &[u64], second: &[u64]) {
+    let n = lines::count_names(names);
+    let k = n as usize;
+    if first.len() < k {
+        return;
+    }
+    if second.len() < k {
+        return;
+    }
+    table::open(s, n, 1, 1024, 4096, 8192, names, &first[..k], &second[..k]);
+}
+
+// Fills a list of constants with numbers below the 8,192 places.
+fn spread(list: &mut [u64], from: u64) {
+    let mut x = from;
+    let mut i = 0;
+    while i < list.len() {
+        x = next(x);
+        list[i] = x % 8192;
+        i += 1;
+    }
+}
+
+// The number behind x, in the sequence of the minimal standard generator.
+fn next(x: u64) -> u64 {
+    x % 2147483647 * 48271 % 2147483647
+}
+
+// The first text, with its semicolon.
+pub(crate) fn first_text(texts: &[u8]) -> &[u8] {
+    let n = lines::place_of(59, texts);
+    if n == texts.len() {
+        return texts;
+    }
+    &texts[..n + 1]
+}
