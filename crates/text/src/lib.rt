@@ -33,11 +33,13 @@ pub enum Read {
     Fault,
 }
 
-// Sets of bytes: bit b for the byte b, and in the last bit b - 64. There are no tables of bytes: each read would make a table anew.
+// The blanks: bit b for the byte b. A set and no table, as each read of a table would build the whole of it.
 const BLANKS: u64 = 0x1_0000_2600;
 
+// The label bytes below 64: bit b for the byte b.
 const LABELS_BELOW_64: u64 = 0xf3ff_ec7e_0000_0000;
 
+// The label bytes from 64 to 127: bit b - 64 for the byte b.
 const LABELS_FROM_64: u64 = 0x7fff_ffff_d7ff_ffff;
 
 // Whether b is a blank.
