@@ -1,4 +1,4 @@
-pub mod Table
+pub mod ByteLaws
 pub mod SymbolLaws
 pub mod AutomatonLaws
 pub mod LengthLaws

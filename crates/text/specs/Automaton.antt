@@ -1,4 +1,4 @@
--- Lengths, read byte by byte: what the reader's two tables hold. That it accepts exactly the lengths of crate trees is a law of the proofs.
+-- Lengths, read byte by byte: the classes of bytes and the moves between them. That this accepts exactly the lengths of crate trees is a law of the proofs.
 --
 --   byteClass b      the class of a byte: 0 a digit, 1 a sign, 2 the point, 3 e or E, 4 any other
 --   move q k         what a length that had come to q comes to with a byte of the class k:

@@ -4,6 +4,7 @@
 ghost use mathlib.Core.Path.{_≡_};
 ghost use Prim.Native.Nat.{_≤_, _<_};
 ghost use lib.ListN.{length};
+ghost use lib.Dec.{eqb};
 ghost use lib.Seq.{slice};
 ghost use Rattle.trees.specs.Text.{kind};
 ghost use Rattle.trees.specs.Length.{isLength};
@@ -32,272 +33,61 @@ pub enum Read {
     Fault,
 }
 
-// The kind of each byte: 0 a blank, 1 a label byte, 2 ( 3 ) 4 , 5 : and 6 any other.
-const KINDS: [u8; 256] = [
-    6,
-    6,
-    6,
-    6,
-    6,
-    6,
-    6,
-    6,
-    6,
-    0,
-    0,
-    6,
-    6,
-    0,
-    6,
-    6,
-    6,
-    6,
-    6,
-    6,
-    6,
-    6,
-    6,
-    6,
-    6,
-    6,
-    6,
-    6,
-    6,
-    6,
-    6,
-    6,
-    0,
-    1,
-    1,
-    1,
-    1,
-    1,
-    1,
-    6,
-    2,
-    3,
-    1,
-    1,
-    4,
-    1,
-    1,
-    1,
-    1,
-    1,
-    1,
-    1,
-    1,
-    1,
-    1,
-    1,
-    1,
-    1,
-    5,
-    6,
-    1,
-    1,
-    1,
-    1,
-    1,
-    1,
-    1,
-    1,
-    1,
-    1,
-    1,
-    1,
-    1,
-    1,
-    1,
-    1,
-    1,
-    1,
-    1,
-    1,
-    1,
-    1,
-    1,
-    1,
-    1,
-    1,
-    1,
-    1,
-    1,
-    1,
-    1,
-    6,
-    1,
-    6,
-    1,
-    1,
-    1,
-    1,
-    1,
-    1,
-    1,
-    1,
-    1,
-    1,
-    1,
-    1,
-    1,
-    1,
-    1,
-    1,
-    1,
-    1,
-    1,
-    1,
-    1,
-    1,
-    1,
-    1,
-    1,
-    1,
-    1,
-    1,
-    1,
-    1,
-    1,
-    1,
-    1,
-    6,
-    6,
-    6,
-    6,
-    6,
-    6,
-    6,
-    6,
-    6,
-    6,
-    6,
-    6,
-    6,
-    6,
-    6,
-    6,
-    6,
-    6,
-    6,
-    6,
-    6,
-    6,
-    6,
-    6,
-    6,
-    6,
-    6,
-    6,
-    6,
-    6,
-    6,
-    6,
-    6,
-    6,
-    6,
-    6,
-    6,
-    6,
-    6,
-    6,
-    6,
-    6,
-    6,
-    6,
-    6,
-    6,
-    6,
-    6,
-    6,
-    6,
-    6,
-    6,
-    6,
-    6,
-    6,
-    6,
-    6,
-    6,
-    6,
-    6,
-    6,
-    6,
-    6,
-    6,
-    6,
-    6,
-    6,
-    6,
-    6,
-    6,
-    6,
-    6,
-    6,
-    6,
-    6,
-    6,
-    6,
-    6,
-    6,
-    6,
-    6,
-    6,
-    6,
-    6,
-    6,
-    6,
-    6,
-    6,
-    6,
-    6,
-    6,
-    6,
-    6,
-    6,
-    6,
-    6,
-    6,
-    6,
-    6,
-    6,
-    6,
-    6,
-    6,
-    6,
-    6,
-    6,
-    6,
-    6,
-    6,
-    6,
-    6,
-    6,
-    6,
-    6,
-    6,
-    6,
-    6,
-    6,
-    6,
-    6,
-    6,
-    6,
-    6,
-    6,
-    6,
-    6,
-    6,
-    6,
-    6,
-];
+// The blanks: bit b for the byte b. A set and no table, as each read of a table would build the whole of it.
+const BLANKS: u64 = 0x1_0000_2600;
 
-// The kind of a byte, as a number.
+// The label bytes below 64: bit b for the byte b.
+const LABELS_BELOW_64: u64 = 0xf3ff_ec7e_0000_0000;
+
+// The label bytes from 64 to 127: bit b - 64 for the byte b.
+const LABELS_FROM_64: u64 = 0x7fff_ffff_d7ff_ffff;
+
+// Whether b is a blank.
+fn is_blank(b: u8) -> bool
+    ensures { λ r. ⌜ r ≡ eqb (kindNo (kind b)) 0 ⌝ }
+{
+    if b < 64 {
+        return (BLANKS >> b) % 2 == 1;
+    }
+    false
+}
+
+// Whether b is a label byte.
+fn is_label_byte(b: u8) -> bool
+    ensures { λ r. ⌜ r ≡ eqb (kindNo (kind b)) 1 ⌝ }
+{
+    if b < 64 {
+        return (LABELS_BELOW_64 >> b) % 2 == 1;
+    }
+    if b < 128 {
+        return (LABELS_FROM_64 >> (b - 64)) % 2 == 1;
+    }
+    false
+}
+
+// The kind of a byte, as a number: 0 a blank, 1 a label byte, 2 ( 3 ) 4 , 5 : and 6 any other. The commonest is tested first.
 fn kind_of(b: u8) -> u8
     ensures { λ r. ⌜ (r ≡ kindNo (kind b)) × (r < 7) ⌝ }
 {
-    let i = b as usize;
-    KINDS[i]
+    if is_label_byte(b) {
+        return 1;
+    }
+    if b == 40 {
+        return 2;
+    }
+    if b == 41 {
+        return 3;
+    }
+    if b == 44 {
+        return 4;
+    }
+    if b == 58 {
+        return 5;
+    }
+    if is_blank(b) {
+        return 0;
+    }
+    6
 }
 
 // Past the blanks from `from` on.
@@ -307,7 +97,7 @@ fn skip_blanks(text: &[u8], from: usize) -> usize
 {
     let mut at = from;
     while at < text.len() {
-        if kind_of(text[at]) != 0 {
+        if !is_blank(text[at]) {
             return at;
         }
         at += 1;
@@ -322,7 +112,7 @@ fn token_end(text: &[u8], from: usize) -> usize
 {
     let mut at = from;
     while at < text.len() {
-        if kind_of(text[at]) != 1 {
+        if !is_label_byte(text[at]) {
             return at;
         }
         at += 1;
@@ -359,330 +149,70 @@ pub fn next_symbol(text: &[u8], from: usize) -> Next
     Next::Stray
 }
 
-// The class of each byte in a length: 0 a digit, 1 a sign, 2 the point, 3 e or E, 4 any other.
-const CLASSES: [u8; 256] = [
-    4,
-    4,
-    4,
-    4,
-    4,
-    4,
-    4,
-    4,
-    4,
-    4,
-    4,
-    4,
-    4,
-    4,
-    4,
-    4,
-    4,
-    4,
-    4,
-    4,
-    4,
-    4,
-    4,
-    4,
-    4,
-    4,
-    4,
-    4,
-    4,
-    4,
-    4,
-    4,
-    4,
-    4,
-    4,
-    4,
-    4,
-    4,
-    4,
-    4,
-    4,
-    4,
-    4,
-    1,
-    4,
-    1,
-    2,
-    4,
-    0,
-    0,
-    0,
-    0,
-    0,
-    0,
-    0,
-    0,
-    0,
-    0,
-    4,
-    4,
-    4,
-    4,
-    4,
-    4,
-    4,
-    4,
-    4,
-    4,
-    4,
-    3,
-    4,
-    4,
-    4,
-    4,
-    4,
-    4,
-    4,
-    4,
-    4,
-    4,
-    4,
-    4,
-    4,
-    4,
-    4,
-    4,
-    4,
-    4,
-    4,
-    4,
-    4,
-    4,
-    4,
-    4,
-    4,
-    4,
-    4,
-    4,
-    4,
-    4,
-    4,
-    3,
-    4,
-    4,
-    4,
-    4,
-    4,
-    4,
-    4,
-    4,
-    4,
-    4,
-    4,
-    4,
-    4,
-    4,
-    4,
-    4,
-    4,
-    4,
-    4,
-    4,
-    4,
-    4,
-    4,
-    4,
-    4,
-    4,
-    4,
-    4,
-    4,
-    4,
-    4,
-    4,
-    4,
-    4,
-    4,
-    4,
-    4,
-    4,
-    4,
-    4,
-    4,
-    4,
-    4,
-    4,
-    4,
-    4,
-    4,
-    4,
-    4,
-    4,
-    4,
-    4,
-    4,
-    4,
-    4,
-    4,
-    4,
-    4,
-    4,
-    4,
-    4,
-    4,
-    4,
-    4,
-    4,
-    4,
-    4,
-    4,
-    4,
-    4,
-    4,
-    4,
-    4,
-    4,
-    4,
-    4,
-    4,
-    4,
-    4,
-    4,
-    4,
-    4,
-    4,
-    4,
-    4,
-    4,
-    4,
-    4,
-    4,
-    4,
-    4,
-    4,
-    4,
-    4,
-    4,
-    4,
-    4,
-    4,
-    4,
-    4,
-    4,
-    4,
-    4,
-    4,
-    4,
-    4,
-    4,
-    4,
-    4,
-    4,
-    4,
-    4,
-    4,
-    4,
-    4,
-    4,
-    4,
-    4,
-    4,
-    4,
-    4,
-    4,
-    4,
-    4,
-    4,
-    4,
-    4,
-    4,
-    4,
-    4,
-    4,
-    4,
-    4,
-    4,
-    4,
-    4,
-    4,
-    4,
-    4,
-    4,
-    4,
-    4,
-    4,
-    4,
-    4,
-    4,
-    4,
-    4,
-    4,
-    4,
-    4,
-    4,
-    4,
-    4,
-];
-
-// What a length has come to, by what it had come to, five classes each.
-const MOVES: [u8; 45] = [
-    2,
-    1,
-    3,
-    8,
-    8,
-    2,
-    8,
-    3,
-    8,
-    8,
-    2,
-    8,
-    4,
-    5,
-    8,
-    4,
-    8,
-    8,
-    8,
-    8,
-    4,
-    8,
-    8,
-    5,
-    8,
-    7,
-    6,
-    8,
-    8,
-    8,
-    7,
-    8,
-    8,
-    8,
-    8,
-    7,
-    8,
-    8,
-    8,
-    8,
-    8,
-    8,
-    8,
-    8,
-    8,
-];
-
-// The class of a byte in a length.
+// The class of a byte in a length: 0 a digit, 1 a sign, 2 the point, 3 e or E, 4 any other.
 fn class_of(b: u8) -> u8
     ensures { λ r. ⌜ (r ≡ byteClass b) × (r < 5) ⌝ }
 {
-    let i = b as usize;
-    CLASSES[i]
+    if b < 48 {
+        return sign_or_point(b);
+    }
+    if b < 58 {
+        return 0;
+    }
+    if b == 69 {
+        return 3;
+    }
+    if b == 101 {
+        return 3;
+    }
+    4
 }
+
+// The class of a byte below the digits.
+fn sign_or_point(b: u8) -> u8
+    requires { ⌜ b < 48 ⌝ }
+    ensures { λ r. ⌜ (r ≡ byteClass b) × (r < 5) ⌝ }
+{
+    if b == 46 {
+        return 2;
+    }
+    if b == 43 {
+        return 1;
+    }
+    if b == 45 {
+        return 1;
+    }
+    4
+}
+
+// What a length comes to with a byte of a class below 4: four bits for each number that it may have come to, that of 0 lowest.
+const WITH_DIGIT: u64 = 0x8_7774_4222;
+
+const WITH_SIGN: u64 = 0x8_8868_8881;
+
+const WITH_POINT: u64 = 0x8_8888_8433;
+
+const WITH_E: u64 = 0x8_8885_8588;
 
 // What a length that had come to q comes to with a byte of the class k.
 fn move_of(q: u8, k: u8) -> u8
     requires { ⌜ (q < 9) × (k < 5) ⌝ }
     ensures { λ r. ⌜ (r ≡ moveNo q k) × (r < 9) ⌝ }
 {
-    let i = (q as usize) * 5 + (k as usize);
-    MOVES[i]
+    let s = 4 * q;
+    if k == 0 {
+        return ((WITH_DIGIT >> s) % 16) as u8;
+    }
+    if k == 1 {
+        return ((WITH_SIGN >> s) % 16) as u8;
+    }
+    if k == 2 {
+        return ((WITH_POINT >> s) % 16) as u8;
+    }
+    if k == 3 {
+        return ((WITH_E >> s) % 16) as u8;
+    }
+    8
 }
 
 // Whether the token from b up to e is a length.

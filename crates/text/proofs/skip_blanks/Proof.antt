@@ -1,12 +1,11 @@
 -- `text::skip_blanks` meets its contract. Assumes nothing.
-use Prim.Native.Nat.{ℕ, _≤_, _<_, _-_, _+_}
+use Prim.Native.Nat.{_-_}
 use native.Mathlib.Omega.{arith}
 use borrow.Author.Needs.{needs}
-use mathlib.Core.Path.{_≡_, refl, sym, ap, _∙_}
-use lib.ListN.{length, getD}
-use Rattle.trees.specs.Text.{Kind, kind, label, blank}
-use Rattle.text.specs.Read.{kindNo, Skipped, RunEnd}
-use Rattle.text.proofs.SymbolLaws.{kind-is, kindOf, Blanks, blanks-none, blanks-more}
+use borrow.Author.Tests.{eqb-true, eqb-false, not-true, not-false}
+use mathlib.Core.Path.{sym, _∙_}
+use lib.ListN.{length}
+use Rattle.text.proofs.SymbolLaws.{kind-is, Blanks, blanks-none, blanks-more}
 use Rattle.text.proofs.skip_blanks.Statement.{statement}
 use Rattle.text.proofs.skip_blanks.Tie as tie
 
@@ -19,14 +18,14 @@ abbrev μ-loop : tie.MeasureT-loop
 loop-holds : tie.Need-loop-holds Inv-loop μ-loop
 loop-holds c = blanks-none _ _ (search needs)
 
-shared-slice-read-kind-of : tie.Need-shared-slice-read-kind-of Inv-loop μ-loop
-shared-slice-read-kind-of c = search needs
+shared-slice-read-is-blank : tie.Need-shared-slice-read-is-blank Inv-loop μ-loop
+shared-slice-read-is-blank c = search needs
 
-kind-of-requires : tie.Need-kind-of-requires Inv-loop μ-loop
-kind-of-requires c κs = search needs
+is-blank-requires : tie.Need-is-blank-requires Inv-loop μ-loop
+is-blank-requires c κs = search needs
 
 returns : tie.Need-returns Inv-loop μ-loop
-returns c = record { past = search needs; within = search needs; tokens = c .before .before .before .before .loop .inv .tokens; stop = λ _ e. c .if1 .taken (c .before .kind-of .ensures .0 ∙ e) }
+returns c = record { past = search needs; within = search needs; tokens = c .before .before .before .before .loop .inv .tokens; stop = λ _ e. eqb-false _ 0 (sym (c .before .is-blank .ensures) ∙ not-true _ (c .if1 .taken)) e }
 
 add-at : tie.Need-add-at Inv-loop μ-loop
 add-at c = search needs
@@ -35,7 +34,7 @@ loop-less : tie.Need-loop-less Inv-loop μ-loop
 loop-less c = search needs
 
 loop-again : tie.Need-loop-again Inv-loop μ-loop
-loop-again c = blanks-more _ _ _ (c .before .before .before .before .loop .inv) (search needs) (kind-is _ (c .before .kind-of .ensures .0) (c .before .kind-of .ensures .1) ∙ ap kindOf (c .if1 .left))
+loop-again c = blanks-more _ _ _ (c .before .before .before .before .loop .inv) (search needs) (kind-is 0 (sym (eqb-true _ 0 (sym (c .before .is-blank .ensures) ∙ not-false _ (c .if1 .left)))) (omega arith))
 
 returns-2 : tie.Need-returns-2 Inv-loop μ-loop
 returns-2 c = record { past = search needs; within = search needs; tokens = c .before .loop .inv .tokens; stop = λ h _. omega arith }
@@ -47,8 +46,8 @@ skip-blanks-spec =
     Inv-loop
     μ-loop
     loop-holds
-    shared-slice-read-kind-of
-    kind-of-requires
+    shared-slice-read-is-blank
+    is-blank-requires
     returns
     add-at
     loop-less

@@ -1,12 +1,12 @@
 -- `text::token_end` meets its contract. Assumes nothing.
-use Prim.Native.Nat.{ℕ, _≤_, _<_, _-_, _+_}
+use Prim.Native.Nat.{_-_}
 use native.Mathlib.Omega.{arith}
 use borrow.Author.Needs.{needs}
-use mathlib.Core.Path.{_≡_, refl, sym, ap, _∙_}
-use lib.ListN.{length, getD}
-use Rattle.trees.specs.Text.{Kind, kind, label, blank}
-use Rattle.text.specs.Read.{kindNo, Skipped, RunEnd}
-use Rattle.text.proofs.SymbolLaws.{kind-is, kindOf, Run, run-none, run-more, run-stop, run-end}
+use borrow.Author.Tests.{eqb-true, eqb-false, not-true, not-false}
+use mathlib.Core.Path.{sym, ap, _∙_}
+use lib.ListN.{length}
+use Rattle.text.specs.Read.{kindNo}
+use Rattle.text.proofs.SymbolLaws.{kind-is, Run, run-none, run-more, run-stop, run-end}
 use Rattle.text.proofs.token_end.Statement.{statement}
 use Rattle.text.proofs.token_end.Tie as tie
 
@@ -19,14 +19,14 @@ abbrev μ-loop : tie.MeasureT-loop
 loop-holds : tie.Need-loop-holds Inv-loop μ-loop
 loop-holds c = run-none _ _ (search needs)
 
-shared-slice-read-kind-of : tie.Need-shared-slice-read-kind-of Inv-loop μ-loop
-shared-slice-read-kind-of c = search needs
+shared-slice-read-is-label-byte : tie.Need-shared-slice-read-is-label-byte Inv-loop μ-loop
+shared-slice-read-is-label-byte c = search needs
 
-kind-of-requires : tie.Need-kind-of-requires Inv-loop μ-loop
-kind-of-requires c κs = search needs
+is-label-byte-requires : tie.Need-is-label-byte-requires Inv-loop μ-loop
+is-label-byte-requires c κs = search needs
 
 returns : tie.Need-returns Inv-loop μ-loop
-returns c = run-stop _ _ _ (c .before .before .before .before .loop .inv) (search needs) (λ e. c .if1 .taken (c .before .kind-of .ensures .0 ∙ ap kindNo e))
+returns c = run-stop _ _ _ (c .before .before .before .before .loop .inv) (search needs) (λ e. eqb-false _ 1 (sym (c .before .is-label-byte .ensures) ∙ not-true _ (c .if1 .taken)) (ap kindNo e))
 
 add-at : tie.Need-add-at Inv-loop μ-loop
 add-at c = search needs
@@ -35,7 +35,7 @@ loop-less : tie.Need-loop-less Inv-loop μ-loop
 loop-less c = search needs
 
 loop-again : tie.Need-loop-again Inv-loop μ-loop
-loop-again c = run-more _ _ _ (c .before .before .before .before .loop .inv) (search needs) (kind-is _ (c .before .kind-of .ensures .0) (c .before .kind-of .ensures .1) ∙ ap kindOf (c .if1 .left))
+loop-again c = run-more _ _ _ (c .before .before .before .before .loop .inv) (search needs) (kind-is 1 (sym (eqb-true _ 1 (sym (c .before .is-label-byte .ensures) ∙ not-false _ (c .if1 .left)))) (omega arith))
 
 returns-2 : tie.Need-returns-2 Inv-loop μ-loop
 returns-2 c = run-end _ _ _ (c .before .loop .inv) (search needs)
@@ -47,8 +47,8 @@ token-end-spec =
     Inv-loop
     μ-loop
     loop-holds
-    shared-slice-read-kind-of
-    kind-of-requires
+    shared-slice-read-is-label-byte
+    is-label-byte-requires
     returns
     add-at
     loop-less
