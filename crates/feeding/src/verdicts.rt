@@ -82,7 +82,7 @@ fn judge_lane(
 }
 
 // The refusal with the number k of a text's own verdict.
-fn refusal_of(k: u64) -> Refusal
+fn refusal_of(k: u32) -> Refusal
     requires { ⌜ (7 ≤ k) × (k ≤ 10) ⌝ }
     ensures { λ r. ⌜ refusalNumber r ≡ k ⌝ }
 {

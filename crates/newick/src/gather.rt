@@ -12,13 +12,12 @@ ghost use lib.Seq.{slice, sets};
 ghost use Rattle.head.specs.Head.{openingAt};
 ghost use Rattle.newick.specs.Gather.{Prepared, Ready, leavesOf, LeafTaken, NodeGot, NodesGot};
 
-// Where a reader stands: in the text and in the list of records; the taxa seen so far, and the first fault of a leaf or 0
-// (in 64 bits: a field of 32 is stored and read again in different widths, and each time the processor waits).
+// Where a reader stands: in the text and in the list of records; the taxa seen so far, and the first fault of a leaf or 0.
 pub struct Mark {
     pub at: usize,
     pub used: usize,
     pub seen: u64,
-    pub fault: u64,
+    pub fault: u32,
 }
 
 // Of the leaves of some nodes: their taxa, and the sums of their constants.
@@ -32,7 +31,7 @@ pub struct Sums {
 pub struct Leaf {
     pub sums: Sums,
     pub seen: u64,
-    pub fault: u64,
+    pub fault: u32,
 }
 
 // One node and what was gathered from it, or a fault of form.

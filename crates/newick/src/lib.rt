@@ -20,7 +20,7 @@ mod splits;
 
 // The verdict on a text: the number of its refusal, or how many splits it has.
 pub enum Judged {
-    Refused(u64),
+    Refused(u32),
     Splits(usize),
 }
 

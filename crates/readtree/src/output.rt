@@ -60,7 +60,7 @@ fn judged(lent: &[u8], text: &[u8])
     let mut identifiers = [0u64; 64];
     let v = newick::judge(lent, text, &mut list, &mut places, &mut identifiers);
     match v {
-        Judged::Refused(k) => refused(k),
+        Judged::Refused(k) => refused(k as u64),
         Judged::Splits(k) => splits(&list, &places, &identifiers, k),
     }
 }
