@@ -2,17 +2,19 @@
 --
 --   on-without, without-on             the taxa of a that are not in b, one by one
 --   without-twice                      without what is not in b, the common ones are left
+--   rest-less                          without its lowest taxon, a mask is a lesser number
 --   part-none, part-more, part-all     one turn of the loop that makes a union
-use Prim.Native.Nat.{ℕ, _^_}
+use Prim.Native.Nat.{ℕ, _-_, _^_, _<_}
 use native.Mathlib.Omega.{arith}
-use mathlib.Core.Path.{_≡_}
+use mathlib.Core.Path.{_≡_, ap, sym, subst, _∙_}
 use mathlib.Core.Logic.{_⊎_, inl, inr}
 use mathlib.Core.List.{List}
 use lib.Bits.{bitAnd, bitOr}
 use lib.ListN.{getD}
+use lib.Pow.{pow-pos}
 use Rattle.trees.specs.Mask.{without, lowest}
 use Rattle.theorems.specs.BitLaws.{On, on?, Sub, ext, and-on, on-and, on-or-l, on-or-r, or-on, off-zero, only-on}
-use Rattle.theorems.specs.MaskLaws.{others-on, on-others}
+use Rattle.theorems.specs.MaskLaws.{others-on, on-others, others-xor, without-sub}
 use Rattle.theorems.specs.WidestLaws.{lowest-on}
 use Rattle.store.specs.Outer.{UnionAt, PartAt}
 
@@ -39,6 +41,21 @@ without-twice a b = ext (without a (without a b)) (bitAnd a b) (λ i o. go i (wi
 
     back : Sub (bitAnd a b) (without a (without a b))
     back i o = let h = and-on a b i o in on-without a (without a b) i (h .0) (λ k. without-on a b i k .1 (h .1))
+
+-- ---- the lowest taxon taken away
+
+lowest-sub : (m : ℕ) → 0 < m → Sub (2 ^ lowest m) m
+lowest-sub m h i o = subst (λ (k : ℕ). On m k) (only-on (lowest m) i o) (lowest-on m h)
+
+lowest-taken : (m : ℕ) → 0 < m → without m (2 ^ lowest m) ≡ m - 2 ^ lowest m
+lowest-taken m h = without-sub m (2 ^ lowest m) (lowest-sub m h) ∙ sym (others-xor m (2 ^ lowest m) (lowest-sub m h))
+
+-- one turn of a loop: i is the lowest taxon of the rest, x its mask, y what is left
+pub rest-less : (rest i x y : ℕ) → (rest ≡ 0 → ⊥) → i ≡ lowest rest → x ≡ 2 ^ i → y ≡ without rest x → y < rest
+rest-less rest i x y h e p q =
+    let s : 0 < rest = omega (arith, h) in
+    let l = q ∙ ap (without rest) (p ∙ ap (λ (k : ℕ). 2 ^ k) e) ∙ lowest-taken rest s in
+    omega (arith, l, pow-pos (lowest rest))
 
 -- ---- one turn of the loop that makes a union
 

@@ -1,9 +1,8 @@
 -- `store::lists::union_at` meets its contract. The loop's invariant: the union so far lacks only the masks at the rest. Assumes nothing.
 use native.Mathlib.Omega.{arith}
 use borrow.Author.Needs.{needs}
-use Rattle.store.specs.SumLaws.{turn-less}
 use Rattle.store.specs.Outer.{PartAt}
-use Rattle.store.specs.UnionLaws.{part-none, part-more, part-all}
+use Rattle.store.specs.UnionLaws.{rest-less, part-none, part-more, part-all}
 use Rattle.store.proofs.lists.union_at.Statement.{statement}
 use Rattle.store.proofs.lists.union_at.Tie as tie
 
@@ -16,7 +15,7 @@ abbrev μ-loop : tie.MeasureT-loop
 loop-less : tie.Need-loop-less Inv-loop μ-loop
 loop-less c =
     let d = c .before .before .before .before .before in
-    turn-less _ _ _ _ (d .before .loop-test .taken) (d .lowest-taxon .ensures .0) (c .before .only-taxon .ensures) (c .taxa-without .ensures)
+    rest-less _ _ _ _ (d .before .loop-test .taken) (d .lowest-taxon .ensures .0) (c .before .only-taxon .ensures) (c .taxa-without .ensures)
 
 loop-again : tie.Need-loop-again Inv-loop μ-loop
 loop-again c =
