@@ -21,7 +21,7 @@ pub const CHANGES: [Change; 9] = [
 ];
 
 /// Nearly always no whole store, for one reason.
-pub const FAULTS: [Change; 27] = [
+pub const FAULTS: [Change; 28] = [
     name_repeated,
     name_empty,
     name_with_any_byte,
@@ -49,6 +49,7 @@ pub const FAULTS: [Change; 27] = [
     no_such_row,
     lane_too_long,
     split_counted_and_not_listed,
+    tree_past_the_room,
 ];
 
 fn some_index(random: &mut Random, long: usize) -> Option<usize> {
@@ -251,6 +252,13 @@ fn split_counted_and_not_listed(random: &mut Random, parts: &mut Parts) {
     if let Some(tree) = some_index(random, parts.lists.len()) {
         parts.lists[tree].pop();
     }
+}
+
+/// Trees without splits, one more than the room: it lies where the masks would.
+fn tree_past_the_room(_: &mut Random, parts: &mut Parts) {
+    parts.masks.clear();
+    parts.lists = vec![Vec::new(); parts.numbers.tree_room as usize + 1];
+    parts.derive();
 }
 
 // Faults of what hangs on masks and lists

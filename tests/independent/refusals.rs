@@ -189,10 +189,12 @@ fn answers_with_lengths(held: &Collection) -> Vec<(String, usize)> {
     out
 }
 
-/// Three texts and the beginning of a fourth, with room for two and for three verdicts.
+/// The end of a text, two texts and the beginning of another, with room for two and for three verdicts.
 fn batches_with_rooms(maker: &mut Maker) {
     let lane = maker.random.below(maker.numbers.lanes as usize) as u64;
     let piece = b"x;;(;\n";
+    maker.feed(lane, b" (");
+    maker.peek();
     for room in [0, 1, 2] {
         maker.ask(format!("room {room}"));
         maker.watched(format!("batch {lane} {}", hex(piece)));
