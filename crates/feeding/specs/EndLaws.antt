@@ -1,20 +1,22 @@
 -- Laws of a piece's semicolons, a byte at a time. Assumes nothing.
 --
 --   end-here, end-more, end-none     how many bytes stand before the first semicolon
+--   end-skip           a run without a semicolon stands before the first one
+--   found-here, found-more, found-none     whether there is a semicolon, so far and in the rest
 --   before-take        the bytes before it are the piece's first
 --   ended, unended, end-inside, end-all     a piece has a semicolon exactly where they are not all
 --   texts-here, texts-more, texts-none     how many semicolons there are
 --   one-text           behind the first text there is one fewer
 --   no-text            a piece without a semicolon has none
-use Prim.Native.Nat.{ℕ, suc, _+_, _≤_, _<_}
+use Prim.Native.Nat.{ℕ, zero, suc, _+_, _-_, _≤_, _<_}
 use native.Mathlib.Numerals.{add-one}
 use native.Mathlib.Omega.{arith}
 use mathlib.Core.Path.{_≡_, refl, sym, ap, _∙_}
 use mathlib.Core.Bool.{Bool, true, false, _||_, true≢false}
 use mathlib.Core.List.{List, [], _∷_}
 use lib.Dec.{eqb}
-use lib.ListN.{length, getD, take, drop, drop-of-length-le}
-use lib.Seq.{drop-cons}
+use lib.ListN.{length, getD, take, drop, length-drop, drop-of-length-le}
+use lib.Seq.{drop-cons, drop-drop}
 use borrow.Author.Tests.{eqb-true, eqb-false, eq-eqb, ne-eqb}
 use Rattle.trees.specs.Plain.{if_then_else_, keep, member}
 use Rattle.trees.specs.Held.{beforeSemicolon}
@@ -38,6 +40,66 @@ module _ (p : List ℕ) (i : ℕ) where
   unfolding beforeSemicolon
   end-none h = rw (drop-of-length-le p h)
 
+eqb-flip : (a b : ℕ) → eqb a b ≡ eqb b a
+eqb-flip a b = go (eqb b a) refl
+  where
+    go : (t : Bool) → eqb b a ≡ t → eqb a b ≡ t
+    go true e = eq-eqb a b (sym (eqb-true b a e))
+    go false e = ne-eqb a b (λ q. eqb-false b a e (sym q))
+
+-- a run without a semicolon, at the front of a piece
+front-skip : (n : ℕ) (p : List ℕ) → n ≤ length p → member 59 (take n p) ≡ false → length (beforeSemicolon p) ≡ n + length (beforeSemicolon (drop n p))
+unfolding beforeSemicolon member
+front-skip zero p h e = omega arith
+front-skip (suc n) [] h e = absurd (omega arith)
+front-skip (suc n) (b ∷ p) h e = go (eqb b 59) (front-skip n p (omega arith)) (rw (eqb-flip 59 b) at e)
+  where
+    go : (t : Bool) → (member 59 (take n p) ≡ false → length (beforeSemicolon p) ≡ n + length (beforeSemicolon (drop n p)))
+        → (t || member 59 (take n p)) ≡ false
+        → length (if t then [] else b ∷ beforeSemicolon p) ≡ suc n + length (beforeSemicolon (drop n p))
+    go true f q = absurd (true≢false q)
+    go false f q = omega (arith, f q)
+
+pub end-skip : (p : List ℕ) (i j : ℕ) → i ≤ j → j ≤ length p → member 59 (take (j - i) (drop i p)) ≡ false
+    → i + length (beforeSemicolon (drop i p)) ≡ j + length (beforeSemicolon (drop j p))
+end-skip p i j h g e =
+    let l = length-drop i p in
+    let n : i + (j - i) ≡ j = omega arith in
+    let q : drop (j - i) (drop i p) ≡ drop j p = drop-drop (j - i) i p ∙ ap (λ (k : ℕ). drop k p) n in
+    let f = front-skip (j - i) (drop i p) (omega arith) e in
+    let r = ap (λ (s : List ℕ). length (beforeSemicolon s)) q in
+    omega arith
+
+-- ---- whether there is a semicolon
+
+or-true : (t : Bool) → (t || true) ≡ true
+or-true true = refl
+or-true false = refl
+
+or-false : (t : Bool) → (t || false) ≡ t
+or-false true = refl
+or-false false = refl
+
+module _ (p : List ℕ) (i : ℕ) where
+  member-cons : i < length p → member 59 (drop i p) ≡ (eqb 59 (getD p i 0) || member 59 (drop (i + 1) p))
+  unfolding member
+  member-cons h = rw (drop-cons p i 0 h, add-one i)
+
+  -- t says whether there is one among the first i
+  module _ (t : Bool) (f : (t || member 59 (drop i p)) ≡ member 59 p) where
+    pub found-here : i < length p → getD p i 0 ≡ 59 → member 59 p ≡ true
+    found-here h e = sym f ∙ ap (λ (u : Bool). t || u) (member-cons h ∙ ap (λ (u : Bool). u || member 59 (drop (i + 1) p)) (eq-eqb _ _ (sym e))) ∙ or-true t
+
+    pub found-more : i < length p → (getD p i 0 ≡ 59 → ⊥) → (t || member 59 (drop (i + 1) p)) ≡ member 59 p
+    found-more h e =
+        ap (λ (u : Bool). t || u) (sym (member-cons h ∙ ap (λ (u : Bool). u || member 59 (drop (i + 1) p)) (ne-eqb _ _ (λ q. e (sym q))))) ∙ f
+
+    pub found-none : length p ≤ i → t ≡ member 59 p
+    unfolding member
+    found-none h = sym (or-false t) ∙ (rw (drop-of-length-le p h) at f)
+
+-- ---- all before the first semicolon
+
 pub before-take : (p : List ℕ) → take (length (beforeSemicolon p)) p ≡ beforeSemicolon p
 unfolding beforeSemicolon
 before-take [] = refl
@@ -47,13 +109,6 @@ before-take (b ∷ p) = go (eqb b 59) (before-take p)
         → take (length (if t then [] else b ∷ beforeSemicolon p)) (b ∷ p) ≡ (if t then [] else b ∷ beforeSemicolon p)
     go true e = refl
     go false e = ap (λ (l : List ℕ). b ∷ l) e
-
-eqb-flip : (a b : ℕ) → eqb a b ≡ eqb b a
-eqb-flip a b = go (eqb b a) refl
-  where
-    go : (t : Bool) → eqb b a ≡ t → eqb a b ≡ t
-    go true e = eq-eqb a b (sym (eqb-true b a e))
-    go false e = ne-eqb a b (λ q. eqb-false b a e (sym q))
 
 pub unended : (p : List ℕ) → length (beforeSemicolon p) ≡ length p → member 59 p ≡ false
 unfolding beforeSemicolon member

@@ -2,8 +2,9 @@
 ghost use mathlib.Core.Path.{_≡_};
 ghost use mathlib.Core.Bool.{true};
 ghost use mathlib.Core.List.{_++_};
-ghost use Prim.Native.Nat.{_≤_, _<_};
+ghost use Prim.Native.Nat.{_+_, _≤_, _<_};
 ghost use lib.ListN.{length, drop};
+ghost use Rattle.trees.specs.Plain.{member};
 ghost use Rattle.trees.specs.Held.{beforeSemicolon};
 ghost use Rattle.trees.specs.Batch.{semicolons, batching};
 ghost use Rattle.head.specs.Head.{numbersAt, namesAt};
@@ -52,7 +53,7 @@ fn text_end(piece: &[u8]) -> usize
     ensures { λ r. ⌜ r ≡ length (beforeSemicolon (now (piece .entry))) ⌝ }
     ensures { λ r. ⌜ r ≤ length (now (piece .entry)) ⌝ }
 {
-    let mut i = 0;
+    let mut i = skip_blocks(piece);
     while i < piece.len() {
         if piece[i] == 59 {
             return i;
@@ -60,6 +61,37 @@ fn text_end(piece: &[u8]) -> usize
         i += 1;
     }
     i
+}
+
+// How many bytes stand in the blocks of 64 before the first that has a semicolon or is not whole.
+fn skip_blocks(piece: &[u8]) -> usize
+    ensures { λ r. ⌜ r ≤ length (now (piece .entry)) ⌝ }
+    ensures { λ r. ⌜ r + length (beforeSemicolon (drop r (now (piece .entry)))) ≡ length (beforeSemicolon (now (piece .entry))) ⌝ }
+{
+    let mut at = 0;
+    while 64 <= piece.len() - at {
+        let ends = has_semicolon(&piece[at..at + 64]);
+        if ends {
+            return at;
+        }
+        at += 64;
+    }
+    at
+}
+
+// Whether a piece has a semicolon. All bytes are looked at, without a branch, so that many are compared at once.
+fn has_semicolon(piece: &[u8]) -> bool
+    ensures { λ r. ⌜ r ≡ member 59 (now (piece .entry)) ⌝ }
+{
+    let mut found = false;
+    let mut i = 0;
+    while i < piece.len() {
+        if piece[i] == 59 {
+            found = true;
+        }
+        i += 1;
+    }
+    found
 }
 
 // How many semicolons a piece has.

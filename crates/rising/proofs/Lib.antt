@@ -1,2 +1,2 @@
-pub mod HalvingLaws
+pub mod SkippingLaws
 pub mod MovingLaws

@@ -2,6 +2,7 @@
 use Prim.Native.Nat.{_+_, _≤_, _-_}
 use mathlib.Core.Path.{_≡_}
 use native.Mathlib.Omega.{arith}
+use borrow.Author.Needs.{needs}
 use lib.ListN.{length, drop}
 use Rattle.trees.specs.Held.{beforeSemicolon}
 use Rattle.feeding.specs.EndLaws.{end-here, end-more, end-none}
@@ -17,21 +18,21 @@ abbrev μ-loop : tie.MeasureT-loop
 returns : tie.Need-returns Inv-loop μ-loop
 returns c =
     let l = c .before .before .before .loop in
-    let a = c .before .before .before .before .args in
+    let a = c .before .before .before .before .before .before .args in
     let e = end-here (a .piece .now) (l .i) (omega arith) (c .if1 .taken) in
     (omega (arith, e, l .inv .1), omega arith)
 
 loop-again : tie.Need-loop-again Inv-loop μ-loop
 loop-again c =
     let l = c .before .before .before .loop in
-    let a = c .before .before .before .before .args in
+    let a = c .before .before .before .before .before .before .args in
     let e = end-more (a .piece .now) (l .i) (omega arith) (c .if1 .left) in
     (omega arith, omega (arith, e, l .inv .1))
 
 returns-2 : tie.Need-returns-2 Inv-loop μ-loop
 returns-2 c =
     let l = c .before .loop in
-    let a = c .before .before .args in
+    let a = c .before .before .before .before .args in
     let e = end-none (a .piece .now) (l .i) (omega arith) in
     (omega (arith, e, l .inv .1), omega arith)
 
@@ -41,7 +42,8 @@ text-end-spec =
     (tie.spec
     Inv-loop
     μ-loop
-    (λ c. (omega arith, omega arith))
+    (λ c κs. search needs)
+    (λ c. c .skip-blocks .ensures)
     (λ c. omega arith)
     returns
     (λ c. omega arith)
