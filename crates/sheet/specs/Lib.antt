@@ -1,0 +1,3 @@
+-- What the summary program prints, how its input is taken in pieces, and the laws of both.
+pub mod Sheet
+pub mod Summary
