@@ -1,1 +1,2 @@
 // The summary sheet.
+mod writing;
