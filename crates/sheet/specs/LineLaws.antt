@@ -3,10 +3,13 @@
 --   put-as                          the same bytes, under another name
 --   counts-put, split-put           the line of counts, and that of a split
 --   cell s i j                      the digits of the distance of the trees i and j
---   row-first, row-more, row-put    a row of distances, word by word
+--   rest f j                        the words of a row behind its first, when j are there
+--   row-none, row-more, row-put     a row of distances, word by word
 --   answer-shown, answer-text       a tree that a call answered
 --   majority-shown, majority-put    the majority tree
 --   strict-shown, strict-put        the strict tree
+--   shown-word, shown-alone, shown-fits     what of it is short
+--   answer-given, answer-none       it is the text, or `none`
 use Prim.Native.Nat.{ℕ, zero, suc, _+_, _≤_, _<_}
 use Prim.Native.String.{String}
 use native.Mathlib.Numerals.{add-one}
@@ -16,7 +19,7 @@ use mathlib.Core.Bool.{Bool, true, false}
 use mathlib.Core.List.{List, [], _∷_, _++_, map, append-assoc, append-nil}
 use lib.Dec.{eqb}
 use lib.ListN.{length, take, drop, length-append}
-use lib.Seq.{take-at}
+use lib.Seq.{take-at, drop-append-le}
 use borrow.Author.Tests.{le-ltb}
 use Rattle.trees.specs.Plain.{if_then_else_, Answer, refused, gives}
 use Rattle.trees.specs.Samples.{bytes}
@@ -40,6 +43,7 @@ use Rattle.store.specs.WholeFacts.{whole-at-facts}
 use Rattle.store.specs.UpToLaws.{upTo-more}
 use Rattle.store.specs.RecordedAtLaws.{held-trees, trees-length, recorded-length}
 use Rattle.store.specs.HeldWholeLaws.{held-numbers, opening-facts}
+use Rattle.table.specs.declared.Refusal.{Refusal}
 use Rattle.table.specs.declared.Number.{Number}
 use Rattle.table.specs.declared.Number.the-variants as number
 use Rattle.table.specs.Answers.{numberGiven}
@@ -47,7 +51,7 @@ use Rattle.table.specs.Promises.{lengthGiven, front}
 use Rattle.table.specs.CountsLaws.{row-count, split-count}
 use Rattle.table.specs.QuestionLaws.{when-whole}
 use Rattle.writer.specs.Branch.{Put}
-use Rattle.writer.specs.PutLaws.{put-then}
+use Rattle.writer.specs.PutLaws.{put-none, put-then}
 use Rattle.consensus.specs.Consensus.{strictAsked, majorityAsked}
 use Rattle.consensus.specs.FewLaws.{trees-good}
 use Rattle.sheet.specs.Sheet.{digitsOf, spaced, fields, lineOf, countsLine, splitLine, rowLine, treeLine, majorityLine, strictLine}
@@ -132,18 +136,32 @@ unfolding fields
 fields-more [] w h = absurd (omega arith)
 fields-more (v ∷ ws) w h = ap (λ (x : List ℕ). v ++ x) (spaced-more ws w) ∙ sym (append-assoc v (spaced ws) (32 ∷ w))
 
-module _ (s : List ℕ) (i : ℕ) where
-  pub row-first : (d : ℕ) → d ≡ doubled (treeAt s i) (treeAt s 0) → {l after : List ℕ} {z : ℕ} → Put l 0 (digitsOf d) after z
-      → Put l 0 (fields (upTo (cell s i) 1)) after z
-  unfolding fields spaced upTo fromTo cell
-  row-first d e p = put-as (ap digitsOf e ∙ sym (append-nil (digitsOf (doubled (treeAt s i) (treeAt s 0))))) p
+-- the words of a row behind its first, when j are there
+unfoldable pub rest : (ℕ → List ℕ) → ℕ → List ℕ
+unfolding spaced upTo
+rest f j = spaced (drop 1 (upTo f j))
 
-  pub row-more : (j d : ℕ) → 1 ≤ j → d ≡ doubled (treeAt s i) (treeAt s j) → {l k after : List ℕ} {a z : ℕ}
-      → Put l 0 (fields (upTo (cell s i) j)) k a → Put k a (32 ∷ digitsOf d) after z
-      → Put l 0 (fields (upTo (cell s i) (j + 1))) after z
-  unfolding cell
+rest-more : (f : ℕ → List ℕ) (j : ℕ) → 1 ≤ j → rest f j ++ (32 ∷ f j) ≡ rest f (j + 1)
+rest-more f j h = sym (rest-is (j + 1) ∙ rw (add-one j, upTo-more f j, drop-append-le 1 (upTo f j) (f j ∷ []) (omega (arith, upTo-length f j))) (spaced-more (drop 1 (upTo f j)) (f j)) ∙ ap (λ (v : List ℕ). v ++ (32 ∷ f j)) (sym (rest-is j)))
+  where
+    rest-is : (i : ℕ) → rest f i ≡ spaced (drop 1 (upTo f i))
+    rest-is i = unfold rest spaced upTo in refl
+
+rest-all : (f : ℕ → List ℕ) (n : ℕ) → 1 ≤ n → f 0 ++ rest f n ≡ fields (upTo f n)
+unfolding rest fields upTo fromTo
+rest-all f zero h = absurd (omega arith)
+rest-all f (suc n) h = refl
+
+module _ (s : List ℕ) (i : ℕ) where
+  pub row-none : (l : List ℕ) (a : ℕ) → Put l a (rest (cell s i) 1) l a
+  unfolding rest spaced upTo fromTo
+  row-none l a = put-none l a
+
+  pub row-more : (j d : ℕ) → 1 ≤ j → d ≡ doubled (treeAt s i) (treeAt s j) → {l k after : List ℕ} {a b z : ℕ}
+      → Put l a (rest (cell s i) j) k b → Put k b (32 ∷ digitsOf d) after z → Put l a (rest (cell s i) (j + 1)) after z
   row-more j d h e p q =
-      put-as (rw (e, add-one j, upTo-more (cell s i) j) (sym (fields-more (upTo (cell s i) j) (cell s i j) (omega (arith, upTo-length (cell s i) j))))) (put-then p q)
+      let c : digitsOf d ≡ cell s i j = unfold cell digitsOf in ap digitsOf e in
+      put-as (ap (λ (v : List ℕ). rest (cell s i) j ++ (32 ∷ v)) c ∙ rest-more (cell s i) j h) (put-then p q)
 
   row-is : (h : Held) → rowLine h (treeAt s i) ≡ fields (map (λ u. digitsOf (doubled (treeAt s i) u)) (h .trees)) ++ 10 ∷ []
   unfolding rowLine lineOf fields
@@ -156,9 +174,13 @@ module _ (s : List ℕ) (i : ℕ) where
   row-held : fields (upTo (cell s i) (treesHeldAt s)) ++ 10 ∷ [] ≡ rowLine (heldAt s) (treeAt s i)
   row-held = sym (row-is (heldAt s) ∙ ap (λ (ws : List (List ℕ)). fields ws ++ 10 ∷ []) row-cells)
 
-  pub row-put : (n : ℕ) → n ≡ treesHeldAt s → {l k after : List ℕ} {a z : ℕ} → Put l 0 (fields (upTo (cell s i) n)) k a → Put k a (10 ∷ []) after z
+  pub row-put : (n d : ℕ) → n ≡ treesHeldAt s → 1 ≤ n → d ≡ doubled (treeAt s i) (treeAt s 0) → {l j k after : List ℕ} {a b z : ℕ}
+      → Put l 0 (digitsOf d) j a → Put j a (rest (cell s i) n) k b → Put k b (10 ∷ []) after z
       → Put l 0 (rowLine (heldAt s) (treeAt s i)) after z
-  row-put n e p q = put-as (rw e row-held) (put-then p q)
+  row-put n d e h f p q t =
+      let c : digitsOf d ≡ cell s i 0 = unfold cell digitsOf in ap digitsOf f in
+      let g : digitsOf d ++ rest (cell s i) n ≡ fields (upTo (cell s i) n) = ap (λ (v : List ℕ). v ++ rest (cell s i) n) c ∙ rest-all (cell s i) n h in
+      put-as (ap (λ (v : List ℕ). v ++ 10 ∷ []) g ∙ rw e row-held) (put-then (put-then p q) t)
 
 -- ---- a tree that a call answered
 
@@ -254,12 +276,12 @@ module _ (s : List ℕ) (w : wholeAt s ≡ true) where
     tree-put word p =
         put-as (ap (λ (v : List ℕ). (word ++ 32 ∷ []) ++ (v ++ 10 ∷ [])) (answer-text text-of old text none r length-asked front-asked) ∙ tree-text word (treeShown (heldAt s) splits)) p
 
-  module _ (old text : List ℕ) (h : 2236 ≤ length old) (r : Number) where
+  module _ (old text : List ℕ) (r : Number) where
     majority-asked : majorityAsked s (length old) ≡ ifTrees (heldAt s) (ifRoom (length old) (written (heldAt s .opening .names) (majority (heldAt s .trees))))
     unfolding majorityAsked majorityOf
     majority-asked = when-whole s (λ z. majorityOf z (length old)) w
 
-    module _ (e : numberGiven r ≡ lengthGiven (majorityAsked s (length old))) (f : text ≡ front (majorityAsked s (length old)) old) where
+    module _ (e : numberGiven r ≡ lengthGiven (majorityAsked s (length old))) (f : text ≡ front (majorityAsked s (length old)) old) (h : 2236 ≤ length old) where
       good : goodTree (numbersAt s .taxa) (majority (heldAt s .trees)) ≡ true
       good = majority-good (numbersAt s .taxa) (heldAt s .trees) (trees-good s w)
 
@@ -275,7 +297,7 @@ module _ (s : List ℕ) (w : wholeAt s ≡ true) where
     unfolding strictAsked strictOf
     strict-asked = when-whole s (λ z. strictOf z (length old)) w
 
-    module _ (e : numberGiven r ≡ lengthGiven (strictAsked s (length old))) (f : text ≡ front (strictAsked s (length old)) old) where
+    module _ (e : numberGiven r ≡ lengthGiven (strictAsked s (length old))) (f : text ≡ front (strictAsked s (length old)) old) (h : 2236 ≤ length old) where
       good-strict : goodTree (numbersAt s .taxa) (strict (heldAt s .trees)) ≡ true
       good-strict = strict-good (numbersAt s .taxa) (heldAt s .trees) (trees-good s w)
 
@@ -286,3 +308,35 @@ module _ (s : List ℕ) (w : wholeAt s ≡ true) where
       pub strict-put : {l after : List ℕ} {z : ℕ} → Put l 0 ((bytes "strict" ++ 32 ∷ []) ++ (answerText r text ++ 10 ∷ [])) after z
           → Put l 0 (strictLine (heldAt s)) after z
       strict-put p = put-as (strict-is (heldAt s)) (tree-put old text h r _ good-strict _ strict-asked e f (bytes "strict") p)
+
+-- ---- a tree as it was answered
+
+module _ (r : Number) (word text : List ℕ) where
+  pub shown-word : Shown r word text → length word ≤ 2000
+  unfolding Shown
+  shown-word h = go r h
+    where
+      go : (q : Number) → Shown q word text → length word ≤ 2000
+      go (number.Gives n) k = k .0
+      go (number.Refused x) k = k
+
+  pub shown-alone : Shown r word text → Shown r [] text
+  unfolding Shown
+  shown-alone h = go r h
+    where
+      go : (q : Number) → Shown q word text → Shown q [] text
+      go (number.Gives n) k = (omega arith, k .1, k .2)
+      go (number.Refused x) k = omega arith
+
+  pub shown-fits : (n : ℕ) → r ≡ number.Gives n → Shown r word text → (n ≤ 2240) × (n ≤ length text)
+  unfolding Shown
+  shown-fits n e h = let k = subst (λ (q : Number). Shown q word text) e h in (k .1, k .2)
+
+module _ (r : Number) (text : List ℕ) {l after : List ℕ} {at z : ℕ} where
+  pub answer-given : (n : ℕ) → r ≡ number.Gives n → Put l at (take n text) after z → Put l at (answerText r text) after z
+  unfolding answerText
+  answer-given n e p = put-as (sym (ap (λ (q : Number). answerText q text) e)) p
+
+  pub answer-none : (q : Refusal) → r ≡ number.Refused q → Put l at (bytes "none") after z → Put l at (answerText r text) after z
+  unfolding answerText
+  answer-none q e p = put-as (sym (ap (λ (x : Number). answerText x text) e)) p

@@ -89,8 +89,4 @@ unfoldable pub sheetLines : Held → ℕ → List (List ℕ)
 unfolding countsLine splitLine rowLine majorityLine strictLine recorded
 sheetLines h refused =
     countsLine h refused
-    ∷ map (splitLine h) (recorded (h .trees))
-    ++ map (rowLine h) (h .trees)
-    ++ majorityLine h
-    ∷ strictLine h
-    ∷ []
+    ∷ (map (splitLine h) (recorded (h .trees)) ++ (map (rowLine h) (h .trees) ++ majorityLine h ∷ strictLine h ∷ []))

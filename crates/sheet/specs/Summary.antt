@@ -3,7 +3,8 @@
 --   firstLine s, behindLine s     the first line of s, and what stands behind its end
 --   spacesIn s                    how many spaces there are
 --   firstConstant, secondConstant     the constants of taxon i
---   summaryOpening line lent      the opening that the first line asks for, in `lent` bytes, or its refusal
+--   namesOpening n list lent      the opening of n taxa with a name list, in `lent` bytes, or its refusal
+--   summaryOpening line lent      the opening that the first line asks for
 --   refusedIn vs                  how many of the verdicts vs of a batch are refusals
 --   refusedAfter n a              n refused texts, and one more where the closing's answer a is a refusal
 --   summaryLines o texts          the lines printed behind an accepted opening
@@ -47,12 +48,15 @@ firstConstant i = 37 * (i * i) % 512
 unfoldable pub secondConstant : ℕ → ℕ
 secondConstant i = 2 ^ i
 
+-- the opening of n taxa with a name list
+unfoldable pub namesOpening : ℕ → List ℕ → ℕ → Answer Opening
+unfolding opening summaryNumbers upTo firstConstant secondConstant
+namesOpening n list lent = opening (summaryNumbers n) list (upTo firstConstant n) (upTo secondConstant n) lent
+
 -- "the names are counted as spaces plus one, a count outside 4 to 64 gives 2, any other fault 3"
 unfoldable pub summaryOpening : List ℕ → ℕ → Answer Opening
-unfolding opening summaryNumbers spacesIn upTo firstConstant secondConstant
-summaryOpening line lent =
-    let n = suc (spacesIn line) in
-    opening (summaryNumbers n) line (upTo firstConstant n) (upTo secondConstant n) lent
+unfolding namesOpening spacesIn
+summaryOpening line lent = namesOpening (suc (spacesIn line)) line lent
 
 -- the bytes that such a store takes: 4,096 + 4,104 + 128 · 48 + 24 · 256 + 2 · 512
 abbrev pub summaryBytes : ℕ
