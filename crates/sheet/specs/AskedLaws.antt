@@ -3,14 +3,15 @@
 --   put-front                              what is stored from the start stands at the front
 --   given-room, given-short                a line that fits the buffer, and one that does not
 --   line-refused, line-missing, line-given     a line of the sheet: 1, 13, or what is given of it
---   refusal-put                            the line of a refusal
+--   refusal-put, refusal-given             the line of a refusal
+--   copied-front                           a line that is copied
 use Prim.Native.Nat.{ℕ, _+_, _≤_, _<_}
 use native.Mathlib.Omega.{arith}
 use mathlib.Core.Path.{_≡_, refl, sym, ap, subst, _∙_}
 use mathlib.Core.Bool.{true, false}
 use mathlib.Core.List.{List, [], _∷_, _++_, append-assoc, append-nil}
 use lib.ListN.{length, getD, take, drop}
-use lib.Seq.{sets, sets-eq, take-at}
+use lib.Seq.{sets-eq, take-at}
 use borrow.Author.Tests.{lt-ltb, le-ltb}
 use Rattle.trees.specs.Plain.{Answer, refused, gives}
 use Rattle.trees.specs.Samples.{bytes}
@@ -39,7 +40,8 @@ module _ (l v after : List ℕ) (z : ℕ) (p : Put l 0 v after z) (h : z ≤ len
   pub put-front : after ≡ v ++ drop (length v) l
   put-front =
       let e = p .ends in
-      p .stored ∙ sets-eq v l 0 (omega arith) ∙ ap (λ (k : ℕ). v ++ drop k l) (omega arith)
+      let f : 0 + length v ≡ length v = omega arith in
+      p .stored ∙ sets-eq v l 0 (omega arith) ∙ ap (λ (k : ℕ). v ++ drop k l) f
 
   pub put-taken : take z after ≡ v
   put-taken =
@@ -105,6 +107,13 @@ refusal-is k = refl
 pub refusal-put : (k : ℕ) {l i after : List ℕ} {a z : ℕ} → Put l 0 (110 ∷ 97 ∷ 109 ∷ 101 ∷ 115 ∷ 32 ∷ 114 ∷ 101 ∷ 102 ∷ 117 ∷ 115 ∷ 101 ∷ 100 ∷ 32 ∷ digitsOf k) i a
     → Put i a (10 ∷ []) after z → Put l 0 (refusalLine k) after z
 refusal-put k p q = put-as (refusal-text (digitsOf k) ∙ refusal-is k) (put-then p q)
+
+pub refusal-given : (k : ℕ) (out line : List ℕ) → line ≡ refusalLine k → (a : Number) (after : List ℕ)
+    → FilledAs (ifRoom (length out) line) a out after → FilledAs (refusalAsked k (length out)) a out after
+refusal-given k out line e a after f = subst (λ (x : Answer (List ℕ)). FilledAs x a out after) (ap (ifRoom (length out)) e ∙ sym asked-is) f
+  where
+    asked-is : refusalAsked k (length out) ≡ ifRoom (length out) (refusalLine k)
+    asked-is = unfold refusalAsked in refl
 
 -- ---- a copy
 

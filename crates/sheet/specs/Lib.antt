@@ -10,4 +10,7 @@ pub mod WritingLaws
 pub mod LineLaws
 pub mod SheetLaws
 pub mod AskedLaws
+pub mod FirstLineLaws
+pub mod OpeningLaws
+pub mod KeptLaws
 pub mod TextsLaws

@@ -2,8 +2,8 @@
 --
 --   verdict-refused, verdict-accepted, verdicts-none     the verdicts, one at a time
 --   capped-small, capped-large       a sum that 64 bits can count, and one that they cannot
---   texts-refused, texts-given       what each return of the feeding promises
---   batch-room                       a batch has no more verdicts than there is room for
+--   texts-refused, texts-given, texts-at       what each return of the feeding promises
+--   verdicts-there                   the verdicts that are counted are there
 --   closed-refused, closed-given     what each return of the closing promises
 use Prim.Native.Nat.{ℕ, suc, _+_, _-_, _≤_, _<_}
 use native.Mathlib.Numerals.{add-one}
@@ -16,7 +16,7 @@ use lib.ListN.{length, getD, take, drop, length-append, drop-of-length-le}
 use lib.Seq.{take-at, drop-cons}
 use borrow.Author.Tests.{lt-ltb, le-ltb}
 use Rattle.trees.specs.Plain.{if_then_else_, keep, Answer, refused, gives}
-use Rattle.trees.specs.Held.{closing}
+use Rattle.trees.specs.Held.{Closed, closing}
 use Rattle.trees.specs.Batch.{Batched, batch, batching}
 use Rattle.head.specs.Head.{numbersAt}
 use Rattle.layout.specs.Store.{heldAt}
@@ -31,7 +31,7 @@ use Rattle.table.specs.declared.Finish.{Finish}
 use Rattle.table.specs.Answers.{numberGiven, finishGiven}
 use Rattle.table.specs.Promises.{ifWhole, Holds}
 use Rattle.table.specs.QuestionLaws.{not-whole, when-whole}
-use Rattle.feeding.specs.Feeding.{reached, closedOf, BatchedAs}
+use Rattle.feeding.specs.Feeding.{reached, closedOf, batchOf, BatchedAs}
 use Rattle.feeding.specs.Feeding as feeding
 use Rattle.sheet.specs.Summary.{refusedIn, refusedAfter}
 use Rattle.sheet.specs.Texts.{capped, TextsAs, closedCount, ClosedAs}
@@ -89,9 +89,9 @@ module _ (b : Answer Batched) (n : ℕ) (r : Number) (s v t w : List ℕ) (p : B
           let u : take m w ≡ y .verdicts = rw (q .2, l) (take-at (y .verdicts) (drop (length (y .verdicts)) v) (length (y .verdicts)) refl) in
           (ap gives (g ∙ ap (λ (k : ℕ). capped (n + k)) (f ∙ ap refusedIn u)), q .1)
 
-  pub verdicts-there : (m : ℕ) → r ≡ number.Gives m → length w ≡ length v → m ≤ length w
+  pub verdicts-there : (m : ℕ) → r ≡ number.Gives m → m ≤ length w
   unfolding BatchedAs numberGiven
-  verdicts-there m e h = go b (subst (λ (q : Number). BatchedAs b q s v t w) e p)
+  verdicts-there m e = go b (subst (λ (q : Number). BatchedAs b q s v t w) e p)
     where
       go : (y : Answer Batched) → BatchedAs y (number.Gives m) s v t w → m ≤ length w
       go (refused k) q = absurd (let z : _≡_ {A = ℕ} 0 1 = cc (q .0) in omega arith)
@@ -99,12 +99,17 @@ module _ (b : Answer Batched) (n : ℕ) (r : Number) (s v t w : List ℕ) (p : B
           let l : m ≡ length (y .verdicts) = cc (q .0) in
           omega (arith, ap length (q .2), length-append (y .verdicts) (drop (length (y .verdicts)) v))
 
+-- the room is that of 4,096 verdicts
+pub texts-at : (s piece : List ℕ) (room : ℕ) → room ≡ 4096 → (n : ℕ) (r : Number) (t : List ℕ) → TextsAs (batchOf s 0 piece room) n r s t
+    → TextsAs (batchOf s 0 piece 4096) n r s t
+texts-at s piece room e n r t p = subst (λ (k : ℕ). TextsAs (batchOf s 0 piece k) n r s t) e p
+
 -- ---- the closing
 
 pub closed-refused : (s : List ℕ) (n : ℕ) → wholeAt s ≡ false → ClosedAs s n (number.Refused why.NotWhole) s
 unfolding numberGiven closedCount
 closed-refused s n e = record {
-  answer = sym (not-whole s _ e);
+  answer = sym (not-whole s (λ h. gives (capped (refusedAfter n (closing h 0 .answer)))) e);
   found = λ f. refl;
   holds = λ f. absurd (true≢false (sym f ∙ e));
 }
@@ -129,7 +134,7 @@ module _ (s : List ℕ) (w : wholeAt s ≡ true) where
       → ClosedAs s n (number.Gives x) t
   unfolding numberGiven closedCount
   closed-given n r t p k x e f = record {
-    answer = ap gives (f ∙ ap capped (ap (λ (m : ℕ). n + m) (e ∙ ap (refusedAfter 0) (p .answer ∙ ap (λ q. q .answer) closed-whole)) ∙ one-more n (closing (heldAt s) 0 .answer))) ∙ sym (when-whole s _ w);
+    answer = ap gives (f ∙ ap capped (ap (λ (m : ℕ). n + m) (e ∙ ap (refusedAfter 0) (p .answer ∙ ap (λ (q : Closed). q .answer) closed-whole)) ∙ one-more n (closing (heldAt s) 0 .answer))) ∙ sym (when-whole s (λ h. gives (capped (refusedAfter n (closing h 0 .answer)))) w);
     found = λ g. absurd (true≢false (sym w ∙ g));
-    holds = λ g. subst (λ q. Holds (q .after) s t) closed-whole (p .holds lane-there);
+    holds = λ g. subst (λ (q : Closed). Holds (q .after) s t) closed-whole (p .holds lane-there);
   }

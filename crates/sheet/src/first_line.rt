@@ -111,7 +111,17 @@ fn open_names(s: &mut [u8], n: usize, list: &[u8]) -> Finish
     let mut second = [0u64; 64];
     fill_first(&mut first);
     fill_second(&mut second);
-    table::open(s, n as u32, 1, 48, 256, 512, list, &first[..n], &second[..n])
+    table::open(
+        s,
+        n as u32,
+        1,
+        48,
+        256,
+        512,
+        list,
+        &first[..n],
+        &second[..n],
+    )
 }
 
 fn least(a: usize, b: usize) -> usize

@@ -1,80 +1,57 @@
+-- `sheet::line` meets its contract. Assumes nothing.
+use Prim.Native.Nat.{ℕ}
+use native.Mathlib.Omega.{arith}
+use lib.ListN.{replicate, length-replicate}
 use borrow.Author.Needs.{needs}
+use Rattle.opening.specs.GivenLaws.{failed, passed}
+use Rattle.rows.specs.ReadLaws.{long}
+use Rattle.distances.specs.WholeTreeLaws.{trees-few}
+use Rattle.sheet.specs.AskedLaws.{put-taken, line-refused, line-missing, line-given}
 use Rattle.sheet.proofs.line.Statement.{statement}
 use Rattle.sheet.proofs.line.Tie as tie
-use Rattle.sheet.proofs.line.Reads as reads
-use Rattle.sheet.proofs.line.Lts as lts
-use Rattle.layout.proofs.splits_held.Reads as splits-held-reads
-use Rattle.layout.proofs.trees_held.Reads as trees-held-reads
-use Rattle.sheet.proofs.give.Reads as give-reads
-use Rattle.sheet.proofs.lines.write_line.Reads as write-line-reads
-use Rattle.store.proofs.is_whole.Reads as is-whole-reads
 
--- src/lib.rt:42:9
-is-whole-requires : tie.Need-is-whole-requires
-is-whole-requires c κs = search needs
-
--- src/lib.rt:43:9
-returns : tie.Need-returns
-returns c = ?
-
--- src/lib.rt:45:17
-splits-held-requires : tie.Need-splits-held-requires
-splits-held-requires c κs = ?
-
--- src/lib.rt:45:42
-trees-held-requires : tie.Need-trees-held-requires
-trees-held-requires c κs = ?
-
--- src/lib.rt:45:17
 add-lines : tie.Need-add-lines
-add-lines c = ?
+add-lines c =
+    let w = passed _ _ (c .before .before .before .is-whole .ensures) (c .before .before .if1 .left) in
+    omega (arith, c .before .splits-held .ensures .1, c .trees-held .ensures, trees-few _ w)
 
--- src/lib.rt:45:17
 add-lines-2 : tie.Need-add-lines-2
-add-lines-2 c = ?
+add-lines-2 c =
+    let w = passed _ _ (c .before .before .before .is-whole .ensures) (c .before .before .if1 .left) in
+    omega (arith, c .before .splits-held .ensures .1, c .trees-held .ensures, trees-few _ w)
 
--- src/lib.rt:47:9
 returns-2 : tie.Need-returns-2
-returns-2 c = ?
+returns-2 c =
+    let w = passed _ _ (c .before .before .before .before .is-whole .ensures) (c .before .before .before .if1 .left) in
+    line-missing _ _ _ _ w (omega (arith, c .before .before .splits-held .ensures .0, c .before .trees-held .ensures))
 
--- src/lib.rt:50:46
-slice-aggregate-write-line : tie.Need-slice-aggregate-write-line
-slice-aggregate-write-line c = search needs
-
--- src/lib.rt:50:9
 write-line-requires : tie.Need-write-line-requires
-write-line-requires c κs = ?
+write-line-requires c κs =
+    let w = passed _ _ (c .before .before .before .before .before .is-whole .ensures) (c .before .before .before .before .if1 .left) in
+    (w, omega (arith, c .before .before .before .splits-held .ensures .0, c .before .before .trees-held .ensures))
 
--- src/lib.rt:51:10
-slice-aggregate-give : tie.Need-slice-aggregate-give
-slice-aggregate-give c = search needs
-
--- src/lib.rt:51:5
-give-requires : tie.Need-give-requires
-give-requires c κs = search needs
-
--- src/lib.rt:39:1
-same-length : tie.Need-same-length
-same-length c = search needs
-
--- src/lib.rt:39:1
 returns-3 : tie.Need-returns-3
-returns-3 c = ?
+returns-3 c =
+    let w = passed _ _ (c .before .before .before .before .before .before .before .before .before .before .before .before .is-whole .ensures) (c .before .before .before .before .before .before .before .before .before .before .before .if1 .left) in
+    let p = c .before .before .before .before .before .before .write-line .ensures in
+    let a = c .before .before .before .before .before .before .before .before .before .before .before .before .before .before .before .args in
+    line-given (a .s .now) (a .out .now) (a .refused) (a .j) w (omega (arith, c .before .before .before .before .before .before .before .before .before .before .splits-held .ensures .0, c .before .before .before .before .before .before .before .before .before .trees-held .ensures)) _
+    (put-taken (replicate 8192 0) _ _ _ (p .0) (omega (arith, p .1, length-replicate {A = ℕ} 8192 0))) _ _ (c .before .before .give .ensures)
 
 pub line-spec : {M : Type 1} → statement M
 line-spec =
     tie.close
     (tie.spec
-    is-whole-requires
-    returns
-    splits-held-requires
-    trees-held-requires
+    (λ c κs. search needs)
+    (λ c. line-refused _ _ _ _ (failed _ _ (c .before .is-whole .ensures) (c .if1 .taken)))
+    (λ c κs. long _ (passed _ _ (c .before .is-whole .ensures) (c .if1 .left)))
+    (λ c κs. long _ (passed _ _ (c .before .before .is-whole .ensures) (c .before .if1 .left)))
     add-lines
     add-lines-2
     returns-2
-    slice-aggregate-write-line
+    (λ c. search needs)
     write-line-requires
-    slice-aggregate-give
-    give-requires
-    same-length
+    (λ c. search needs)
+    (λ c κs. search needs)
+    (λ c. search needs)
     returns-3)

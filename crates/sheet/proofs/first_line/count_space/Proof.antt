@@ -1,24 +1,15 @@
+-- `sheet::first_line::count_space` meets its contract. Assumes nothing.
+use native.Mathlib.Omega.{arith}
 use borrow.Author.Needs.{needs}
+use Rattle.sheet.specs.FirstLineLaws.{space-not, space-full, space-more}
 use Rattle.sheet.proofs.first_line.count_space.Statement.{statement}
 use Rattle.sheet.proofs.first_line.count_space.Tie as tie
-use Rattle.sheet.proofs.first_line.count_space.Reads as reads
-use Rattle.sheet.proofs.first_line.count_space.Lts as lts
-
--- src/first_line.rt:73:9
-returns : tie.Need-returns
-returns c = ?
-
--- src/first_line.rt:76:9
-returns-2 : tie.Need-returns-2
-returns-2 c = ?
-
--- src/first_line.rt:78:5
-add-result : tie.Need-add-result
-add-result c = search needs
-
--- src/first_line.rt:69:1
-returns-3 : tie.Need-returns-3
-returns-3 c = ?
 
 pub count-space-spec : {M : Type 1} → statement M
-count-space-spec = tie.close (tie.spec returns returns-2 add-result returns-3)
+count-space-spec =
+    tie.close
+    (tie.spec
+    (λ c. space-not _ _ (c .if1 .taken))
+    (λ c. space-full _ _ (c .before .if1 .left) (c .if2 .taken))
+    (λ c. omega arith)
+    (λ c. space-more _ _ (c .before .if1 .left) (omega arith)))

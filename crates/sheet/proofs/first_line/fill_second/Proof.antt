@@ -1,54 +1,32 @@
+-- `sheet::first_line::fill_second` meets its contract. The loop's invariant: the first i constants are there. Assumes nothing.
+use Prim.Native.Nat.{_-_, _≤_}
+use mathlib.Core.Path.{_≡_, refl}
+use mathlib.Core.List.{_++_}
+use native.Mathlib.Omega.{arith}
+use lib.ListN.{length, take, drop, length-set}
+use Rattle.head.specs.Head.{upTo}
+use Rattle.sheet.specs.Summary.{secondConstant}
+use Rattle.sheet.specs.OpeningLaws.{constants-more, constants-all}
 use Rattle.sheet.proofs.first_line.fill_second.Statement.{statement}
 use Rattle.sheet.proofs.first_line.fill_second.Tie as tie
-use Rattle.sheet.proofs.first_line.fill_second.Reads as reads
-use Rattle.sheet.proofs.first_line.fill_second.Lts as lts
-use Rattle.masks.proofs.only_taxon.Reads as only-taxon-reads
 
 abbrev Inv-loop : tie.InvT-loop
-Inv-loop list₀ n i₀ list i = ?
+Inv-loop list₀ n i₀ list i =
+    (i ≤ n) × (n ≡ length list₀) × (n ≤ 64) × (length list ≡ length list₀) × (list ≡ take i (upTo secondConstant (length list₀)) ++ drop i list₀)
 
 abbrev μ-loop : tie.MeasureT-loop
-μ-loop list₀ n i₀ list i = ?
+μ-loop list₀ n i₀ list i = n - i
 
--- src/first_line.rt:151:5
-loop-holds : tie.Need-loop-holds Inv-loop μ-loop
-loop-holds c = ?
-
--- src/first_line.rt:152:43
-cast-t6 : tie.Need-cast-t6 Inv-loop μ-loop
-cast-t6 c = ?
-
--- src/first_line.rt:152:19
-only-taxon-requires : tie.Need-only-taxon-requires Inv-loop μ-loop
-only-taxon-requires c κs = ?
-
--- src/first_line.rt:152:9
-mul-list : tie.Need-mul-list Inv-loop μ-loop
-mul-list c = ?
-
--- src/first_line.rt:152:9
-slice-write-list : tie.Need-slice-write-list Inv-loop μ-loop
-slice-write-list c = ?
-
--- src/first_line.rt:153:9
-add-i : tie.Need-add-i Inv-loop μ-loop
-add-i c = ?
-
--- src/first_line.rt:151:5
-loop-less : tie.Need-loop-less Inv-loop μ-loop
-loop-less c = ?
-
--- src/first_line.rt:151:5
 loop-again : tie.Need-loop-again Inv-loop μ-loop
-loop-again c = ?
+unfolding secondConstant
+loop-again c =
+    let l = c .before .before .loop in
+    (omega arith, l .inv .1, l .inv .2, simp length-set (l .inv .3), constants-more secondConstant (c .before .before .before .before .args .list .now) (l .list) (l .i) _ (l .inv .4) (omega arith) (c .only-taxon .ensures))
 
--- src/first_line.rt:145:1
-same-length : tie.Need-same-length Inv-loop μ-loop
-same-length c = ?
-
--- src/first_line.rt:145:1
 returns : tie.Need-returns Inv-loop μ-loop
-returns c = ?
+returns c =
+    let l = c .before .loop in
+    constants-all secondConstant (c .before .before .before .args .list .now) (l .list) (l .i) (l .inv .4) (omega arith)
 
 pub fill-second-spec : {M : Type 1} → statement M
 fill-second-spec =
@@ -56,13 +34,13 @@ fill-second-spec =
     (tie.spec
     Inv-loop
     μ-loop
-    loop-holds
-    cast-t6
-    only-taxon-requires
-    mul-list
-    slice-write-list
-    add-i
-    loop-less
+    (λ c. (omega arith, refl, c .before .pre, refl, refl))
+    (λ c. omega arith)
+    (λ c κs. omega arith)
+    (λ c. omega arith)
+    (λ c. omega arith)
+    (λ c. omega arith)
+    (λ c. omega arith)
     loop-again
-    same-length
+    (λ c. omega arith)
     returns)

@@ -1,19 +1,29 @@
+-- `sheet::first_line::first_constant` meets its contract. Assumes nothing.
+use Prim.Native.Nat.{_*_, _≤_}
+use native.Mathlib.Nat.{mul-le-mul}
+use native.Mathlib.Omega.{arith}
+use mathlib.Core.Path.{refl}
+use Rattle.sheet.specs.Summary.{firstConstant}
 use Rattle.sheet.proofs.first_line.first_constant.Statement.{statement}
 use Rattle.sheet.proofs.first_line.first_constant.Tie as tie
-use Rattle.sheet.proofs.first_line.first_constant.Reads as reads
-use Rattle.sheet.proofs.first_line.first_constant.Lts as lts
 
--- src/first_line.rt:141:11
-mul-result : tie.Need-mul-result
-mul-result c = ?
+small : tie.Need-mul-result
+small c =
+    let i = c .args .i in
+    let h : i ≤ 63 = omega arith in
+    let m : i * i ≤ 63 * 63 = mul-le-mul h h in
+    omega (arith, m)
 
--- src/first_line.rt:141:5
-mul-result-2 : tie.Need-mul-result-2
-mul-result-2 c = ?
+small-2 : tie.Need-mul-result-2
+small-2 c =
+    let i = c .args .i in
+    let h : i ≤ 63 = omega arith in
+    let m : i * i ≤ 63 * 63 = mul-le-mul h h in
+    omega (arith, m)
 
--- src/first_line.rt:137:1
 returns : tie.Need-returns
-returns c = ?
+unfolding firstConstant
+returns c = refl
 
 pub first-constant-spec : {M : Type 1} → statement M
-first-constant-spec = tie.close (tie.spec mul-result mul-result-2 returns)
+first-constant-spec = tie.close (tie.spec small small-2 returns)

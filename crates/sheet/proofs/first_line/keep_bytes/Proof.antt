@@ -1,51 +1,36 @@
+-- `sheet::first_line::keep_bytes` meets its contract. The loop's invariant: the rest of the piece decides what is kept. Assumes nothing.
+use Prim.Native.Nat.{_-_, _≤_}
+use mathlib.Core.Path.{_≡_, refl, sym, _∙_}
+use native.Mathlib.Omega.{arith}
+use lib.ListN.{length, drop}
+use borrow.Author.Needs.{needs}
+use Rattle.sheet.specs.FirstLine.{keptAfter}
+use Rattle.sheet.specs.FirstLineLaws.{kept-none, kept-more}
 use Rattle.sheet.proofs.first_line.keep_bytes.Statement.{statement}
 use Rattle.sheet.proofs.first_line.keep_bytes.Tie as tie
-use Rattle.sheet.proofs.first_line.keep_bytes.Reads as reads
-use Rattle.sheet.proofs.first_line.keep_bytes.Lts as lts
-use Rattle.sheet.proofs.first_line.count_space.Reads as count-space-reads
-use Rattle.sheet.proofs.first_line.keep_byte.Reads as keep-byte-reads
 
 abbrev Inv-loop : tie.InvT-loop
-Inv-loop out₀ piece used₀ spaces₀ i₀ out used spaces i = ?
+Inv-loop out₀ piece used₀ spaces₀ i₀ out used spaces i =
+    (i ≤ length piece)
+    × (length out ≡ length out₀)
+    × (keptAfter (record { used = used; spaces = spaces; bytes = out }) (drop i piece)
+    ≡ keptAfter (record { used = used₀; spaces = spaces₀; bytes = out₀ }) piece)
 
 abbrev μ-loop : tie.MeasureT-loop
-μ-loop out₀ piece used₀ spaces₀ i₀ out used spaces i = ?
+μ-loop out₀ piece used₀ spaces₀ i₀ out used spaces i = length piece - i
 
--- src/first_line.rt:59:5
-loop-holds : tie.Need-loop-holds Inv-loop μ-loop
-loop-holds c = ?
-
--- src/first_line.rt:60:17
-shared-slice-read-b : tie.Need-shared-slice-read-b Inv-loop μ-loop
-shared-slice-read-b c = ?
-
--- src/first_line.rt:61:9
-count-space-requires : tie.Need-count-space-requires Inv-loop μ-loop
-count-space-requires c κs = ?
-
--- src/first_line.rt:62:9
-keep-byte-requires : tie.Need-keep-byte-requires Inv-loop μ-loop
-keep-byte-requires c κs = ?
-
--- src/first_line.rt:63:9
-add-i : tie.Need-add-i Inv-loop μ-loop
-add-i c = ?
-
--- src/first_line.rt:59:5
-loop-less : tie.Need-loop-less Inv-loop μ-loop
-loop-less c = ?
-
--- src/first_line.rt:59:5
 loop-again : tie.Need-loop-again Inv-loop μ-loop
-loop-again c = ?
+loop-again c =
+    let l = c .before .before .before .before .before .before .before .loop in
+    let k = c .before .before .keep-byte .ensures in
+    let p = c .before .before .before .before .before .before .before .before .before .before .args .piece .now in
+    let e = kept-more (l .used) (l .spaces) (l .out) p (l .i) (omega arith) _ _ _ (c .before .before .before .before .count-space .ensures) (k .0) (k .1) in
+    (omega arith, omega arith, sym e ∙ l .inv .2)
 
--- src/first_line.rt:53:1
-same-length : tie.Need-same-length Inv-loop μ-loop
-same-length c = ?
-
--- src/first_line.rt:53:1
 returns : tie.Need-returns Inv-loop μ-loop
-returns c = ?
+returns c =
+    let l = c .before .loop in
+    kept-none (record { used = l .used; spaces = l .spaces; bytes = l .out }) (c .before .before .before .before .args .piece .now) (l .i) (omega arith) ∙ l .inv .2
 
 pub keep-bytes-spec : {M : Type 1} → statement M
 keep-bytes-spec =
@@ -53,12 +38,12 @@ keep-bytes-spec =
     (tie.spec
     Inv-loop
     μ-loop
-    loop-holds
-    shared-slice-read-b
-    count-space-requires
-    keep-byte-requires
-    add-i
-    loop-less
+    (λ c. (omega arith, refl, refl))
+    (λ c. omega arith)
+    (λ c κs. search needs)
+    (λ c κs. search needs)
+    (λ c. omega arith)
+    (λ c. omega arith)
     loop-again
-    same-length
+    (λ c. omega arith)
     returns)

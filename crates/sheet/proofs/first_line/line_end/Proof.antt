@@ -1,41 +1,39 @@
+-- `sheet::first_line::line_end` meets its contract. The loop's invariant: the bytes so far, and those of the rest. Assumes nothing.
+use Prim.Native.Nat.{_+_, _≤_, _-_}
+use mathlib.Core.Path.{_≡_}
+use native.Mathlib.Omega.{arith}
+use lib.ListN.{length, drop}
+use Rattle.sheet.specs.Summary.{firstLine}
+use Rattle.sheet.specs.FirstLineLaws.{end-here, end-more, end-none}
 use Rattle.sheet.proofs.first_line.line_end.Statement.{statement}
 use Rattle.sheet.proofs.first_line.line_end.Tie as tie
-use Rattle.sheet.proofs.first_line.line_end.Reads as reads
-use Rattle.sheet.proofs.first_line.line_end.Lts as lts
 
 abbrev Inv-loop : tie.InvT-loop
-Inv-loop piece i₀ i = ?
+Inv-loop piece i₀ i = (i ≤ length piece) × (i + length (firstLine (drop i piece)) ≡ length (firstLine piece))
 
 abbrev μ-loop : tie.MeasureT-loop
-μ-loop piece i₀ i = ?
+μ-loop piece i₀ i = length piece - i
 
--- src/first_line.rt:43:5
-loop-holds : tie.Need-loop-holds Inv-loop μ-loop
-loop-holds c = ?
-
--- src/first_line.rt:44:12
-shared-slice-read-if1 : tie.Need-shared-slice-read-if1 Inv-loop μ-loop
-shared-slice-read-if1 c = ?
-
--- src/first_line.rt:45:13
 returns : tie.Need-returns Inv-loop μ-loop
-returns c = ?
+returns c =
+    let l = c .before .before .before .loop in
+    let a = c .before .before .before .before .args in
+    let e = end-here (a .piece .now) (l .i) (omega arith) (c .if1 .taken) in
+    (omega (arith, e, l .inv .1), omega arith)
 
--- src/first_line.rt:47:9
-add-i : tie.Need-add-i Inv-loop μ-loop
-add-i c = ?
-
--- src/first_line.rt:43:5
-loop-less : tie.Need-loop-less Inv-loop μ-loop
-loop-less c = ?
-
--- src/first_line.rt:43:5
 loop-again : tie.Need-loop-again Inv-loop μ-loop
-loop-again c = ?
+loop-again c =
+    let l = c .before .before .before .loop in
+    let a = c .before .before .before .before .args in
+    let e = end-more (a .piece .now) (l .i) (omega arith) (c .if1 .left) in
+    (omega arith, omega (arith, e, l .inv .1))
 
--- src/first_line.rt:38:1
 returns-2 : tie.Need-returns-2 Inv-loop μ-loop
-returns-2 c = ?
+returns-2 c =
+    let l = c .before .loop in
+    let a = c .before .before .args in
+    let e = end-none (a .piece .now) (l .i) (omega arith) in
+    (omega (arith, e, l .inv .1), omega arith)
 
 pub line-end-spec : {M : Type 1} → statement M
 line-end-spec =
@@ -43,10 +41,10 @@ line-end-spec =
     (tie.spec
     Inv-loop
     μ-loop
-    loop-holds
-    shared-slice-read-if1
+    (λ c. (omega arith, omega arith))
+    (λ c. omega arith)
     returns
-    add-i
-    loop-less
+    (λ c. omega arith)
+    (λ c. omega arith)
     loop-again
     returns-2)

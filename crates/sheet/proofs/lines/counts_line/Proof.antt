@@ -13,9 +13,10 @@ returns c =
     let t = c .before .before .before .before .before .before .before .before .before .before .before .put-counted3 .ensures in
     let q = c .before .before .before .before .before .before .before .before .before .before .before .before .before .before .before .before .put-counted2 .ensures in
     let p = c .before .before .before .before .before .before .before .before .before .before .before .before .before .before .before .before .before .before .before .before .before .put-counted .ensures in
-    let n = c .before .before .before .before .before .before .before .before .before .before .before .before .before .before .before .before .before .before .before .before .before .before .before .before in
-    (counts-put _ (n .before .before .before .before .before .pre) _ _ _ _ (n .before .before .taxa .ensures .0) (n .before .trees-held .ensures) (n .splits-held .ensures .0) (p .0) (q .0) (t .0) (u .0) e,
-    omega (arith, p .1 .0, q .1 .0, t .1 .0, u .1 .0, e .ends))
+    let n = c .before .before .before .before .before .before .before .before .before .before .before .before .before .before .before .before .before .before .before .before .before .before .before .before in (
+      counts-put _ (n .before .before .before .before .before .pre) _ _ _ _ (n .before .before .taxa .ensures .0) (n .before .trees-held .ensures) (n .splits-held .ensures .0) (p .0) (q .0) (t .0) (u .0) e,
+      omega (arith, p .1 .0, q .1 .0, t .1 .0, u .1 .0, e .ends),
+    )
 
 pub counts-line-spec : {M : Type 1} → statement M
 counts-line-spec =

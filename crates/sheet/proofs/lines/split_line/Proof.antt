@@ -11,9 +11,10 @@ returns c =
     let q = c .before .before .before .before .before .before .put-counted .ensures in
     let p = c .before .before .before .before .before .before .before .before .before .before .before .put-number .ensures in
     let n = c .before .before .before .before .before .before .before .before .before .before .before .before .before in
-    let r = n .before .before in
-    (split-put _ (r .before .before .before .pre .0) _ _ _ _ (r .before .before .before .pre .1) (r .row-of .ensures .0) (n .before .mask-at .ensures) (n .count-at .ensures) (p .0) (q .0) e,
-    omega (arith, p .1 .0, q .1 .0, e .ends))
+    let r = n .before .before in (
+      split-put _ (r .before .before .before .pre .0) _ _ _ _ (r .before .before .before .pre .1) (r .row-of .ensures .0) (n .before .mask-at .ensures) (n .count-at .ensures) (p .0) (q .0) e,
+      omega (arith, p .1 .0, q .1 .0, e .ends),
+    )
 
 pub split-line-spec : {M : Type 1} → statement M
 split-line-spec =

@@ -1,45 +1,40 @@
+-- `sheet::texts::count_refused` meets its contract. The loop's invariant: those so far, and those of the rest. Assumes nothing.
+use Prim.Native.Nat.{_+_, _-_, _≤_}
+use mathlib.Core.Path.{_≡_}
+use mathlib.Core.Logic.{⊎-elim}
+use native.Mathlib.Omega.{arith}
+use lib.ListN.{length, take, drop}
+use lib.Seq.{length-take-le, getD-take}
+use Rattle.sheet.specs.Summary.{refusedIn}
+use Rattle.sheet.specs.TextsLaws.{verdict-refused, verdict-accepted, verdicts-none}
 use Rattle.sheet.proofs.texts.count_refused.Statement.{statement}
 use Rattle.sheet.proofs.texts.count_refused.Tie as tie
-use Rattle.sheet.proofs.texts.count_refused.Reads as reads
-use Rattle.sheet.proofs.texts.count_refused.Lts as lts
 
 abbrev Inv-loop : tie.InvT-loop
-Inv-loop verdicts n count₀ i₀ count i = ?
+Inv-loop verdicts n count₀ i₀ count i =
+    (i ≤ n) × (n ≤ length verdicts) × (count ≤ i) × (count + refusedIn (drop i (take n verdicts)) ≡ refusedIn (take n verdicts))
 
 abbrev μ-loop : tie.MeasureT-loop
-μ-loop verdicts n count₀ i₀ count i = ?
+μ-loop verdicts n count₀ i₀ count i = n - i
 
--- src/texts.rt:39:5
-loop-holds : tie.Need-loop-holds Inv-loop μ-loop
-loop-holds c = ?
-
--- src/texts.rt:40:12
-mul-if1 : tie.Need-mul-if1 Inv-loop μ-loop
-mul-if1 c = ?
-
--- src/texts.rt:40:12
-shared-slice-read-if1 : tie.Need-shared-slice-read-if1 Inv-loop μ-loop
-shared-slice-read-if1 c = ?
-
--- src/texts.rt:41:13
-add-count : tie.Need-add-count Inv-loop μ-loop
-add-count c = ?
-
--- src/texts.rt:43:9
-add-i : tie.Need-add-i Inv-loop μ-loop
-add-i c = ?
-
--- src/texts.rt:39:5
-loop-less : tie.Need-loop-less Inv-loop μ-loop
-loop-less c = ?
-
--- src/texts.rt:39:5
 loop-again : tie.Need-loop-again Inv-loop μ-loop
-loop-again c = ?
+loop-again c =
+    let l = c .before .before .before .loop in
+    let a = c .before .before .before .before .args in
+    let v = take (a .n) (a .verdicts .now) in
+    let n = length-take-le (a .n) (a .verdicts .now) (l .inv .1) in
+    let g = getD-take (a .n) (a .verdicts .now) (l .i) 0 (omega arith) in
+    ⊎-elim
+    (λ q. let e = verdict-refused v (l .i) (omega (arith, n)) (omega (arith, g, q .0 .taken)) in (omega arith, l .inv .1, omega (arith, q .1), omega (arith, q .1, e, l .inv .3)))
+    (λ q. let e = verdict-accepted v (l .i) (omega (arith, n)) (omega (arith, g, q .0 .left)) in (omega arith, l .inv .1, omega (arith, q .1), omega (arith, q .1, e, l .inv .3)))
+    (c .if1 .came)
 
--- src/texts.rt:33:1
 returns : tie.Need-returns Inv-loop μ-loop
-returns c = ?
+returns c =
+    let l = c .before .loop in
+    let a = c .before .before .args in
+    let n = length-take-le (a .n) (a .verdicts .now) (l .inv .1) in
+    omega (arith, verdicts-none (take (a .n) (a .verdicts .now)) (l .i) (omega (arith, n)), l .inv .3)
 
 pub count-refused-spec : {M : Type 1} → statement M
 count-refused-spec =
@@ -47,11 +42,11 @@ count-refused-spec =
     (tie.spec
     Inv-loop
     μ-loop
-    loop-holds
-    mul-if1
-    shared-slice-read-if1
-    add-count
-    add-i
-    loop-less
+    (λ c. (omega arith, c .pre, omega arith, omega arith))
+    (λ c. omega arith)
+    (λ c. omega arith)
+    (λ c. omega arith)
+    (λ c. omega arith)
+    (λ c. omega arith)
     loop-again
     returns)
