@@ -1,6 +1,6 @@
 -- What the calls that print a line answer: a law for each return of the code. Assumes nothing.
 --
---   put-front                              what is stored from the start stands at the front
+--   put-front, put-taken                   what is stored from the start stands at the front
 --   given-room, given-short                a line that fits the buffer, and one that does not
 --   line-refused, line-missing, line-given     a line of the sheet: 1, 13, or what is given of it
 --   refusal-put, refusal-given             the line of a refusal
@@ -13,7 +13,7 @@ use mathlib.Core.List.{List, [], _∷_, _++_, append-assoc, append-nil}
 use lib.ListN.{length, getD, take, drop}
 use lib.Seq.{sets-eq, take-at}
 use borrow.Author.Tests.{lt-ltb, le-ltb}
-use Rattle.trees.specs.Plain.{Answer, refused, gives}
+use Rattle.trees.specs.Plain.{Answer, refused}
 use Rattle.trees.specs.Samples.{bytes}
 use Rattle.trees.specs.Questions.{ifRoom}
 use Rattle.fields.specs.Run.{copied}

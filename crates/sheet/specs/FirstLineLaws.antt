@@ -6,20 +6,20 @@
 --   space-not, space-full, space-more, used-full, used-more     one byte more
 --   kept-none, kept-more             what is kept, a byte at a time
 --   kept-append                      taking p and then q is taking p ++ q
+--   taken-all, taken-line            what each return of the code promises
 use Prim.Native.Nat.{ℕ, suc, _+_, _≤_, _<_}
 use native.Mathlib.Numerals.{add-one}
 use native.Mathlib.Omega.{arith}
 use mathlib.Core.Path.{_≡_, refl, sym, ap, _∙_}
-use mathlib.Core.Bool.{Bool, true, false, _&&_, _||_}
+use mathlib.Core.Bool.{Bool, true, false, _||_}
 use mathlib.Core.List.{List, [], _∷_, _++_}
-use lib.Dec.{ltb, eqb}
+use lib.Dec.{eqb}
 use lib.ListN.{length, getD, set, take, drop, drop-of-length-le}
 use lib.Seq.{drop-cons}
 use borrow.Author.Tests.{lt-ltb, le-ltb, eqb-true, eqb-false, eq-eqb, ne-eqb}
 use Rattle.trees.specs.Plain.{if_then_else_, member}
 use Rattle.theorems.specs.ListLaws.{if-true, if-false}
 use Rattle.sheet.specs.declared.LinePart.{LinePart}
-use Rattle.sheet.specs.declared.Taken.{Taken}
 use Rattle.sheet.specs.Summary.{firstLine}
 use Rattle.sheet.specs.FirstLine.{Kept, spacesWith, usedWith, keptWith, keptAfter, lineTaken, keptOf, TakenAs}
 

@@ -1,27 +1,27 @@
 -- What is kept of a first line decides as the line itself. Assumes nothing.
 --
 --   Keeps v k            k is what is kept of the line v so far
---   keeps-none, keeps-more, keeps-all     no byte, one more, and the whole line
+--   fresh out            nothing is kept yet
+--   keeps-all            what is kept of a whole line
 --   names-short          a good name list of n names has fewer than 33 · n bytes
 --   line-decides         with a buffer of 2,112 bytes, what is kept opens what the line asks for
-use Prim.Native.Nat.{ℕ, zero, suc, _+_, _*_, _≤_, _<_}
+use Prim.Native.Nat.{ℕ, suc, _+_, _*_, _≤_, _<_}
 use native.Mathlib.Omega.{arith}
 use mathlib.Core.Path.{_≡_, refl, sym, ap, _∙_}
 use mathlib.Core.Logic.{_⊎_, inl, inr}
-use mathlib.Core.Bool.{Bool, true, false, _&&_, true≢false}
+use mathlib.Core.Bool.{Bool, true, false, _&&_}
 use mathlib.Core.List.{List, [], _∷_, _++_, append-assoc, append-nil}
 use lib.Dec.{ltb, eqb}
-use lib.ListN.{length, set, take, length-append, length-set}
+use lib.ListN.{length, take, length-append, length-set}
 use lib.Seq.{take-all, take-append-le, take-suc-set, set-out, length-take-le}
 use borrow.Author.Tests.{lt-ltb, le-ltb, eqb-true}
-use Rattle.trees.specs.Plain.{if_then_else_, every, keep, Answer, refused}
+use Rattle.trees.specs.Plain.{if_then_else_, every, keep}
 use Rattle.trees.specs.Names.{namesAfter, namesIn, isName, different, goodNames}
-use Rattle.trees.specs.Opening.{Numbers, Opening, inRange, goodConstants, opening}
+use Rattle.trees.specs.Opening.{opening}
 use Rattle.theorems.specs.ListLaws.{and-left, and-right}
 use Rattle.theorems.specs.NameLaws.{isName-short}
-use Rattle.head.specs.Head.{upTo}
 use Rattle.store.specs.UpToLaws.{less-or-not}
-use Rattle.sheet.specs.Summary.{spacesIn, summaryNumbers, firstConstant, secondConstant, namesOpening, summaryOpening}
+use Rattle.sheet.specs.Summary.{spacesIn, summaryNumbers, namesOpening, summaryOpening}
 use Rattle.sheet.specs.FirstLine.{Kept, spacesWith, usedWith, keptWith, keptAfter, keptOpening}
 use Rattle.sheet.specs.FirstLineLaws.{eqb-flip}
 use Rattle.sheet.specs.OpeningLaws.{many-names}

@@ -11,7 +11,6 @@
 --   shown-word, shown-alone, shown-fits     what of it is short
 --   answer-given, answer-none       it is the text, or `none`
 use Prim.Native.Nat.{ℕ, zero, suc, _+_, _≤_, _<_}
-use Prim.Native.String.{String}
 use native.Mathlib.Numerals.{add-one}
 use native.Mathlib.Omega.{arith}
 use mathlib.Core.Path.{_≡_, refl, sym, ap, subst, _∙_}

@@ -1,26 +1,21 @@
 -- The laws of the opening that the first line asks for. Assumes nothing.
 --
 --   take-upTo                          the first n of a list of constants
---   constants-more, constants-all      such a list, filled one by one
---   opened-out, opened-names           what each return of the code promises
---   names-short                        a good name list of n names has at most 33 · n - 1 bytes
---   line-decides                       what is kept of a line opens what the line asks for
-use Prim.Native.Nat.{ℕ, zero, suc, _+_, _*_, _≤_, _<_}
+--   constants-more, constants-all, filled-long     such a list, filled one by one
+--   many-names                         more than 64 names are refused with 2
+--   opened-out, opened-kept, opened-names     what each return of the code promises
+use Prim.Native.Nat.{ℕ, zero, suc, _+_, _≤_, _<_}
 use native.Mathlib.Numerals.{add-one}
 use native.Mathlib.Omega.{arith}
 use mathlib.Core.Path.{_≡_, refl, sym, ap, subst, _∙_}
 use mathlib.Core.Logic.{_⊎_, inl, inr}
-use mathlib.Core.Bool.{Bool, true, false, _&&_, true≢false}
-use mathlib.Core.List.{List, [], _∷_, _++_, append-nil, append-assoc}
-use lib.Dec.{leb, ltb, eqb}
-use lib.ListN.{length, getD, set, take, drop, length-append, drop-of-length-le}
+use mathlib.Core.Bool.{false}
+use mathlib.Core.List.{List, _∷_, _++_, append-nil}
+use lib.ListN.{length, set, take, drop, drop-of-length-le}
 use lib.Seq.{take-all}
-use borrow.Author.Tests.{le-leb, lt-leb, lt-ltb, le-ltb, eqb-true}
-use Rattle.trees.specs.Plain.{if_then_else_, every, keep, Answer, refused}
-use Rattle.trees.specs.Names.{namesAfter, namesIn, isName, different, goodNames}
-use Rattle.trees.specs.Opening.{Numbers, Opening, between, inRange, opening}
-use Rattle.theorems.specs.ListLaws.{and-left, and-right, if-true, if-false}
-use Rattle.theorems.specs.NameLaws.{isName-short}
+use borrow.Author.Tests.{le-leb, lt-leb}
+use Rattle.trees.specs.Plain.{Answer, refused}
+use Rattle.trees.specs.Opening.{Opening, between, opening}
 use Rattle.head.specs.Head.{fromTo, upTo}
 use Rattle.head.specs.HeadLaws.{upTo-length, upTo-at}
 use Rattle.store.specs.UpToLaws.{less-or-not}
@@ -33,8 +28,8 @@ use Rattle.table.specs.Answers.{refusalNumber}
 use Rattle.table.specs.Promises.{OpenedAs}
 use Rattle.table.specs.FrontLaws.{copied-more, copied-all}
 use Rattle.table.specs.OpenLaws.{not-in-range, refused-as}
-use Rattle.sheet.specs.Summary.{spacesIn, summaryNumbers, firstConstant, secondConstant, namesOpening, summaryOpening}
-use Rattle.sheet.specs.FirstLine.{Kept, spacesWith, usedWith, keptWith, keptAfter, keptOpening}
+use Rattle.sheet.specs.Summary.{summaryNumbers, firstConstant, secondConstant, namesOpening}
+use Rattle.sheet.specs.FirstLine.{Kept, keptOpening}
 
 -- ---- constants
 

@@ -4,7 +4,6 @@
 --   sheet-length                      there are n + t + 3 lines
 --   line-counts, line-split, line-row, line-majority, line-strict     which line has which number
 use Prim.Native.Nat.{ℕ, zero, suc, _+_, _-_, _≤_, _<_}
-use native.Mathlib.Nat.{add-zero}
 use native.Mathlib.Omega.{arith}
 use mathlib.Core.Path.{_≡_, refl, sym, ap, _∙_}
 use mathlib.Core.Bool.{true}

@@ -11,9 +11,8 @@
 --   refusalLine k                 the line printed for a refused one
 --   summary input                 everything that is printed
 use Prim.Native.Nat.{ℕ, suc, _*_, _%_, _^_}
-use mathlib.Core.Bool.{true, false}
 use mathlib.Core.Path.{_≡_, refl}
-use mathlib.Core.List.{List, [], _∷_, _++_, flatMap}
+use mathlib.Core.List.{List, [], _∷_, flatMap}
 use lib.Dec.{ltb, eqb}
 use lib.ListN.{length}
 use Rattle.trees.specs.Plain.{if_then_else_, keep, Answer, refused, gives}

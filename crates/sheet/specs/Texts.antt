@@ -10,7 +10,7 @@ use mathlib.Core.Bool.{true, false}
 use mathlib.Core.List.{List}
 use lib.Dec.{ltb}
 use Rattle.trees.specs.Plain.{if_then_else_, Answer, refused, gives}
-use Rattle.trees.specs.Held.{Held, closing}
+use Rattle.trees.specs.Held.{closing}
 use Rattle.trees.specs.Batch.{Batched}
 use Rattle.layout.specs.Store.{heldAt}
 use Rattle.store.specs.WholeStore.{wholeAt}

@@ -9,15 +9,15 @@ use Prim.Native.Nat.{ℕ, suc, _+_, _-_, _≤_, _<_}
 use native.Mathlib.Numerals.{add-one}
 use native.Mathlib.Omega.{arith}
 use mathlib.Core.Path.{_≡_, refl, sym, ap, subst, _∙_}
-use mathlib.Core.Bool.{Bool, true, false, true≢false}
-use mathlib.Core.List.{List, [], _∷_, _++_}
+use mathlib.Core.Bool.{true, false, true≢false}
+use mathlib.Core.List.{List, _∷_}
 use lib.Dec.{ltb}
 use lib.ListN.{length, getD, take, drop, length-append, drop-of-length-le}
 use lib.Seq.{take-at, drop-cons}
 use borrow.Author.Tests.{lt-ltb, le-ltb}
 use Rattle.trees.specs.Plain.{if_then_else_, keep, Answer, refused, gives}
 use Rattle.trees.specs.Held.{Closed, closing}
-use Rattle.trees.specs.Batch.{Batched, batch, batching}
+use Rattle.trees.specs.Batch.{Batched}
 use Rattle.head.specs.Head.{numbersAt}
 use Rattle.layout.specs.Store.{heldAt}
 use Rattle.store.specs.WholeStore.{wholeAt}
@@ -29,7 +29,7 @@ use Rattle.table.specs.declared.Refusal.{Refusal}
 use Rattle.table.specs.declared.Refusal.the-variants as why
 use Rattle.table.specs.declared.Finish.{Finish}
 use Rattle.table.specs.Answers.{numberGiven, finishGiven}
-use Rattle.table.specs.Promises.{ifWhole, Holds}
+use Rattle.table.specs.Promises.{Holds}
 use Rattle.table.specs.QuestionLaws.{not-whole, when-whole}
 use Rattle.feeding.specs.Feeding.{reached, closedOf, batchOf, BatchedAs}
 use Rattle.feeding.specs.Feeding as feeding

@@ -3,7 +3,7 @@
 // `specs/FirstLine.antt` says what is kept of the line; `specs/Summary.antt` what it opens.
 ghost use mathlib.Core.Path.{_≡_};
 ghost use Prim.Native.Nat.{_≤_, _<_};
-ghost use lib.ListN.{length, take, set};
+ghost use lib.ListN.{length, set};
 ghost use Rattle.head.specs.Head.{upTo};
 ghost use Rattle.table.specs.Promises.{OpenedAs};
 ghost use Rattle.sheet.specs.Summary.{firstLine, firstConstant, secondConstant, namesOpening};

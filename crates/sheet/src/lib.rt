@@ -3,7 +3,6 @@
 //
 // Read `specs/Sheet.antt` and `specs/Summary.antt` for what is printed; `specs/FirstLine.antt`, `specs/Texts.antt`
 // and `specs/Asked.antt` for what the calls promise.
-ghost use mathlib.Core.Path.{_≡_};
 ghost use Prim.Native.Nat.{_≤_};
 ghost use lib.ListN.{length, take};
 ghost use Rattle.trees.specs.Questions.{ifRoom};

@@ -1,6 +1,5 @@
 -- `sheet::first_line::count_space` meets its contract. Assumes nothing.
 use native.Mathlib.Omega.{arith}
-use borrow.Author.Needs.{needs}
 use Rattle.sheet.specs.FirstLineLaws.{space-not, space-full, space-more}
 use Rattle.sheet.proofs.first_line.count_space.Statement.{statement}
 use Rattle.sheet.proofs.first_line.count_space.Tie as tie
