@@ -1,0 +1,31 @@
+-- `sheet::lines::split_line` meets its contract. Assumes nothing.
+use native.Mathlib.Omega.{arith}
+use borrow.Author.Needs.{needs}
+use Rattle.sheet.specs.LineLaws.{split-put}
+use Rattle.sheet.proofs.lines.split_line.Statement.{statement}
+use Rattle.sheet.proofs.lines.split_line.Tie as tie
+
+returns : tie.Need-returns
+returns c =
+    let e = c .before .before .put-end .ensures in
+    let q = c .before .before .before .before .before .before .put-counted .ensures in
+    let p = c .before .before .before .before .before .before .before .before .before .before .before .put-number .ensures in
+    let n = c .before .before .before .before .before .before .before .before .before .before .before .before .before in
+    let r = n .before .before in (
+      split-put _ (r .before .before .before .pre .0) _ _ _ _ (r .before .before .before .pre .1) (r .row-of .ensures .0) (n .before .mask-at .ensures) (n .count-at .ensures) (p .0) (q .0) e,
+      omega (arith, p .1 .0, q .1 .0, e .ends),
+    )
+
+pub split-line-spec : {M : Type 1} → statement M
+split-line-spec =
+    tie.close
+    (tie.spec
+    (λ c κs. search needs)
+    (λ c κs. search needs)
+    (λ c κs. search needs)
+    (λ c κs. search needs)
+    (λ c. search needs)
+    (λ c κs. search needs)
+    (λ c κs. search needs)
+    (λ c. search needs)
+    returns)

@@ -1,0 +1,34 @@
+-- `sheet::lines::strict_line` meets its contract. Assumes nothing.
+use Prim.Native.Nat.{ℕ}
+use native.Mathlib.Omega.{arith}
+use lib.ListN.{replicate, length-replicate}
+use borrow.Author.Needs.{needs}
+use Rattle.trees.specs.Samples.{bytes}
+use Rattle.sheet.specs.LineLaws.{strict-shown, strict-put}
+use Rattle.sheet.proofs.lines.strict_line.Statement.{statement}
+use Rattle.sheet.proofs.lines.strict_line.Tie as tie
+
+tree-line-requires : tie.Need-tree-line-requires
+unfolding bytes
+tree-line-requires c κs =
+    let m = c .before .before .before .before .strict .ensures in
+    strict-shown _ (c .before .before .before .before .before .before .before .before .pre) (replicate 2240 0) _ _ (m .0) (m .1) (omega (arith, length-replicate {A = ℕ} 2240 0))
+
+returns : tie.Need-returns
+unfolding bytes
+returns c =
+    let m = c .before .before .before .before .before .before .before .strict .ensures in
+    let t = c .before .before .tree-line .ensures in
+    (strict-put _ (c .before .before .before .before .before .before .before .before .before .before .before .pre) (replicate 2240 0) _ _ (m .0) (m .1) (omega (arith, length-replicate {A = ℕ} 2240 0)) (t .0), t .1)
+
+pub strict-line-spec : {M : Type 1} → statement M
+strict-line-spec =
+    tie.close
+    (tie.spec
+    (λ c. search needs)
+    (λ c κs. search needs)
+    (λ c. search needs)
+    (λ c. search needs)
+    tree-line-requires
+    (λ c. search needs)
+    returns)

@@ -1,0 +1,65 @@
+-- `sheet::lines::write_line` meets its contract: each line has its number. Assumes nothing.
+use native.Mathlib.Omega.{arith}
+use borrow.Author.Needs.{needs}
+use Rattle.rows.specs.ReadLaws.{long}
+use Rattle.distances.specs.WholeTreeLaws.{trees-few}
+use Rattle.sheet.specs.LineLaws.{put-as}
+use Rattle.sheet.specs.SheetLaws.{line-counts, line-split, line-row, line-majority, line-strict}
+use Rattle.sheet.proofs.lines.write_line.Statement.{statement}
+use Rattle.sheet.proofs.lines.write_line.Tie as tie
+
+returns : tie.Need-returns
+returns c =
+    let p = c .before .before .counts-line .ensures in
+    (put-as (line-counts _ (c .before .before .before .before .before .before .before .before .before .pre .0) _ _ (c .before .before .before .before .if1 .taken)) (p .0), p .1)
+
+returns-2 : tie.Need-returns-2
+returns-2 c =
+    let p = c .before .before .split-line .ensures in
+    (put-as (line-split _ (c .before .before .before .before .before .before .before .before .before .before .pre .0) _ _ (c .before .before .before .before .before .if1 .left) (omega (arith, c .before .before .before .before .before .before .before .splits-held .ensures .0))) (p .0), p .1)
+
+add-if3 : tie.Need-add-if3
+add-if3 c = omega (arith, c .before .before .before .splits-held .ensures .1, c .before .before .trees-held .ensures, trees-few _ (c .before .before .before .before .before .before .pre .0))
+
+returns-3 : tie.Need-returns-3
+returns-3 c =
+    let p = c .before .before .row-line .ensures in
+    (put-as (line-row _ (c .before .before .before .before .before .before .before .before .before .before .before .pre .0) _ _ _ (c .before .before .before .before .before .before .before .before .splits-held .ensures .0) (omega arith) (omega (arith, c .before .before .before .before .before .before .before .trees-held .ensures))) (p .0), p .1)
+
+returns-4 : tie.Need-returns-4
+returns-4 c =
+    let p = c .before .before .majority-line .ensures in
+    (put-as (line-majority _ (c .before .before .before .before .before .before .before .before .before .before .before .before .pre .0) _ _ (omega (arith, c .before .before .before .before .if4 .taken, c .before .before .before .before .before .before .before .before .before .splits-held .ensures .0, c .before .before .before .before .before .before .before .before .trees-held .ensures))) (p .0), p .1)
+
+returns-5 : tie.Need-returns-5
+returns-5 c =
+    let p = c .before .before .strict-line .ensures in
+    (put-as (line-strict _ (c .before .before .before .before .before .before .before .before .before .before .before .before .pre .0) _ _ (omega (arith, c .before .before .before .before .if4 .left, c .before .before .before .before .before .before .before .before .before .splits-held .ensures .0, c .before .before .before .before .before .before .before .before .trees-held .ensures, c .before .before .before .before .before .before .before .before .before .before .before .before .pre .1))) (p .0), p .1)
+
+pub write-line-spec : {M : Type 1} → statement M
+write-line-spec =
+    tie.close
+    (tie.spec
+    (λ c κs. long _ (c .before .before .pre .0))
+    (λ c κs. long _ (c .before .before .before .pre .0))
+    (λ c κs. search needs)
+    (λ c. search needs)
+    returns
+    (λ c. search needs)
+    (λ c κs. search needs)
+    (λ c. search needs)
+    returns-2
+    add-if3
+    (λ c. search needs)
+    (λ c. search needs)
+    (λ c κs. search needs)
+    (λ c. search needs)
+    returns-3
+    (λ c. search needs)
+    (λ c. search needs)
+    (λ c κs. search needs)
+    (λ c. search needs)
+    returns-4
+    (λ c κs. search needs)
+    (λ c. search needs)
+    returns-5)

@@ -1,0 +1,21 @@
+-- `sheet::writing::put_counted` meets its contract. Assumes nothing.
+use borrow.Author.Needs.{needs}
+use Rattle.writer.specs.PutLaws.{put-then}
+use Rattle.sheet.specs.WritingLaws.{counted-ends}
+use Rattle.sheet.proofs.writing.put_counted.Statement.{statement}
+use Rattle.sheet.proofs.writing.put_counted.Tie as tie
+
+returns : tie.Need-returns
+returns c =
+    let w = c .before .before .before .before .before .before .put-word .ensures in
+    let n = c .before .before .put-number .ensures in
+    (put-then w (n .0), counted-ends _ _ _ _ _ _ _ w (n .1))
+
+pub put-counted-spec : {M : Type 1} → statement M
+put-counted-spec =
+    tie.close
+    (tie.spec
+    (λ c κs. search needs)
+    (λ c κs. search needs)
+    (λ c. search needs)
+    returns)

@@ -1,0 +1,341 @@
+-- The lines of the sheet of a whole store, as the code writes them. Assumes nothing.
+--
+--   put-as                          the same bytes, under another name
+--   counts-put, split-put           the line of counts, and that of a split
+--   cell s i j                      the digits of the distance of the trees i and j
+--   rest f j                        the words of a row behind its first, when j are there
+--   row-none, row-more, row-put     a row of distances, word by word
+--   answer-shown, answer-text       a tree that a call answered
+--   majority-shown, majority-put    the majority tree
+--   strict-shown, strict-put        the strict tree
+--   shown-word, shown-alone, shown-fits     what of it is short
+--   answer-given, answer-none       it is the text, or `none`
+use Prim.Native.Nat.{ℕ, zero, suc, _+_, _≤_, _<_}
+use native.Mathlib.Numerals.{add-one}
+use native.Mathlib.Omega.{arith}
+use mathlib.Core.Path.{_≡_, refl, sym, ap, subst, _∙_}
+use mathlib.Core.Bool.{Bool, true, false}
+use mathlib.Core.List.{List, [], _∷_, _++_, map, append-assoc, append-nil}
+use lib.Dec.{eqb}
+use lib.ListN.{length, take, drop, length-append}
+use lib.Seq.{take-at, drop-append-le}
+use borrow.Author.Tests.{le-ltb}
+use Rattle.trees.specs.Plain.{if_then_else_, Answer, refused, gives}
+use Rattle.trees.specs.Samples.{bytes}
+use Rattle.trees.specs.Distance.{doubled}
+use Rattle.trees.specs.Consensus.{recorded, count, strict, majority}
+use Rattle.trees.specs.Written.{written}
+use Rattle.trees.specs.Names.{goodNames}
+use Rattle.trees.specs.Opening.{inRange, goodConstants}
+use Rattle.trees.specs.Held.{Held}
+use Rattle.trees.specs.Whole.{goodTree, goodOpening}
+use Rattle.trees.specs.Questions.{ifRoom, ifTrees, strictOf, majorityOf}
+use Rattle.theorems.specs.ListLaws.{and-right}
+use Rattle.theorems.specs.WrittenLaws.{written-length}
+use Rattle.theorems.specs.ConsensusLaws.{strict-good, majority-good}
+use Rattle.head.specs.Head.{fromTo, upTo, numbersAt, namesAt, openingAt}
+use Rattle.head.specs.HeadLaws.{upTo-length}
+use Rattle.layout.specs.Store.{treesHeldAt, splitsHeldAt, maskAt, countAt, orderAt, splitAt, treeAt, heldAt}
+use Rattle.layout.specs.StoreLaws.{split-is}
+use Rattle.store.specs.WholeStore.{wholeAt}
+use Rattle.store.specs.WholeFacts.{whole-at-facts}
+use Rattle.store.specs.UpToLaws.{upTo-more}
+use Rattle.store.specs.RecordedAtLaws.{held-trees, trees-length, recorded-length}
+use Rattle.store.specs.HeldWholeLaws.{held-numbers, opening-facts}
+use Rattle.table.specs.declared.Refusal.{Refusal}
+use Rattle.table.specs.declared.Number.{Number}
+use Rattle.table.specs.declared.Number.the-variants as number
+use Rattle.table.specs.Answers.{numberGiven}
+use Rattle.table.specs.Promises.{lengthGiven, front}
+use Rattle.table.specs.CountsLaws.{row-count, split-count}
+use Rattle.table.specs.QuestionLaws.{when-whole}
+use Rattle.writer.specs.Branch.{Put}
+use Rattle.writer.specs.PutLaws.{put-none, put-then}
+use Rattle.consensus.specs.Consensus.{strictAsked, majorityAsked}
+use Rattle.consensus.specs.FewLaws.{trees-good}
+use Rattle.sheet.specs.Sheet.{digitsOf, spaced, fields, lineOf, countsLine, splitLine, rowLine, treeLine, majorityLine, strictLine}
+use Rattle.sheet.specs.Lines.{answerText, Shown}
+
+pub put-as : {l v w after : List ℕ} {at z : ℕ} → v ≡ w → Put l at v after z → Put l at w after z
+put-as {l} {after = after} {at} {z} e p = subst (λ (x : List ℕ). Put l at x after z) e p
+
+-- ---- the line of counts
+
+unfoldable countsText : List ℕ → List ℕ → List ℕ → List ℕ → List ℕ
+unfolding lineOf bytes
+countsText a b c d = lineOf (bytes "taxa" ∷ a ∷ bytes "trees" ∷ b ∷ bytes "refused" ∷ c ∷ bytes "splits" ∷ d ∷ [])
+
+counts-text : (a b c d : List ℕ)
+    → (116 ∷ 97 ∷ 120 ∷ 97 ∷ 32 ∷ a) ++ ((32 ∷ 116 ∷ 114 ∷ 101 ∷ 101 ∷ 115 ∷ 32 ∷ b) ++ ((32 ∷ 114 ∷ 101 ∷ 102 ∷ 117 ∷ 115 ∷ 101 ∷ 100 ∷ 32 ∷ c) ++ ((32 ∷ 115 ∷ 112 ∷ 108 ∷ 105 ∷ 116 ∷ 115 ∷ 32 ∷ d) ++ 10 ∷ [])))
+    ≡ countsText a b c d
+unfolding countsText
+counts-text a b c d = simp (append-assoc, append-nil)
+
+counts-is : (h : Held) (r : ℕ)
+    → countsLine h r ≡ countsText (digitsOf (h .opening .numbers .taxa)) (digitsOf (length (h .trees))) (digitsOf r) (digitsOf (length (recorded (h .trees))))
+unfolding countsLine countsText digitsOf recorded
+counts-is h r = refl
+
+split-text : (a b : List ℕ) → a ++ ((32 ∷ b) ++ 10 ∷ []) ≡ lineOf (a ∷ b ∷ [])
+unfolding lineOf fields spaced
+split-text a b = simp (append-assoc, append-nil)
+
+split-is-line : (h : Held) (m : ℕ) → lineOf (digitsOf m ∷ digitsOf (count (h .trees) m) ∷ []) ≡ splitLine h m
+unfolding splitLine lineOf digitsOf count
+split-is-line h m = refl
+
+module _ (s : List ℕ) (w : wholeAt s ≡ true) where
+  counts-held : (r : ℕ) → countsText (digitsOf (numbersAt s .taxa)) (digitsOf (treesHeldAt s)) (digitsOf r) (digitsOf (splitsHeldAt s)) ≡ countsLine (heldAt s) r
+  counts-held r = rw (counts-is (heldAt s) r, held-numbers s, trees-length s, recorded-length s w)
+
+  pub counts-put : (r taxa trees splits : ℕ) → taxa ≡ numbersAt s .taxa → trees ≡ treesHeldAt s → splits ≡ splitsHeldAt s
+      → {l i j k m after : List ℕ} {a b c d z : ℕ}
+      → Put l 0 (116 ∷ 97 ∷ 120 ∷ 97 ∷ 32 ∷ digitsOf taxa) i a
+      → Put i a (32 ∷ 116 ∷ 114 ∷ 101 ∷ 101 ∷ 115 ∷ 32 ∷ digitsOf trees) j b
+      → Put j b (32 ∷ 114 ∷ 101 ∷ 102 ∷ 117 ∷ 115 ∷ 101 ∷ 100 ∷ 32 ∷ digitsOf r) k c
+      → Put k c (32 ∷ 115 ∷ 112 ∷ 108 ∷ 105 ∷ 116 ∷ 115 ∷ 32 ∷ digitsOf splits) m d
+      → Put m d (10 ∷ []) after z
+      → Put l 0 (countsLine (heldAt s) r) after z
+  counts-put r taxa trees splits e f g p q t u v =
+      put-as (counts-text (digitsOf taxa) (digitsOf trees) (digitsOf r) (digitsOf splits) ∙ rw (e, f, g) (counts-held r)) (put-then p (put-then q (put-then t (put-then u v))))
+
+  -- ---- the line of a split
+
+  pub split-put : (k row mask n : ℕ) → k < splitsHeldAt s → row ≡ orderAt s k → mask ≡ maskAt s row → n ≡ countAt s row
+      → {l i j after : List ℕ} {a b z : ℕ} → Put l 0 (digitsOf mask) i a → Put i a (32 ∷ digitsOf n) j b → Put j b (10 ∷ []) after z
+      → Put l 0 (splitLine (heldAt s) (splitAt s k)) after z
+  split-put k row mask n h e f g p q t =
+      let m : mask ≡ splitAt s k = f ∙ ap (maskAt s) e ∙ sym (split-is s k) in
+      let c : n ≡ count (heldAt s .trees) (splitAt s k) = row-count s k row n e g ∙ sym (split-count s w k h) in
+      put-as (split-text (digitsOf mask) (digitsOf n) ∙ rw (m, c) (split-is-line (heldAt s) (splitAt s k))) (put-then p (put-then q t))
+
+-- ---- a row of distances
+
+unfoldable pub cell : List ℕ → ℕ → ℕ → List ℕ
+unfolding digitsOf
+cell s i j = digitsOf (doubled (treeAt s i) (treeAt s j))
+
+module _ {A B : Type 0} (f : A → B) (g : ℕ → A) where
+  map-from : (k n : ℕ) → map f (fromTo g k n) ≡ fromTo (λ i. f (g i)) k n
+  unfolding fromTo
+  map-from k zero = refl
+  map-from k (suc n) = ap (λ (l : List B). f (g k) ∷ l) (map-from (suc k) n)
+
+  map-upTo : (n : ℕ) → map f (upTo g n) ≡ upTo (λ i. f (g i)) n
+  unfolding upTo
+  map-upTo n = map-from 0 n
+
+spaced-more : (ws : List (List ℕ)) (w : List ℕ) → spaced (ws ++ w ∷ []) ≡ spaced ws ++ (32 ∷ w)
+unfolding spaced
+spaced-more [] w = ap (λ (v : List ℕ). 32 ∷ v) (append-nil w)
+spaced-more (v ∷ ws) w = ap (λ (x : List ℕ). 32 ∷ x) (ap (λ (x : List ℕ). v ++ x) (spaced-more ws w) ∙ sym (append-assoc v (spaced ws) (32 ∷ w)))
+
+fields-more : (ws : List (List ℕ)) (w : List ℕ) → 0 < length ws → fields (ws ++ w ∷ []) ≡ fields ws ++ (32 ∷ w)
+unfolding fields
+fields-more [] w h = absurd (omega arith)
+fields-more (v ∷ ws) w h = ap (λ (x : List ℕ). v ++ x) (spaced-more ws w) ∙ sym (append-assoc v (spaced ws) (32 ∷ w))
+
+-- the words of a row behind its first, when j are there
+unfoldable pub rest : (ℕ → List ℕ) → ℕ → List ℕ
+unfolding spaced upTo
+rest f j = spaced (drop 1 (upTo f j))
+
+rest-more : (f : ℕ → List ℕ) (j : ℕ) → 1 ≤ j → rest f j ++ (32 ∷ f j) ≡ rest f (j + 1)
+rest-more f j h = sym (rest-is (j + 1) ∙ rw (add-one j, upTo-more f j, drop-append-le 1 (upTo f j) (f j ∷ []) (omega (arith, upTo-length f j))) (spaced-more (drop 1 (upTo f j)) (f j)) ∙ ap (λ (v : List ℕ). v ++ (32 ∷ f j)) (sym (rest-is j)))
+  where
+    rest-is : (i : ℕ) → rest f i ≡ spaced (drop 1 (upTo f i))
+    rest-is i = unfold rest spaced upTo in refl
+
+rest-all : (f : ℕ → List ℕ) (n : ℕ) → 1 ≤ n → f 0 ++ rest f n ≡ fields (upTo f n)
+unfolding rest fields upTo fromTo
+rest-all f zero h = absurd (omega arith)
+rest-all f (suc n) h = refl
+
+module _ (s : List ℕ) (i : ℕ) where
+  pub row-none : (l : List ℕ) (a : ℕ) → Put l a (rest (cell s i) 1) l a
+  unfolding rest spaced upTo fromTo
+  row-none l a = put-none l a
+
+  pub row-more : (j d : ℕ) → 1 ≤ j → d ≡ doubled (treeAt s i) (treeAt s j) → {l k after : List ℕ} {a b z : ℕ}
+      → Put l a (rest (cell s i) j) k b → Put k b (32 ∷ digitsOf d) after z → Put l a (rest (cell s i) (j + 1)) after z
+  row-more j d h e p q =
+      let c : digitsOf d ≡ cell s i j = unfold cell digitsOf in ap digitsOf e in
+      put-as (ap (λ (v : List ℕ). rest (cell s i) j ++ (32 ∷ v)) c ∙ rest-more (cell s i) j h) (put-then p q)
+
+  row-is : (h : Held) → rowLine h (treeAt s i) ≡ fields (map (λ u. digitsOf (doubled (treeAt s i) u)) (h .trees)) ++ 10 ∷ []
+  unfolding rowLine lineOf fields
+  row-is h = refl
+
+  row-cells : map (λ u. digitsOf (doubled (treeAt s i) u)) (heldAt s .trees) ≡ upTo (cell s i) (treesHeldAt s)
+  unfolding cell
+  row-cells = rw (held-trees s) (map-upTo (λ u. digitsOf (doubled (treeAt s i) u)) (treeAt s) (treesHeldAt s))
+
+  row-held : fields (upTo (cell s i) (treesHeldAt s)) ++ 10 ∷ [] ≡ rowLine (heldAt s) (treeAt s i)
+  row-held = sym (row-is (heldAt s) ∙ ap (λ (ws : List (List ℕ)). fields ws ++ 10 ∷ []) row-cells)
+
+  pub row-put : (n d : ℕ) → n ≡ treesHeldAt s → 1 ≤ n → d ≡ doubled (treeAt s i) (treeAt s 0) → {l j k after : List ℕ} {a b z : ℕ}
+      → Put l 0 (digitsOf d) j a → Put j a (rest (cell s i) n) k b → Put k b (10 ∷ []) after z
+      → Put l 0 (rowLine (heldAt s) (treeAt s i)) after z
+  row-put n d e h f p q t =
+      let c : digitsOf d ≡ cell s i 0 = unfold cell digitsOf in ap digitsOf f in
+      let g : digitsOf d ++ rest (cell s i) n ≡ fields (upTo (cell s i) n) = ap (λ (v : List ℕ). v ++ rest (cell s i) n) c ∙ rest-all (cell s i) n h in
+      put-as (ap (λ (v : List ℕ). v ++ 10 ∷ []) g ∙ rw e row-held) (put-then (put-then p q) t)
+
+-- ---- a tree that a call answered
+
+-- a refusal, as that of no trees, or the text
+abbrev asked : Bool → List ℕ → Answer (List ℕ)
+asked b t = if b then refused 14 else gives t
+
+module _ (t old text : List ℕ) where
+  pub answer-text : (b : Bool) (r : Number) → numberGiven r ≡ lengthGiven (asked b t) → text ≡ front (asked b t) old
+      → answerText r text ≡ (if b then bytes "none" else t)
+  unfolding numberGiven lengthGiven front answerText
+  answer-text true (number.Refused r) e f = refl
+  answer-text true (number.Gives n) e f = absurd (no-gives n 14 e)
+    where
+      no-gives : (n k : ℕ) → _≡_ {A = Answer ℕ} (gives n) (refused k) → ⊥
+      no-gives n k e = let z : _≡_ {A = ℕ} 0 1 = cc in omega arith
+  answer-text false (number.Refused r) e f = absurd (no-refused _ (length t) e)
+    where
+      no-refused : (k n : ℕ) → _≡_ {A = Answer ℕ} (refused k) (gives n) → ⊥
+      no-refused k n e = let z : _≡_ {A = ℕ} 0 1 = cc in omega arith
+  answer-text false (number.Gives n) e f = let m : n ≡ length t = cc in rw (f, m) (take-at t (drop (length t) old) (length t) refl)
+
+  pub answer-shown : (word : List ℕ) → length word ≤ 2000 → length t ≤ 2236 → (b : Bool) (r : Number) → numberGiven r ≡ lengthGiven (asked b t) → text ≡ front (asked b t) old
+      → Shown r word text
+  unfolding numberGiven lengthGiven front Shown
+  answer-shown word h l true (number.Refused r) e f = h
+  answer-shown word h l true (number.Gives n) e f = absurd (let z : _≡_ {A = ℕ} 0 1 = cc in omega arith)
+  answer-shown word h l false (number.Refused r) e f = absurd (let z : _≡_ {A = ℕ} 0 1 = cc in omega arith)
+  answer-shown word h l false (number.Gives n) e f =
+      let m : n ≡ length t = cc in
+      (h, omega arith, omega (arith, ap length f, length-append t (drop (length t) old)))
+
+-- ---- the two trees
+
+tree-text : (word t : List ℕ) → (word ++ 32 ∷ []) ++ (t ++ 10 ∷ []) ≡ lineOf (word ∷ t ∷ [])
+unfolding lineOf fields spaced
+tree-text word t = simp (append-assoc, append-nil)
+
+-- what is written behind the word
+abbrev treeShown : Held → List ℕ → List ℕ
+treeShown h splits = if eqb (length (h .trees)) 0 then bytes "none" else written (h .opening .names) splits
+
+majority-is : (h : Held) → lineOf (bytes "majority" ∷ treeShown h (majority (h .trees)) ∷ []) ≡ majorityLine h
+unfolding majorityLine treeLine lineOf bytes written majority
+majority-is h = refl
+
+strict-is : (h : Held) → lineOf (bytes "strict" ∷ treeShown h (strict (h .trees)) ∷ []) ≡ strictLine h
+unfolding strictLine treeLine lineOf bytes written strict
+strict-is h = refl
+
+module _ (s : List ℕ) (w : wholeAt s ≡ true) where
+  names-good : goodNames (numbersAt s .taxa) (namesAt s) ≡ true
+  unfolding goodOpening openingAt
+  names-good =
+      let o = openingAt s in
+      and-right (goodConstants (o .numbers) (o .first) (o .second)) _ (and-right (inRange (o .numbers)) _ (whole-at-facts s w .head .opening-good))
+
+  tree-short : (l : List ℕ) → goodTree (numbersAt s .taxa) l ≡ true → length (written (heldAt s .opening .names) l) ≤ 2236
+  unfolding heldAt openingAt
+  tree-short l g =
+      let r = opening-facts s w .ranges in
+      let a = r .least-taxa in
+      written-length (numbersAt s .taxa) (namesAt s) l names-good g (omega arith) (r .most-taxa)
+
+  -- with so much room, a tree is refused only where there is none
+  tree-asked : (room : ℕ) (t : List ℕ) → 2236 ≤ room → length t ≤ 2236 → ifTrees (heldAt s) (ifRoom room t) ≡ asked (eqb (length (heldAt s .trees)) 0) t
+  unfolding ifTrees ifRoom
+  tree-asked room t h l = rw (le-ltb room (length t) (omega arith))
+
+  module _ (old text : List ℕ) (h : 2236 ≤ length old) (r : Number) (splits : List ℕ) (g : goodTree (numbersAt s .taxa) splits ≡ true)
+      (x : Answer (List ℕ)) (q : x ≡ ifTrees (heldAt s) (ifRoom (length old) (written (heldAt s .opening .names) splits)))
+      (e : numberGiven r ≡ lengthGiven x) (f : text ≡ front x old) where
+    abbrev none : Bool
+    none = eqb (length (heldAt s .trees)) 0
+
+    abbrev text-of : List ℕ
+    text-of = written (heldAt s .opening .names) splits
+
+    as-asked : x ≡ asked none text-of
+    as-asked = q ∙ tree-asked (length old) text-of h (tree-short splits g)
+
+    length-asked : numberGiven r ≡ lengthGiven (asked none text-of)
+    length-asked = e ∙ ap lengthGiven as-asked
+
+    front-asked : text ≡ front (asked none text-of) old
+    front-asked = f ∙ ap (λ (y : Answer (List ℕ)). front y old) as-asked
+
+    tree-shown : (word : List ℕ) → length word ≤ 2000 → Shown r word text
+    tree-shown word k = answer-shown text-of old text word k (tree-short splits g) none r length-asked front-asked
+
+    tree-put : (word : List ℕ) {l after : List ℕ} {z : ℕ} → Put l 0 ((word ++ 32 ∷ []) ++ (answerText r text ++ 10 ∷ [])) after z
+        → Put l 0 (lineOf (word ∷ treeShown (heldAt s) splits ∷ [])) after z
+    tree-put word p =
+        put-as (ap (λ (v : List ℕ). (word ++ 32 ∷ []) ++ (v ++ 10 ∷ [])) (answer-text text-of old text none r length-asked front-asked) ∙ tree-text word (treeShown (heldAt s) splits)) p
+
+  module _ (old text : List ℕ) (r : Number) where
+    majority-asked : majorityAsked s (length old) ≡ ifTrees (heldAt s) (ifRoom (length old) (written (heldAt s .opening .names) (majority (heldAt s .trees))))
+    unfolding majorityAsked majorityOf
+    majority-asked = when-whole s (λ z. majorityOf z (length old)) w
+
+    module _ (e : numberGiven r ≡ lengthGiven (majorityAsked s (length old))) (f : text ≡ front (majorityAsked s (length old)) old) (h : 2236 ≤ length old) where
+      good : goodTree (numbersAt s .taxa) (majority (heldAt s .trees)) ≡ true
+      good = majority-good (numbersAt s .taxa) (heldAt s .trees) (trees-good s w)
+
+      pub majority-shown : Shown r (bytes "majority" ++ 32 ∷ []) text
+      unfolding bytes
+      majority-shown = tree-shown old text h r _ good _ majority-asked e f (bytes "majority" ++ 32 ∷ []) (omega arith)
+
+      pub majority-put : {l after : List ℕ} {z : ℕ} → Put l 0 ((bytes "majority" ++ 32 ∷ []) ++ (answerText r text ++ 10 ∷ [])) after z
+          → Put l 0 (majorityLine (heldAt s)) after z
+      majority-put p = put-as (majority-is (heldAt s)) (tree-put old text h r _ good _ majority-asked e f (bytes "majority") p)
+
+    strict-asked : strictAsked s (length old) ≡ ifTrees (heldAt s) (ifRoom (length old) (written (heldAt s .opening .names) (strict (heldAt s .trees))))
+    unfolding strictAsked strictOf
+    strict-asked = when-whole s (λ z. strictOf z (length old)) w
+
+    module _ (e : numberGiven r ≡ lengthGiven (strictAsked s (length old))) (f : text ≡ front (strictAsked s (length old)) old) (h : 2236 ≤ length old) where
+      good-strict : goodTree (numbersAt s .taxa) (strict (heldAt s .trees)) ≡ true
+      good-strict = strict-good (numbersAt s .taxa) (heldAt s .trees) (trees-good s w)
+
+      pub strict-shown : Shown r (bytes "strict" ++ 32 ∷ []) text
+      unfolding bytes
+      strict-shown = tree-shown old text h r _ good-strict _ strict-asked e f (bytes "strict" ++ 32 ∷ []) (omega arith)
+
+      pub strict-put : {l after : List ℕ} {z : ℕ} → Put l 0 ((bytes "strict" ++ 32 ∷ []) ++ (answerText r text ++ 10 ∷ [])) after z
+          → Put l 0 (strictLine (heldAt s)) after z
+      strict-put p = put-as (strict-is (heldAt s)) (tree-put old text h r _ good-strict _ strict-asked e f (bytes "strict") p)
+
+-- ---- a tree as it was answered
+
+module _ (r : Number) (word text : List ℕ) where
+  pub shown-word : Shown r word text → length word ≤ 2000
+  unfolding Shown
+  shown-word h = go r h
+    where
+      go : (q : Number) → Shown q word text → length word ≤ 2000
+      go (number.Gives n) k = k .0
+      go (number.Refused x) k = k
+
+  pub shown-alone : Shown r word text → Shown r [] text
+  unfolding Shown
+  shown-alone h = go r h
+    where
+      go : (q : Number) → Shown q word text → Shown q [] text
+      go (number.Gives n) k = (omega arith, k .1, k .2)
+      go (number.Refused x) k = omega arith
+
+  pub shown-fits : (n : ℕ) → r ≡ number.Gives n → Shown r word text → (n ≤ 2240) × (n ≤ length text)
+  unfolding Shown
+  shown-fits n e h = let k = subst (λ (q : Number). Shown q word text) e h in (k .1, k .2)
+
+module _ (r : Number) (text : List ℕ) {l after : List ℕ} {at z : ℕ} where
+  pub answer-given : (n : ℕ) → r ≡ number.Gives n → Put l at (take n text) after z → Put l at (answerText r text) after z
+  unfolding answerText
+  answer-given n e p = put-as (sym (ap (λ (q : Number). answerText q text) e)) p
+
+  pub answer-none : (q : Refusal) → r ≡ number.Refused q → Put l at (bytes "none") after z → Put l at (answerText r text) after z
+  unfolding answerText
+  answer-none q e p = put-as (sym (ap (λ (x : Number). answerText x text) e)) p

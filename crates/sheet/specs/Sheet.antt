@@ -1,0 +1,92 @@
+-- The summary sheet: what `treesum` prints of a collection, line by line.
+--
+--   digitsOf n                 the number n in decimal digits
+--   fields ws, lineOf ws       the words ws, parted by one space; and with their line end
+--   countsLine h refused       how many taxa, accepted trees, refused texts and recorded splits there are
+--   splitLine h m              the mask m and its count
+--   rowLine h t                the doubled distances of the tree t from all trees
+--   majorityLine, strictLine   the two consensus trees
+--   sheetLines h refused       all lines of the sheet, in order
+use Prim.Native.Nat.{ℕ, zero, suc, _+_, _/_, _%_}
+use Prim.Native.String.{String}
+use mathlib.Core.Bool.{true, false}
+use mathlib.Core.List.{List, [], _∷_, _++_, map}
+use lib.Dec.{ltb, eqb}
+use lib.ListN.{length}
+use Rattle.trees.specs.Plain.{if_then_else_}
+use Rattle.trees.specs.Samples.{bytes}
+use Rattle.trees.specs.Distance.{doubled}
+use Rattle.trees.specs.Consensus.{recorded, count, strict, majority}
+use Rattle.trees.specs.Written.{written}
+use Rattle.trees.specs.Held.{Held}
+
+-- f is more than enough steps
+unfoldable pub digitsFrom : ℕ → ℕ → List ℕ
+digitsFrom zero n = []
+digitsFrom (suc f) n = elim (ltb n 10) [ true ↦ (48 + n) ∷ [] | false ↦ digitsFrom f (n / 10) ++ (48 + n % 10) ∷ [] ]
+
+-- "Masks print as unsigned decimals", and so do all numbers
+unfoldable pub digitsOf : ℕ → List ℕ
+unfolding digitsFrom
+digitsOf n = digitsFrom (suc n) n
+
+-- words, each behind a space
+unfoldable pub spaced : List (List ℕ) → List ℕ
+spaced [] = []
+spaced (w ∷ ws) = 32 ∷ (w ++ spaced ws)
+
+-- "Fields are parted by one space"
+unfoldable pub fields : List (List ℕ) → List ℕ
+unfolding spaced
+fields [] = []
+fields (w ∷ ws) = w ++ spaced ws
+
+-- "every line ends with LF"
+unfoldable pub lineOf : List (List ℕ) → List ℕ
+unfolding fields
+lineOf ws = fields ws ++ 10 ∷ []
+
+-- "Line one counts taxa, accepted trees, refused texts (a refused closing included) and recorded splits"
+unfoldable pub countsLine : Held → ℕ → List ℕ
+unfolding lineOf bytes digitsOf recorded
+countsLine h refused =
+    lineOf
+    (bytes "taxa"
+    ∷ digitsOf (h .opening .numbers .taxa)
+    ∷ bytes "trees"
+    ∷ digitsOf (length (h .trees))
+    ∷ bytes "refused"
+    ∷ digitsOf refused
+    ∷ bytes "splits"
+    ∷ digitsOf (length (recorded (h .trees)))
+    ∷ [])
+
+-- "mask and count of each split"
+unfoldable pub splitLine : Held → ℕ → List ℕ
+unfolding lineOf digitsOf count
+splitLine h m = lineOf (digitsOf m ∷ digitsOf (count (h .trees) m) ∷ [])
+
+-- "the doubled distances": a row of the matrix, that of the tree t
+unfoldable pub rowLine : Held → List ℕ → List ℕ
+unfolding lineOf digitsOf doubled
+rowLine h t = lineOf (map (λ u. digitsOf (doubled t u)) (h .trees))
+
+-- "the two trees. With no trees the last lines are `majority none` and `strict none`"
+unfoldable pub treeLine : Held → String → List ℕ → List ℕ
+unfolding lineOf bytes written
+treeLine h word splits = lineOf (bytes word ∷ (if eqb (length (h .trees)) 0 then bytes "none" else written (h .opening .names) splits) ∷ [])
+
+unfoldable pub majorityLine : Held → List ℕ
+unfolding treeLine majority
+majorityLine h = treeLine h "majority" (majority (h .trees))
+
+unfoldable pub strictLine : Held → List ℕ
+unfolding treeLine strict
+strictLine h = treeLine h "strict" (strict (h .trees))
+
+-- the counts; "then mask and count of each split, the doubled distances, the two trees"
+unfoldable pub sheetLines : Held → ℕ → List (List ℕ)
+unfolding countsLine splitLine rowLine majorityLine strictLine recorded
+sheetLines h refused =
+    countsLine h refused
+    ∷ (map (splitLine h) (recorded (h .trees)) ++ (map (rowLine h) (h .trees) ++ majorityLine h ∷ strictLine h ∷ []))

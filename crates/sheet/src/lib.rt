@@ -1,0 +1,73 @@
+// The summary sheet: the first line of an input and the texts behind it taken piece by piece, and the lines
+// that are printed. Each call does its own checking and asks nothing of what it is given.
+//
+// Read `specs/Sheet.antt` and `specs/Summary.antt` for what is printed; `specs/FirstLine.antt`, `specs/Texts.antt`
+// and `specs/Asked.antt` for what the calls promise.
+ghost use Prim.Native.Nat.{_≤_};
+ghost use lib.ListN.{length, take};
+ghost use Rattle.trees.specs.Questions.{ifRoom};
+ghost use Rattle.table.specs.Filled.{FilledAs};
+ghost use Rattle.sheet.specs.Asked.{lineAsked, refusalAsked};
+use table::Number;
+use table::Refusal;
+
+mod first_line;
+mod lines;
+mod texts;
+mod writing;
+
+pub use first_line::open_line;
+pub use first_line::take_line;
+pub use texts::close_texts;
+pub use texts::take_texts;
+
+// What is kept of a first line that is being taken: how many bytes, and how many spaces it has had, at most 64.
+pub struct LinePart {
+    pub used: usize,
+    pub spaces: usize,
+}
+
+// The answer of taking a piece of the first line: how many of its bytes, whether the line has ended, and what is kept.
+pub struct Taken {
+    pub taken: usize,
+    pub ended: bool,
+    pub line: LinePart,
+}
+
+// Writes line number j of the sheet to the front of out. `refused` texts were refused.
+pub fn line(s: &[u8], refused: usize, j: usize, out: &mut [u8]) -> Number
+    ensures { λ r. ⌜ FilledAs (lineAsked (now (s .entry)) refused j (length (now (out .entry)))) r (now (out .entry)) (now (out .exit)) ⌝ }
+{
+    if !store::is_whole(s) {
+        return Number::Refused(Refusal::NotWhole);
+    }
+    let lines = layout::splits_held(s) + layout::trees_held(s) + 3;
+    if lines <= j {
+        return Number::Refused(Refusal::NoSuchNumber);
+    }
+    let mut text = [0u8; 8192];
+    let n = lines::write_line(s, refused, j, &mut text);
+    give(&text, n, out)
+}
+
+// Writes the line for a first line that is refused with the number k to the front of out.
+pub fn refusal_line(k: u32, out: &mut [u8]) -> Number
+    ensures { λ r. ⌜ FilledAs (refusalAsked k (length (now (out .entry)))) r (now (out .entry)) (now (out .exit)) ⌝ }
+{
+    let mut text = [0u8; 64];
+    let e = writing::put_counted(&mut text, 0, b"names refused ", k as u64);
+    let n = writing::put_end(&mut text, e);
+    give(&text, n, out)
+}
+
+// Copies the first n bytes of a text to the front of out, where they fit.
+fn give(text: &[u8], n: usize, out: &mut [u8]) -> Number
+    requires { ⌜ n ≤ length (now text) ⌝ }
+    ensures { λ r. ⌜ FilledAs (ifRoom (length (now (out .entry))) (take n (now (text .entry)))) r (now (out .entry)) (now (out .exit)) ⌝ }
+{
+    if out.len() < n {
+        return Number::Refused(Refusal::TooShort);
+    }
+    fields::copy_from(out, 0, text, 0, n);
+    Number::Gives(n)
+}
