@@ -6,6 +6,7 @@
 --   before-take        the bytes before it are the piece's first
 --   ended, unended, end-inside, end-all     a piece has a semicolon exactly where they are not all
 --   texts-here, texts-more, texts-none     how many semicolons there are
+--   texts-skip         those of a block, and those behind it
 --   one-text           behind the first text there is one fewer
 --   no-text            a piece without a semicolon has none
 use Prim.Native.Nat.{ℕ, zero, suc, _+_, _-_, _≤_, _<_}
@@ -168,6 +169,24 @@ module _ (p : List ℕ) (i : ℕ) where
   pub texts-none : length p ≤ i → semicolons (drop i p) ≡ 0
   unfolding semicolons keep
   texts-none h = rw (drop-of-length-le p h)
+
+texts-parts : (k : ℕ) (p : List ℕ) → semicolons p ≡ semicolons (take k p) + semicolons (drop k p)
+unfolding semicolons keep
+texts-parts zero p = omega arith
+texts-parts (suc k) [] = refl
+texts-parts (suc k) (b ∷ p) = go (eqb 59 b) (texts-parts k p)
+  where
+    go : (t : Bool) → semicolons p ≡ semicolons (take k p) + semicolons (drop k p)
+        → length (if t then b ∷ keep (eqb 59) p else keep (eqb 59) p)
+        ≡ length (if t then b ∷ keep (eqb 59) (take k p) else keep (eqb 59) (take k p)) + semicolons (drop k p)
+    go true e = omega arith
+    go false e = e
+
+pub texts-skip : (p : List ℕ) (i j : ℕ) → i ≤ j → semicolons (drop i p) ≡ semicolons (take (j - i) (drop i p)) + semicolons (drop j p)
+texts-skip p i j h =
+    let n : i + (j - i) ≡ j = omega arith in
+    let q : drop (j - i) (drop i p) ≡ drop j p = drop-drop (j - i) i p ∙ ap (λ (k : ℕ). drop k p) n in
+    texts-parts (j - i) (drop i p) ∙ ap (λ (s : List ℕ). semicolons (take (j - i) (drop i p)) + semicolons s) q
 
 pub no-text : (p : List ℕ) → member 59 p ≡ false → semicolons p ≡ 0
 unfolding semicolons keep member
