@@ -1,5 +1,5 @@
-// The parts that are timed. Where a part only reads the store, a byte that no lane holds is written between its calls, so that the
-// compiler cannot make one call of them.
+// The parts that are timed. Between the tests of the store, and between the passes over it, a byte that no lane holds is written, so that
+// the compiler cannot make one of them.
 use crate::clock;
 use crate::clock::Times;
 use crate::opened;
