@@ -5,3 +5,6 @@ pub mod RunLaws
 pub mod BatchLaws
 pub mod Outcomes
 pub mod InnerOutcomes
+pub mod SheetOutcomes
+pub mod SeamLaws
+pub mod CutLaws
