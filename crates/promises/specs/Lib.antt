@@ -8,3 +8,6 @@ pub mod InnerOutcomes
 pub mod SheetOutcomes
 pub mod SeamLaws
 pub mod CutLaws
+pub mod SummarySteps
+pub mod LineStepLaws
+pub mod TextStepLaws
