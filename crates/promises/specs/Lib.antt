@@ -11,3 +11,5 @@ pub mod CutLaws
 pub mod SummarySteps
 pub mod LineStepLaws
 pub mod TextStepLaws
+pub mod PrintedLaws
+pub mod SummaryLaws

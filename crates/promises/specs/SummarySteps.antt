@@ -69,7 +69,7 @@ unfoldable pub Printed : ℕ → Finish → List ℕ → List (List ℕ) → Lis
 unfolding countAfter TextSteps LinesGiven whole refusalNumber
 Printed room (finish.Refused w) s rest printed =
     (r : Number) × (out : List ℕ) × (after : List ℕ)
-    × (room ≤ length out)
+    × (16 ≤ length out)
     × FilledAs (refusalAsked (refusalNumber w) (length out)) r out after
     × (printed ≡ take (countAfter 0 r) after)
 Printed room finish.Done s rest printed =

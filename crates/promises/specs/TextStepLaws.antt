@@ -3,6 +3,8 @@
 --   capped-more            a capped number and a further one, capped
 --   all-fed o v            the outcome of feeding v at once to what was just opened
 --   FedSoFar o v s n       the lent bytes s hold what feeding v leaves, and n counts its refusals
+--   lane-whole             a whole store has a lane 0
+--   texts-none             nothing yet
 --   texts-follow           pieces, one after another
 --   refusedTexts o v       how many texts are refused, the closing included
 --   closed-follows         so the closing leaves what the sheet of v is of
@@ -91,7 +93,7 @@ pub record FedSoFar (o : Opening) (v s : List ℕ) (n : ℕ) : Type 0 where
   pub held : heldAt s ≡ all-fed o v .after
   pub count : n ≡ capped (refusedIn (all-fed o v .verdicts))
 
-lane-whole : (s : List ℕ) → wholeAt s ≡ true → 0 < heldAt s .opening .numbers .lanes
+pub lane-whole : (s : List ℕ) → wholeAt s ≡ true → 0 < heldAt s .opening .numbers .lanes
 unfolding openingAt
 lane-whole s w = rw (held-numbers s) (omega (arith, opening-facts s w .ranges .least-lanes))
 

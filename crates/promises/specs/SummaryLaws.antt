@@ -1,0 +1,153 @@
+-- What is printed is the summary of the input, however the input comes in pieces. Assumes nothing.
+--
+--   enough-lent           with 21,512 lent bytes or more, the opening is that of the summary
+--   two-or-three          a first line that is refused then is refused with 2 or 3
+--   summary-printed       what is printed is `summary` of the whole input
+use Prim.Native.Nat.{ℕ, suc, _+_, _≤_, _<_}
+use native.Mathlib.Omega.{arith}
+use mathlib.Core.Path.{_≡_, refl, sym, ap, ap₂, subst, _∙_}
+use mathlib.Core.Logic.{_⊎_, inl, inr}
+use mathlib.Core.Bool.{Bool, true, false, _&&_}
+use mathlib.Core.List.{List, [], _∷_, _++_, flatMap}
+use lib.Dec.{leb}
+use lib.ListN.{length, getD, take, drop}
+use borrow.Author.Tests.{le-leb, le-ltb}
+use Rattle.trees.specs.Plain.{if_then_else_, Answer, refused, gives}
+use Rattle.trees.specs.Names.{namesIn, goodNames}
+use Rattle.trees.specs.Opening.{Opening, storeSize, inRange, goodConstants, opening}
+use Rattle.trees.specs.Held.{Held, opened, closing}
+use Rattle.trees.specs.Questions.{ifRoom}
+use Rattle.head.specs.Head.{upTo}
+use Rattle.layout.specs.Store.{heldAt}
+use Rattle.store.specs.WholeStore.{wholeAt}
+use Rattle.table.specs.Answers.{refusalNumber, finishGiven}
+use Rattle.table.specs.Promises.{OpenedAs, Holds}
+use Rattle.table.specs.declared.Finish.{Finish}
+use Rattle.table.specs.declared.Finish.the-variants as finish
+use Rattle.table.specs.declared.Refusal.{Refusal}
+use Rattle.sheet.specs.Sheet.{sheetLines}
+use Rattle.sheet.specs.Summary.{firstLine, behindLine, spacesIn, summaryNumbers, firstConstant, secondConstant, namesOpening, summaryOpening, summaryBytes, closedSheet, summaryLines, refusalLine, printed, summary}
+use Rattle.sheet.specs.FirstLine.{Kept, keptAfter, keptOpening}
+use Rattle.sheet.specs.Texts.{capped}
+use Rattle.sheet.specs.TextsLaws.{capped-small}
+use Rattle.sheet.specs.Asked.{refusalAsked}
+use Rattle.sheet.specs.KeptLaws.{fresh, line-decides}
+use Rattle.promises.specs.Outcomes.{refusalIn, gives≢refused}
+use Rattle.promises.specs.SummarySteps.{whole, FewTexts, TextSteps, countAfter, LinesGiven, Printed, Summarised}
+use Rattle.promises.specs.LineStepLaws.{line-follows, few-behind}
+use Rattle.promises.specs.TextStepLaws.{all-fed, FedSoFar, lane-whole, texts-none, texts-follow, refusedTexts, closed-follows}
+use Rattle.promises.specs.PrintedLaws.{filled-line, lines-follow}
+
+-- ---- the opening
+
+module _ (line : List ℕ) (lent : ℕ) (h : summaryBytes ≤ lent) where
+  -- the tests before that of the lent bytes, which passes
+  abbrev byTests : Bool → Bool → Opening → Answer Opening
+  byTests a b o = if a then if b then gives o else refused 3 else refused 2
+
+  abbrev n : ℕ
+  n = suc (spacesIn line)
+
+  abbrev ranges : Bool
+  ranges = inRange (summaryNumbers n) && goodConstants (summaryNumbers n) (upTo firstConstant n) (upTo secondConstant n)
+
+  abbrev asked : Opening
+  asked = record { numbers = summaryNumbers n; names = namesIn line; first = upTo firstConstant n; second = upTo secondConstant n }
+
+  by-tests : summaryOpening line lent ≡ byTests ranges (goodNames n (namesIn line)) asked
+  unfolding summaryOpening namesOpening opening summaryNumbers storeSize
+  by-tests = rw (le-leb 21512 lent h) refl
+
+  -- "a count outside 4 to 64 gives 2, any other fault 3"
+  pub two-or-three : (k : ℕ) → summaryOpening line lent ≡ refused k → (k ≡ 2) ⊎ (k ≡ 3)
+  unfolding refusalIn
+  two-or-three k e = go ranges (goodNames n (namesIn line)) (sym by-tests ∙ e)
+    where
+      go : (a b : Bool) → byTests a b asked ≡ refused k → (k ≡ 2) ⊎ (k ≡ 3)
+      go true true f = absurd (gives≢refused asked k f)
+      go true false f = inr (sym (ap refusalIn f))
+      go false b f = inl (sym (ap refusalIn f))
+
+pub enough-lent : (line : List ℕ) (lent : ℕ) → summaryBytes ≤ lent → summaryOpening line lent ≡ summaryOpening line summaryBytes
+enough-lent line lent h = by-tests line lent h ∙ sym (by-tests line summaryBytes (omega arith))
+
+-- ---- the line of a refusal
+
+refusal-short : (k : ℕ) → (k ≡ 2) ⊎ (k ≡ 3) → length (refusalLine k) ≤ 16
+refusal-short k (inl e) = rw e (unfold refusalLine in omega arith)
+refusal-short k (inr e) = rw e (unfold refusalLine in omega arith)
+
+refusal-fits : (k room : ℕ) → (k ≡ 2) ⊎ (k ≡ 3) → 16 ≤ room → refusalAsked k room ≡ gives (refusalLine k)
+unfolding refusalAsked ifRoom
+refusal-fits k room e h = rw (le-ltb room (length (refusalLine k)) (omega (arith, refusal-short k e))) refl
+
+-- ---- the sheet
+
+module _ (room : ℕ) (fits : (s : List ℕ) → wholeAt s ≡ true → (n : ℕ) → n < 18446744073709551616 → (i : ℕ) → length (getD (sheetLines (heldAt s) n) i []) ≤ room) where
+
+  -- behind an opening that is accepted
+  module _ (o : Opening) (lent s : List ℕ) (q : Holds (opened o) lent s) (rest : List (List ℕ)) (few : FewTexts rest)
+      (small : refusedTexts o (whole rest) < 18446744073709551616) where
+    lane : 0 < o .numbers .lanes
+    unfolding opened
+    lane = subst (λ (h : Held). 0 < h .opening .numbers .lanes) (q .held) (lane-whole s (q .whole))
+
+    sheet-is : closedSheet (all-fed o (whole rest)) ≡ sheetLines (closing (all-fed o (whole rest) .after) 0 .after) (refusedTexts o (whole rest))
+    unfolding closedSheet refusedTexts
+    sheet-is = refl
+
+    sheet-printed : (out : List ℕ) → Printed room finish.Done s rest out → out ≡ printed (gives o) (whole rest)
+    unfolding Printed
+    sheet-printed out g =
+        let f = texts-follow o lane rest [] s 0 (texts-none o lane s (q .whole) (q .held)) few (g .0) (g .1) (g .5) in
+        let c = closed-follows o (whole rest) (g .0) (g .1) f (g .2) (g .3) (g .6) in
+        let n : countAfter (g .1) (g .2) ≡ refusedTexts o (whole rest) = c .2 ∙ sym (capped-small (refusedTexts o (whole rest)) small) in
+        let b : countAfter (g .1) (g .2) < 18446744073709551616 = omega arith in
+        let l = lines-follow (g .3) (c .0) (countAfter (g .1) (g .2)) room (fits (g .3) (c .0) (countAfter (g .1) (g .2)) b) (g .4) 0 (g .7) in
+        g .8 ∙ ap whole (l ∙ ap₂ sheetLines (c .1) n ∙ sym sheet-is) ∙ print-is
+      where
+        print-is : whole (closedSheet (all-fed o (whole rest))) ≡ printed (gives o) (whole rest)
+        print-is = unfold printed summaryLines whole in refl
+
+  -- ---- the whole
+
+  module _ (names lent : List ℕ) (a : 2112 ≤ length names) (b : summaryBytes ≤ length lent) (ps : List (List ℕ)) (few : FewTexts ps)
+      (out : List ℕ) (run : Summarised room names lent ps out) where
+    abbrev line : List ℕ
+    line = firstLine (whole ps)
+
+    abbrev texts : List ℕ
+    texts = behindLine (whole ps)
+
+    opens : keptOpening (run .kept) (length lent) ≡ summaryOpening line summaryBytes
+    opens =
+        ap (λ (k : Kept). keptOpening k (length lent)) (line-follows ps (fresh names) (run .kept) (run .rest) (run .taken) .0)
+        ∙ line-decides names line (length lent) a ∙ enough-lent line (length lent) b
+
+    behind : whole (run .rest) ≡ texts
+    behind = line-follows ps (fresh names) (run .kept) (run .rest) (run .taken) .1
+
+    refusal-printed : (k : ℕ) → summaryOpening line summaryBytes ≡ refused k → (r : Finish) → OpenedAs (refused k) r lent (run .store) → Printed room r (run .store) (run .rest) out
+        → out ≡ refusalLine k
+    unfolding OpenedAs Printed finishGiven refusalIn
+    refusal-printed k e finish.Done x g = absurd (gives≢refused tt k (x .0))
+    refusal-printed k e (finish.Refused w) x g =
+        let n : refusalNumber w ≡ k = ap refusalIn (x .0) in
+        let c = refusal-fits k (length (g .1)) (two-or-three line summaryBytes (omega arith) k e) (g .3) in
+        g .5 ∙ filled-line _ (refusalLine k) (ap (λ (m : ℕ). refusalAsked m (length (g .1))) n ∙ c) (g .0) (g .1) (g .2) (g .4)
+
+    accepted-printed : (o : Opening) → refusedTexts o texts < 18446744073709551616 → (r : Finish) → OpenedAs (gives o) r lent (run .store)
+        → Printed room r (run .store) (run .rest) out → out ≡ printed (gives o) texts
+    unfolding OpenedAs finishGiven
+    accepted-printed o h (finish.Refused w) x g = absurd (gives≢refused tt (refusalNumber w) (sym (x .0)))
+    accepted-printed o h finish.Done x g =
+        sheet-printed o lent (run .store) (x .1) (run .rest) (few-behind ps (fresh names) (run .kept) (run .rest) (run .taken) few) (rw behind h) out g
+        ∙ ap (printed (gives o)) behind
+
+    pub summary-printed : ((o : Opening) → summaryOpening line summaryBytes ≡ gives o → refusedTexts o texts < 18446744073709551616) → out ≡ summary (whole ps)
+    unfolding summary
+    summary-printed small = go (summaryOpening line summaryBytes) refl (subst (λ (x : Answer Opening). OpenedAs x (run .answer) lent (run .store)) opens (run .opened))
+      where
+        go : (x : Answer Opening) → summaryOpening line summaryBytes ≡ x → OpenedAs x (run .answer) lent (run .store) → out ≡ printed x texts
+        go (refused k) e y = refusal-printed k e (run .answer) y (run .prints) ∙ (unfold printed in refl)
+        go (gives o) e y = accepted-printed o (small o e) (run .answer) y (run .prints)
