@@ -12,4 +12,5 @@ pub mod SummarySteps
 pub mod LineStepLaws
 pub mod TextStepLaws
 pub mod PrintedLaws
+pub mod LineRoomLaws
 pub mod SummaryLaws
