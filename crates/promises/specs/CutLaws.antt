@@ -1,6 +1,6 @@
 -- However the bytes of a lane are cut, they are fed alike. Assumes nothing.
 --
---   semicolons-append, semicolons-drop     the texts that two pieces end, and those that the rest of one does
+--   semicolons-append      the texts that two pieces end
 --   refused-append         the refusals among two runs of verdicts
 --   LaneThere h l          the collection h has a lane l
 --   fed-open               a piece that ends no text
@@ -27,17 +27,13 @@ use Rattle.theorems.specs.OwnLaneLaws.{lanesAfter, laneAfter, feeding-opening, 
 use Rattle.theorems.specs.WrittenFedLaws.{feedingBy, feeding-by}
 use Rattle.feeding.specs.EndLaws.{end-inside, no-text, one-text}
 use Rattle.sheet.specs.Summary.{refusedIn}
-use Rattle.promises.specs.SeamLaws.{member-left, member-right, text-left, text-right, keep-append, keep-drop}
+use Rattle.promises.specs.SeamLaws.{member-left, member-right, text-left, text-right, keep-append}
 
 -- ---- the semicolons of two pieces
 
 pub semicolons-append : (p q : List ℕ) → semicolons (p ++ q) ≡ semicolons p + semicolons q
 unfolding semicolons
 semicolons-append p q = keep-append (eqb 59) p q
-
-pub semicolons-drop : (n : ℕ) (p : List ℕ) → semicolons (drop n p) ≤ semicolons p
-unfolding semicolons
-semicolons-drop n p = keep-drop (eqb 59) n p
 
 pub refused-append : (v w : List ℕ) → refusedIn (v ++ w) ≡ refusedIn v + refusedIn w
 unfolding refusedIn

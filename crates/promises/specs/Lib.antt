@@ -11,6 +11,6 @@ pub mod CutLaws
 pub mod SummarySteps
 pub mod LineStepLaws
 pub mod TextStepLaws
-pub mod PrintedLaws
 pub mod LineRoomLaws
+pub mod PrintedLaws
 pub mod SummaryLaws

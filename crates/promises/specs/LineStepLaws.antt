@@ -1,11 +1,11 @@
 -- The first line, taken in pieces, is the first line of the whole input. Assumes nothing.
 --
+--   behind-most                what stands behind it has no more bytes than there are
 --   whole-none, whole-more     the pieces as one
---   line-follows     what is kept of it, and that the rest stands behind it
---   few-behind       pieces of few texts leave such pieces behind the line
+--   line-follows               what is kept of it, and what stands behind it
 use Prim.Native.Nat.{ℕ, suc, _≤_}
 use native.Mathlib.Omega.{arith}
-use mathlib.Core.Path.{_≡_, refl, sym, ap, ap₂, subst, _∙_}
+use mathlib.Core.Path.{_≡_, refl, sym, ap, _∙_}
 use mathlib.Core.Bool.{Bool, true, false, _||_, true≢false}
 use mathlib.Core.List.{List, [], _∷_, _++_, flatMap, append-nil}
 use lib.Dec.{eqb}
@@ -17,8 +17,7 @@ use Rattle.sheet.specs.Summary.{firstLine, behindLine}
 use Rattle.sheet.specs.FirstLine.{Kept, keptAfter, keptOf, lineTaken, TakenAs}
 use Rattle.sheet.specs.FirstLineLaws.{eqb-flip, kept-append}
 use Rattle.promises.specs.SeamLaws.{line-left, line-right}
-use Rattle.promises.specs.CutLaws.{semicolons-drop}
-use Rattle.promises.specs.SummarySteps.{whole, FewTexts, LineSteps}
+use Rattle.promises.specs.SummarySteps.{whole, LineSteps}
 
 -- ---- behind the line
 
@@ -41,6 +40,16 @@ behind-right (b ∷ p) q e = go (eqb b 10) (behind-right p q) (rw (eqb-flip 10 b
         → (if t then p ++ q else behindLine (p ++ q)) ≡ behindLine q
     go true f h = absurd (true≢false h)
     go false f h = f h
+
+-- and no more bytes than there are
+pub behind-most : (p : List ℕ) → length (behindLine p) ≤ length p
+unfolding behindLine
+behind-most [] = omega arith
+behind-most (b ∷ p) = go (eqb b 10) (behind-most p)
+  where
+    go : (t : Bool) → length (behindLine p) ≤ length p → length (if t then p else behindLine p) ≤ suc (length p)
+    go true e = omega arith
+    go false e = omega arith
 
 no-end : (p : List ℕ) → member 10 p ≡ false → firstLine p ≡ p
 unfolding firstLine
@@ -74,35 +83,19 @@ module _ (k : Kept) (p : List ℕ) (r : Taken) (out : List ℕ) (a : TakenAs k p
       ∙ ap (keptAfter k) (sym (line-right p q e))
 
   -- where p is the first of several
-  line-step : (ps : List (List ℕ)) → q ≡ whole ps → (z : Kept) (rest : List (List ℕ))
-      → (r .ended ≡ true → (z ≡ keptOf (r .line) out) × (rest ≡ drop (r .taken) p ∷ ps))
-      → (r .ended ≡ false → (z ≡ keptAfter (keptOf (r .line) out) (firstLine q)) × (whole rest ≡ behindLine q))
-      → (z ≡ keptAfter k (firstLine (p ++ q))) × (whole rest ≡ behindLine (p ++ q))
-  line-step ps w z rest f g = go (member 10 p) refl
+  line-step : (z : Kept) (v : List ℕ) → (r .ended ≡ true → (z ≡ keptOf (r .line) out) × (v ≡ drop (r .taken) p ++ q))
+      → (r .ended ≡ false → (z ≡ keptAfter (keptOf (r .line) out) (firstLine q)) × (v ≡ behindLine q))
+      → (z ≡ keptAfter k (firstLine (p ++ q))) × (v ≡ behindLine (p ++ q))
+  line-step z v f g = go (member 10 p) refl
     where
-      go : (t : Bool) → member 10 p ≡ t → (z ≡ keptAfter k (firstLine (p ++ q))) × (whole rest ≡ behindLine (p ++ q))
-      go true e =
-          let h = f (a .ended ∙ e) in
-          (h .0 ∙ kept-ended e, ap whole (h .1) ∙ whole-more (drop (r .taken) p) ps ∙ ap (λ (v : List ℕ). drop (r .taken) p ++ v) (sym w) ∙ behind-ended e)
-      go false e =
-          let h = g (a .ended ∙ e) in
-          (h .0 ∙ kept-open e, h .1 ∙ sym (behind-right p q e))
+      go : (t : Bool) → member 10 p ≡ t → (z ≡ keptAfter k (firstLine (p ++ q))) × (v ≡ behindLine (p ++ q))
+      go true e = let h = f (a .ended ∙ e) in (h .0 ∙ kept-ended e, h .1 ∙ behind-ended e)
+      go false e = let h = g (a .ended ∙ e) in (h .0 ∙ kept-open e, h .1 ∙ sym (behind-right p q e))
 
-pub line-follows : (ps : List (List ℕ)) (k z : Kept) (rest : List (List ℕ)) → LineSteps k ps z rest
-    → (z ≡ keptAfter k (firstLine (whole ps))) × (whole rest ≡ behindLine (whole ps))
+pub line-follows : (ps : List (List ℕ)) (k z : Kept) (v : List ℕ) → LineSteps k ps z v
+    → (z ≡ keptAfter k (firstLine (whole ps))) × (v ≡ behindLine (whole ps))
 unfolding LineSteps
-line-follows [] k z rest g = rw (whole-none) (g .0 ∙ (unfold keptAfter firstLine in refl), ap whole (g .1) ∙ whole-none ∙ (unfold behindLine in refl))
-line-follows (p ∷ ps) k z rest g =
+line-follows [] k z v g = rw (whole-none) (g .0 ∙ (unfold keptAfter firstLine in refl), g .1 ∙ (unfold behindLine in refl))
+line-follows (p ∷ ps) k z v g =
     rw (whole-more p ps)
-    (line-step k p (g .0) (g .1) (g .2) (whole ps) ps refl z rest (g .3) (λ e. line-follows ps (keptOf (g .0 .line) (g .1)) z rest (g .4 e)))
-
-pub few-behind : (ps : List (List ℕ)) (k z : Kept) (rest : List (List ℕ)) → LineSteps k ps z rest → FewTexts ps → FewTexts rest
-unfolding LineSteps FewTexts
-few-behind [] k z rest g f = subst FewTexts (sym (g .1)) tt
-few-behind (p ∷ ps) k z rest g f =
-    go (g .0 .ended) (λ e. subst FewTexts (sym (g .3 e .1)) (omega (arith, f .0, semicolons-drop (g .0 .taken) p), f .1))
-    (λ e. few-behind ps (keptOf (g .0 .line) (g .1)) z rest (g .4 e) (f .1))
-  where
-    go : (t : Bool) → (t ≡ true → FewTexts rest) → (t ≡ false → FewTexts rest) → FewTexts rest
-    go true x y = x refl
-    go false x y = y refl
+    (line-step k p (g .0) (g .1) (g .2) (whole ps) z v (g .3) (λ e. line-follows ps (keptOf (g .0 .line) (g .1)) z v (g .4 e)))

@@ -3,14 +3,14 @@
 --   member-left, member-right     a byte that is in the first piece, and one that is not
 --   text-left, text-right         what stands before the first semicolon
 --   line-left, line-right         what stands before the first LF
---   keep-append, keep-drop        how many bytes pass a test
-use Prim.Native.Nat.{ℕ, zero, suc, _+_, _≤_}
+--   keep-append                   how many bytes pass a test
+use Prim.Native.Nat.{ℕ, _+_}
 use native.Mathlib.Omega.{arith}
 use mathlib.Core.Path.{_≡_, refl, sym, ap, _∙_}
 use mathlib.Core.Bool.{Bool, true, false, _||_, true≢false}
 use mathlib.Core.List.{List, [], _∷_, _++_}
 use lib.Dec.{eqb}
-use lib.ListN.{length, drop}
+use lib.ListN.{length}
 use Rattle.trees.specs.Plain.{if_then_else_, keep, member}
 use Rattle.trees.specs.Held.{beforeSemicolon}
 use Rattle.sheet.specs.Summary.{firstLine}
@@ -87,23 +87,12 @@ module _ (p q : List ℕ) where
 
 -- ---- how many bytes pass a test
 
-module _ (f : ℕ → Bool) where
-  pub keep-append : (p q : List ℕ) → length (keep f (p ++ q)) ≡ length (keep f p) + length (keep f q)
-  unfolding keep
-  keep-append [] q = omega arith
-  keep-append (b ∷ p) q = go (f b) (keep-append p q)
-    where
-      go : (t : Bool) → length (keep f (p ++ q)) ≡ length (keep f p) + length (keep f q)
-          → length (if t then b ∷ keep f (p ++ q) else keep f (p ++ q)) ≡ length (if t then b ∷ keep f p else keep f p) + length (keep f q)
-      go true e = omega arith
-      go false e = e
-
-  pub keep-drop : (n : ℕ) (p : List ℕ) → length (keep f (drop n p)) ≤ length (keep f p)
-  unfolding keep
-  keep-drop zero p = omega arith
-  keep-drop (suc n) [] = omega arith
-  keep-drop (suc n) (b ∷ p) = go (f b) (keep-drop n p)
-    where
-      go : (t : Bool) → length (keep f (drop n p)) ≤ length (keep f p) → length (keep f (drop n p)) ≤ length (if t then b ∷ keep f p else keep f p)
-      go true e = omega arith
-      go false e = e
+pub keep-append : (f : ℕ → Bool) (p q : List ℕ) → length (keep f (p ++ q)) ≡ length (keep f p) + length (keep f q)
+unfolding keep
+keep-append f [] q = omega arith
+keep-append f (b ∷ p) q = go (f b) (keep-append f p q)
+  where
+    go : (t : Bool) → length (keep f (p ++ q)) ≡ length (keep f p) + length (keep f q)
+        → length (if t then b ∷ keep f (p ++ q) else keep f (p ++ q)) ≡ length (if t then b ∷ keep f p else keep f p) + length (keep f q)
+    go true e = omega arith
+    go false e = e

@@ -2,7 +2,8 @@
 --
 --   enough-lent           with 21,512 lent bytes or more, the opening is that of the summary
 --   two-or-three          a first line that is refused then is refused with 2 or 3
---   summary-printed       what is printed is `summary` of the whole input
+--   summary-printed       what is printed is `summary` of the whole input, where the refused texts can be counted
+--   input-printed         so it is for every input of fewer than 2 ^ 64 - 1 bytes
 use Prim.Native.Nat.{ℕ, suc, _+_, _≤_, _<_}
 use native.Mathlib.Omega.{arith}
 use mathlib.Core.Path.{_≡_, refl, sym, ap, ap₂, subst, _∙_}
@@ -34,8 +35,8 @@ use Rattle.sheet.specs.Asked.{refusalAsked}
 use Rattle.sheet.specs.KeptLaws.{fresh, line-decides}
 use Rattle.promises.specs.Outcomes.{refusalIn, gives≢refused}
 use Rattle.promises.specs.SummarySteps.{whole, FewTexts, TextSteps, countAfter, LinesGiven, Printed, Summarised}
-use Rattle.promises.specs.LineStepLaws.{line-follows, few-behind}
-use Rattle.promises.specs.TextStepLaws.{all-fed, FedSoFar, lane-whole, texts-none, texts-follow, refusedTexts, closed-follows}
+use Rattle.promises.specs.LineStepLaws.{behind-most, line-follows}
+use Rattle.promises.specs.TextStepLaws.{all-fed, FedSoFar, lane-whole, texts-none, texts-follow, refusedTexts, refused-most, closed-follows}
 use Rattle.promises.specs.PrintedLaws.{filled-line, lines-follow}
 
 -- ---- the opening
@@ -83,71 +84,69 @@ refusal-fits k room e h = rw (le-ltb room (length (refusalLine k)) (omega (arith
 
 -- ---- the sheet
 
-module _ (room : ℕ) (fits : (s : List ℕ) → wholeAt s ≡ true → (n : ℕ) → n < 18446744073709551616 → (i : ℕ) → length (getD (sheetLines (heldAt s) n) i []) ≤ room) where
+-- behind an opening that is accepted
+module _ (o : Opening) (lent s : List ℕ) (q : Holds (opened o) lent s) (ps : List (List ℕ)) (few : FewTexts ps)
+    (small : refusedTexts o (whole ps) < 18446744073709551616) where
+  lane : 0 < o .numbers .lanes
+  unfolding opened
+  lane = subst (λ (h : Held). 0 < h .opening .numbers .lanes) (q .held) (lane-whole s (q .whole))
 
-  -- behind an opening that is accepted
-  module _ (o : Opening) (lent s : List ℕ) (q : Holds (opened o) lent s) (rest : List (List ℕ)) (few : FewTexts rest)
-      (small : refusedTexts o (whole rest) < 18446744073709551616) where
-    lane : 0 < o .numbers .lanes
-    unfolding opened
-    lane = subst (λ (h : Held). 0 < h .opening .numbers .lanes) (q .held) (lane-whole s (q .whole))
+  lines-are : sheetLines (closing (all-fed o (whole ps) .after) 0 .after) (refusedTexts o (whole ps)) ≡ summaryLines o (whole ps)
+  unfolding summaryLines closedSheet refusedTexts
+  lines-are = refl
 
-    sheet-is : closedSheet (all-fed o (whole rest)) ≡ sheetLines (closing (all-fed o (whole rest) .after) 0 .after) (refusedTexts o (whole rest))
-    unfolding closedSheet refusedTexts
-    sheet-is = refl
+  sheet-printed : (out : List ℕ) → Printed finish.Done s ps out → out ≡ whole (summaryLines o (whole ps))
+  unfolding Printed
+  sheet-printed out g =
+      let f = texts-follow o lane ps [] s 0 (texts-none o lane s (q .whole) (q .held)) few (g .0) (g .1) (g .5) in
+      let c = closed-follows o (whole ps) (g .0) (g .1) f (g .2) (g .3) (g .6) in
+      let n : countAfter (g .1) (g .2) ≡ refusedTexts o (whole ps) = c .2 ∙ sym (capped-small (refusedTexts o (whole ps)) small) in
+      let l = lines-follow (g .3) (c .0) (countAfter (g .1) (g .2)) (omega arith) (g .4) 0 (g .7) in
+      g .8 ∙ ap whole (l ∙ ap₂ sheetLines (c .1) n ∙ lines-are)
 
-    sheet-printed : (out : List ℕ) → Printed room finish.Done s rest out → out ≡ printed (gives o) (whole rest)
-    unfolding Printed
-    sheet-printed out g =
-        let f = texts-follow o lane rest [] s 0 (texts-none o lane s (q .whole) (q .held)) few (g .0) (g .1) (g .5) in
-        let c = closed-follows o (whole rest) (g .0) (g .1) f (g .2) (g .3) (g .6) in
-        let n : countAfter (g .1) (g .2) ≡ refusedTexts o (whole rest) = c .2 ∙ sym (capped-small (refusedTexts o (whole rest)) small) in
-        let b : countAfter (g .1) (g .2) < 18446744073709551616 = omega arith in
-        let l = lines-follow (g .3) (c .0) (countAfter (g .1) (g .2)) room (fits (g .3) (c .0) (countAfter (g .1) (g .2)) b) (g .4) 0 (g .7) in
-        g .8 ∙ ap whole (l ∙ ap₂ sheetLines (c .1) n ∙ sym sheet-is) ∙ print-is
-      where
-        print-is : whole (closedSheet (all-fed o (whole rest))) ≡ printed (gives o) (whole rest)
-        print-is = unfold printed summaryLines whole in refl
+-- ---- the whole
 
-  -- ---- the whole
+module _ (names lent : List ℕ) (a : 2112 ≤ length names) (b : summaryBytes ≤ length lent) (ps : List (List ℕ)) (out : List ℕ)
+    (run : Summarised names lent ps out) where
+  abbrev line : List ℕ
+  line = firstLine (whole ps)
 
-  module _ (names lent : List ℕ) (a : 2112 ≤ length names) (b : summaryBytes ≤ length lent) (ps : List (List ℕ)) (few : FewTexts ps)
-      (out : List ℕ) (run : Summarised room names lent ps out) where
-    abbrev line : List ℕ
-    line = firstLine (whole ps)
+  abbrev texts : List ℕ
+  texts = behindLine (whole ps)
 
-    abbrev texts : List ℕ
-    texts = behindLine (whole ps)
+  opens : keptOpening (run .kept) (length lent) ≡ summaryOpening line summaryBytes
+  opens =
+      ap (λ (k : Kept). keptOpening k (length lent)) (line-follows ps (fresh names) (run .kept) (run .behind) (run .taken) .0)
+      ∙ line-decides names line (length lent) a ∙ enough-lent line (length lent) b
 
-    opens : keptOpening (run .kept) (length lent) ≡ summaryOpening line summaryBytes
-    opens =
-        ap (λ (k : Kept). keptOpening k (length lent)) (line-follows ps (fresh names) (run .kept) (run .rest) (run .taken) .0)
-        ∙ line-decides names line (length lent) a ∙ enough-lent line (length lent) b
+  behind-is : whole (run .texts) ≡ texts
+  behind-is = run .cut ∙ line-follows ps (fresh names) (run .kept) (run .behind) (run .taken) .1
 
-    behind : whole (run .rest) ≡ texts
-    behind = line-follows ps (fresh names) (run .kept) (run .rest) (run .taken) .1
+  refusal-printed : (k : ℕ) → summaryOpening line summaryBytes ≡ refused k → (r : Finish) → OpenedAs (refused k) r lent (run .store)
+      → Printed r (run .store) (run .texts) out → out ≡ refusalLine k
+  unfolding OpenedAs Printed finishGiven refusalIn
+  refusal-printed k e finish.Done x g = absurd (gives≢refused tt k (x .0))
+  refusal-printed k e (finish.Refused w) x g =
+      let n : refusalNumber w ≡ k = ap refusalIn (x .0) in
+      let c = refusal-fits k (length (g .1)) (two-or-three line summaryBytes (omega arith) k e) (g .3) in
+      g .5 ∙ filled-line _ (refusalLine k) (ap (λ (m : ℕ). refusalAsked m (length (g .1))) n ∙ c) (g .0) (g .1) (g .2) (g .4)
 
-    refusal-printed : (k : ℕ) → summaryOpening line summaryBytes ≡ refused k → (r : Finish) → OpenedAs (refused k) r lent (run .store) → Printed room r (run .store) (run .rest) out
-        → out ≡ refusalLine k
-    unfolding OpenedAs Printed finishGiven refusalIn
-    refusal-printed k e finish.Done x g = absurd (gives≢refused tt k (x .0))
-    refusal-printed k e (finish.Refused w) x g =
-        let n : refusalNumber w ≡ k = ap refusalIn (x .0) in
-        let c = refusal-fits k (length (g .1)) (two-or-three line summaryBytes (omega arith) k e) (g .3) in
-        g .5 ∙ filled-line _ (refusalLine k) (ap (λ (m : ℕ). refusalAsked m (length (g .1))) n ∙ c) (g .0) (g .1) (g .2) (g .4)
+  accepted-printed : (o : Opening) → refusedTexts o texts < 18446744073709551616 → (r : Finish) → OpenedAs (gives o) r lent (run .store)
+      → Printed r (run .store) (run .texts) out → out ≡ whole (summaryLines o texts)
+  unfolding OpenedAs finishGiven
+  accepted-printed o h (finish.Refused w) x g = absurd (gives≢refused tt (refusalNumber w) (sym (x .0)))
+  accepted-printed o h finish.Done x g =
+      sheet-printed o lent (run .store) (x .1) (run .texts) (run .few) (rw behind-is h) out g ∙ ap (λ (v : List ℕ). whole (summaryLines o v)) behind-is
 
-    accepted-printed : (o : Opening) → refusedTexts o texts < 18446744073709551616 → (r : Finish) → OpenedAs (gives o) r lent (run .store)
-        → Printed room r (run .store) (run .rest) out → out ≡ printed (gives o) texts
-    unfolding OpenedAs finishGiven
-    accepted-printed o h (finish.Refused w) x g = absurd (gives≢refused tt (refusalNumber w) (sym (x .0)))
-    accepted-printed o h finish.Done x g =
-        sheet-printed o lent (run .store) (x .1) (run .rest) (few-behind ps (fresh names) (run .kept) (run .rest) (run .taken) few) (rw behind h) out g
-        ∙ ap (printed (gives o)) behind
+  -- as long as 64 bits can count the refused texts
+  pub summary-printed : ((o : Opening) → summaryOpening line summaryBytes ≡ gives o → refusedTexts o texts < 18446744073709551616) → out ≡ summary (whole ps)
+  unfolding summary printed whole
+  summary-printed small = go (summaryOpening line summaryBytes) refl (subst (λ (x : Answer Opening). OpenedAs x (run .answer) lent (run .store)) opens (run .opened))
+    where
+      go : (x : Answer Opening) → summaryOpening line summaryBytes ≡ x → OpenedAs x (run .answer) lent (run .store) → out ≡ printed x texts
+      go (refused k) e y = refusal-printed k e (run .answer) y (run .prints)
+      go (gives o) e y = accepted-printed o (small o e) (run .answer) y (run .prints)
 
-    pub summary-printed : ((o : Opening) → summaryOpening line summaryBytes ≡ gives o → refusedTexts o texts < 18446744073709551616) → out ≡ summary (whole ps)
-    unfolding summary
-    summary-printed small = go (summaryOpening line summaryBytes) refl (subst (λ (x : Answer Opening). OpenedAs x (run .answer) lent (run .store)) opens (run .opened))
-      where
-        go : (x : Answer Opening) → summaryOpening line summaryBytes ≡ x → OpenedAs x (run .answer) lent (run .store) → out ≡ printed x texts
-        go (refused k) e y = refusal-printed k e (run .answer) y (run .prints) ∙ (unfold printed in refl)
-        go (gives o) e y = accepted-printed o (small o e) (run .answer) y (run .prints)
+  -- so for every input of fewer than 2 ^ 64 - 1 bytes
+  pub input-printed : length (whole ps) < 18446744073709551615 → out ≡ summary (whole ps)
+  input-printed h = summary-printed (λ o e. omega (arith, refused-most o texts, behind-most (whole ps)))

@@ -2,16 +2,16 @@
 --
 --   whole ps                     the pieces ps, one behind another
 --   FewTexts ps                  each of them ends at most 4,096 texts
---   LineSteps k ps z rest        taking the first line from ps, with k kept of it: in the end z is kept, and the pieces `rest` stand behind it
+--   LineSteps k ps z v           taking the first line from ps, with k kept of it: in the end z is kept, and the bytes v stand behind it
 --   countAfter n r               the number of refused texts, n before, that a call answers with r
 --   TextSteps s n ps t m         feeding ps, behind n refused texts: the lent bytes s become t, the number m
---   LinesGiven room s n j ls     asking for the lines j, j + 1, .. up to a refusal, each into a buffer of `room` bytes or more, gives ls
---   Printed r s rest out         what is printed when the opening answered r and left s: the line of its refusal, or the sheet behind `rest`
---   Summarised names lent ps out     what is printed, from the first piece on
+--   LinesGiven s n j ls          asking for the lines j, j + 1, .. up to a refusal, each into a buffer of 8,192 bytes or more, gives ls
+--   Printed r s qs out           what is printed when the opening answered r and left s: the line of its refusal, or the sheet behind the texts qs
+--   Summarised names lent ps out     what is printed, from the first piece on: with a buffer for names, and lent bytes
 use Prim.Native.Nat.{ℕ, suc, _≤_}
 use mathlib.Core.Path.{_≡_}
 use mathlib.Core.Bool.{true, false}
-use mathlib.Core.List.{List, [], _∷_, flatMap}
+use mathlib.Core.List.{List, [], _∷_, _++_, flatMap}
 use lib.ListN.{length, take, drop}
 use Rattle.trees.specs.Batch.{semicolons}
 use Rattle.table.specs.Answers.{refusalNumber}
@@ -37,14 +37,15 @@ unfoldable pub FewTexts : List (List ℕ) → Type 0
 FewTexts [] = Unit {0}
 FewTexts (p ∷ ps) = (semicolons p ≤ 4096) × FewTexts ps
 
--- the piece in which the line ends has the first texts behind it
-unfoldable pub LineSteps : Kept → List (List ℕ) → Kept → List (List ℕ) → Type 0
-LineSteps k [] z rest = (z ≡ k) × (rest ≡ [])
-LineSteps k (p ∷ ps) z rest =
+-- the piece in which the line ends has the first bytes behind it
+unfoldable pub LineSteps : Kept → List (List ℕ) → Kept → List ℕ → Type 0
+unfolding whole
+LineSteps k [] z v = (z ≡ k) × (v ≡ [])
+LineSteps k (p ∷ ps) z v =
     (r : Taken) × (out : List ℕ)
     × TakenAs k p r out
-    × (r .ended ≡ true → (z ≡ keptOf (r .line) out) × (rest ≡ drop (r .taken) p ∷ ps))
-    × (r .ended ≡ false → LineSteps (keptOf (r .line) out) ps z rest)
+    × (r .ended ≡ true → (z ≡ keptOf (r .line) out) × (v ≡ drop (r .taken) p ++ whole ps))
+    × (r .ended ≡ false → LineSteps (keptOf (r .line) out) ps z v)
 
 unfoldable pub countAfter : ℕ → Number → ℕ
 countAfter n (number.Refused w) = n
@@ -55,35 +56,40 @@ unfolding countAfter
 TextSteps s n [] t m = (t ≡ s) × (m ≡ n)
 TextSteps s n (p ∷ ps) t m = (r : Number) × (u : List ℕ) × TextsAs (batchOf s 0 p 4096) n r s u × TextSteps u (countAfter n r) ps t m
 
-unfoldable pub LinesGiven : ℕ → List ℕ → ℕ → ℕ → List (List ℕ) → Type 0
-LinesGiven room s n j [] =
-    (w : Refusal) × (out : List ℕ) × (after : List ℕ) × (room ≤ length out) × FilledAs (lineAsked s n j (length out)) (number.Refused w) out after
-LinesGiven room s n j (l ∷ ls) =
+unfoldable pub LinesGiven : List ℕ → ℕ → ℕ → List (List ℕ) → Type 0
+LinesGiven s n j [] =
+    (w : Refusal) × (out : List ℕ) × (after : List ℕ) × (8192 ≤ length out) × FilledAs (lineAsked s n j (length out)) (number.Refused w) out after
+LinesGiven s n j (l ∷ ls) =
     (k : ℕ) × (out : List ℕ) × (after : List ℕ)
-    × (room ≤ length out)
+    × (8192 ≤ length out)
     × FilledAs (lineAsked s n j (length out)) (number.Gives k) out after
     × (l ≡ take k after)
-    × LinesGiven room s n (suc j) ls
+    × LinesGiven s n (suc j) ls
 
-unfoldable pub Printed : ℕ → Finish → List ℕ → List (List ℕ) → List ℕ → Type 0
+-- the line of a refusal goes into a buffer of 16 bytes or more
+unfoldable pub Printed : Finish → List ℕ → List (List ℕ) → List ℕ → Type 0
 unfolding countAfter TextSteps LinesGiven whole refusalNumber
-Printed room (finish.Refused w) s rest printed =
+Printed (finish.Refused w) s qs printed =
     (r : Number) × (out : List ℕ) × (after : List ℕ)
     × (16 ≤ length out)
     × FilledAs (refusalAsked (refusalNumber w) (length out)) r out after
     × (printed ≡ take (countAfter 0 r) after)
-Printed room finish.Done s rest printed =
+Printed finish.Done s qs printed =
     (t : List ℕ) × (n : ℕ) × (r : Number) × (u : List ℕ) × (ls : List (List ℕ))
-    × TextSteps s 0 rest t n
+    × TextSteps s 0 qs t n
     × ClosedAs t n r u
-    × LinesGiven room u (countAfter n r) 0 ls
+    × LinesGiven u (countAfter n r) 0 ls
     × (printed ≡ whole ls)
 
-pub record Summarised (room : ℕ) (names lent : List ℕ) (ps : List (List ℕ)) (printed : List ℕ) : Type 0 where
+-- what stands behind the first line may be cut anew
+pub record Summarised (names lent : List ℕ) (ps : List (List ℕ)) (printed : List ℕ) : Type 0 where
   pub kept : Kept
-  pub rest : List (List ℕ)
+  pub behind : List ℕ
+  pub taken : LineSteps (fresh names) ps kept behind
   pub answer : Finish
   pub store : List ℕ
-  pub taken : LineSteps (fresh names) ps kept rest
   pub opened : OpenedAs (keptOpening kept (length lent)) answer lent store
-  pub prints : Printed room answer store rest printed
+  pub texts : List (List ℕ)
+  pub cut : whole texts ≡ behind
+  pub few : FewTexts texts
+  pub prints : Printed answer store texts printed

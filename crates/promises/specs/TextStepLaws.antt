@@ -7,6 +7,7 @@
 --   texts-none             nothing yet
 --   texts-follow           pieces, one after another
 --   refusedTexts o v       how many texts are refused, the closing included
+--   refused-most           they are at most one more than the bytes of v
 --   closed-follows         so the closing leaves what the sheet of v is of
 use Prim.Native.Nat.{ℕ, zero, suc, _+_, _≤_, _<_}
 use native.Mathlib.Omega.{arith}
@@ -14,13 +15,13 @@ use mathlib.Core.Path.{_≡_, refl, sym, ap, ap₂, subst, _∙_}
 use mathlib.Core.Logic.{_⊎_, inl, inr}
 use mathlib.Core.Bool.{Bool, true, false}
 use mathlib.Core.List.{List, [], _∷_, _++_, append-nil, append-assoc}
-use lib.Dec.{ltb}
-use lib.ListN.{length, set, getD, replicate, length-replicate}
+use lib.Dec.{ltb, eqb}
+use lib.ListN.{length, drop, length-replicate}
 use borrow.Author.Tests.{lt-ltb, le-ltb}
-use Rattle.trees.specs.Plain.{if_then_else_, Answer, refused, gives}
+use Rattle.trees.specs.Plain.{if_then_else_, keep, Answer, refused, gives}
 use Rattle.trees.specs.Opening.{Opening}
-use Rattle.trees.specs.Held.{Held, Lane, holding, Fed, opened, laneOf, withLane, longer, closing}
-use Rattle.trees.specs.Batch.{semicolons, Batched, batching, batch}
+use Rattle.trees.specs.Held.{Held, Lane, holding, Fed, opened, laneOf, withLane, longer, feeding, closing}
+use Rattle.trees.specs.Batch.{semicolons, withVerdict, Batched, batching, batch}
 use Rattle.theorems.specs.PieceLaws.{set-replicate, getD-all}
 use Rattle.head.specs.Head.{openingAt, numbersAt}
 use Rattle.layout.specs.Store.{heldAt}
@@ -151,6 +152,31 @@ module _ (o : Opening) (lane : 0 < o .numbers .lanes) where
 unfoldable pub refusedTexts : Opening → List ℕ → ℕ
 unfolding refusedAfter refusedIn closing batching semicolons opened
 refusedTexts o v = refusedAfter (refusedIn (all-fed o v .verdicts)) (closing (all-fed o v .after) 0 .answer)
+
+-- at most every text, and the closing
+keep-most : (f : ℕ → Bool) (v : List ℕ) → length (keep f v) ≤ length v
+unfolding keep
+keep-most f [] = omega arith
+keep-most f (b ∷ v) = go (f b) (keep-most f v)
+  where
+    go : (t : Bool) → length (keep f v) ≤ length v → length (if t then b ∷ keep f v else keep f v) ≤ suc (length v)
+    go true e = omega arith
+    go false e = omega arith
+
+verdicts-many : (n : ℕ) (h : Held) (l : ℕ) (p : List ℕ) → length (batching n h l p .verdicts) ≡ n
+unfolding batching withVerdict
+verdicts-many zero h l p = refl
+verdicts-many (suc n) h l p = ap suc (verdicts-many n (feeding h l p .after) l (drop (feeding h l p .taken) p))
+
+after-most : (n : ℕ) (a : Answer (Unit {0})) → refusedAfter n a ≤ suc n
+unfolding refusedAfter
+after-most n (refused k) = omega arith
+after-most n (gives x) = omega arith
+
+pub refused-most : (o : Opening) (v : List ℕ) → refusedTexts o v ≤ suc (length v)
+unfolding refusedTexts refusedIn semicolons
+refused-most o v =
+    omega (arith, after-most (refusedIn (all-fed o v .verdicts)) (closing (all-fed o v .after) 0 .answer), keep-most (λ x. ltb x 256) (all-fed o v .verdicts), verdicts-many (semicolons v) (opened o) 0 v, keep-most (eqb 59) v)
 
 one-more : (n : ℕ) (a : Answer (Unit {0})) → refusedAfter n a ≡ n + refusedAfter 0 a
 unfolding refusedAfter
