@@ -8,7 +8,7 @@
 --   takenMore n f          the outcome f of a feeding, with n bytes more
 --   joined b c             the outcomes b and then c of two batches, as one
 --   batching-append        a batch of p and then one of q are a batch of p ++ q
-use Prim.Native.Nat.{ℕ, zero, suc, _+_, _≤_, _<_}
+use Prim.Native.Nat.{ℕ, zero, suc, _+_, _<_}
 use native.Mathlib.Nat.{zero-add, suc-add}
 use native.Mathlib.Omega.{arith}
 use mathlib.Core.Path.{_≡_, refl, sym, ap, ap₂, _∙_}
@@ -18,7 +18,7 @@ use lib.Dec.{ltb, eqb}
 use lib.ListN.{length, set, drop, length-append, length-set}
 use lib.Seq.{set-set, getD-set-same, drop-append-le, drop-append-add}
 use borrow.Author.Tests.{lt-ltb}
-use Rattle.trees.specs.Plain.{keep, member, Answer, refused, gives}
+use Rattle.trees.specs.Plain.{member, Answer, refused, gives}
 use Rattle.trees.specs.Held.{Held, Lane, holding, overrun, Fed, moreWanted, accepted, laneOf, withLane, withTree, longer, newSplits, roomFor, withRoom, verdict, beforeSemicolon, finished, recording, finishing, feeding}
 use Rattle.trees.specs.Verdict.{judged}
 use Rattle.trees.specs.Batch.{semicolons, verdictNumber, withVerdict, Batched, batching}

@@ -6,14 +6,14 @@ use Prim.Native.Nat.{ℕ, zero, suc, _+_, _*_, _/_, _%_, _^_, _≤_, _<_}
 use native.Mathlib.Nat.{pow-suc, pow-le-pow-right, suc-mul}
 use native.Mathlib.Omega.{arith}
 use Prim.Native.String.{String}
-use mathlib.Core.Path.{_≡_, refl, sym, ap, _∙_}
+use mathlib.Core.Path.{_≡_, refl}
 use mathlib.Core.Logic.{inl, inr}
-use mathlib.Core.Bool.{Bool, true, false, _&&_}
+use mathlib.Core.Bool.{Bool, true, false}
 use mathlib.Core.List.{List, [], _∷_, _++_, map}
-use lib.Dec.{leb, ltb, eqb}
+use lib.Dec.{ltb, eqb}
 use lib.ListN.{length, getD, length-append, length-map}
-use borrow.Author.Tests.{ltb-true, ltb-false}
-use Rattle.trees.specs.Plain.{if_then_else_, every}
+use borrow.Author.Tests.{ltb-false}
+use Rattle.trees.specs.Plain.{if_then_else_}
 use Rattle.trees.specs.Samples.{bytes}
 use Rattle.trees.specs.Mask.{everyTaxon, proper}
 use Rattle.trees.specs.Names.{goodNames}
@@ -30,7 +30,7 @@ use Rattle.theorems.specs.RisingLaws.{recorded-mem}
 use Rattle.theorems.specs.WrittenLaws.{written-length}
 use Rattle.theorems.specs.ConsensusLaws.{good-proper, strict-good, majority-good}
 use Rattle.head.specs.Head.{numbersAt, namesAt, openingAt}
-use Rattle.layout.specs.Store.{treesHeldAt, splitsHeldAt, heldAt}
+use Rattle.layout.specs.Store.{heldAt}
 use Rattle.store.specs.WholeStore.{wholeAt}
 use Rattle.store.specs.WholeFacts.{whole-at-facts}
 use Rattle.store.specs.RecordedAtLaws.{trees-length, recorded-length}
@@ -43,7 +43,7 @@ use Rattle.sheet.specs.Sheet.{digitsFrom, digitsOf, spaced, fields, lineOf, cou
 
 -- ---- words and lines
 
-unfoldable pub Short : ℕ → List (List ℕ) → Type 0
+Short : ℕ → List (List ℕ) → Type 0
 Short m [] = Unit {0}
 Short m (w ∷ ws) = (length w ≤ m) × Short m ws
 
@@ -205,9 +205,9 @@ module _ (s : List ℕ) (w : wholeAt s ≡ true) where
   lines-short n b = (
     counts-short n b,
     short-append 8192 (map (splitLine h) (recorded (h .trees))) (map (rowLine h) (h .trees) ++ majorityLine h ∷ strictLine h ∷ [])
-    (short-map 8192 (splitLine h) (recorded (h .trees)) split-short)
-    (short-append 8192 (map (rowLine h) (h .trees)) (majorityLine h ∷ strictLine h ∷ []) (short-map 8192 (rowLine h) (h .trees) row-short)
-    (majority-short, (strict-short, tt))),
+        (short-map 8192 (splitLine h) (recorded (h .trees)) split-short)
+        (short-append 8192 (map (rowLine h) (h .trees)) (majorityLine h ∷ strictLine h ∷ []) (short-map 8192 (rowLine h) (h .trees) row-short)
+        (majority-short, (strict-short, tt))),
   )
 
   pub lines-fit : (n : ℕ) → n < 18446744073709551616 → (i : ℕ) → length (getD (sheetLines h n) i []) ≤ 8192

@@ -4,14 +4,13 @@
 --   two-or-three          a first line that is refused then is refused with 2 or 3
 --   summary-printed       what is printed is `summary` of the whole input, where the refused texts can be counted
 --   input-printed         so it is for every input of fewer than 2 ^ 64 - 1 bytes
-use Prim.Native.Nat.{ℕ, suc, _+_, _≤_, _<_}
+use Prim.Native.Nat.{ℕ, suc, _≤_, _<_}
 use native.Mathlib.Omega.{arith}
 use mathlib.Core.Path.{_≡_, refl, sym, ap, ap₂, subst, _∙_}
 use mathlib.Core.Logic.{_⊎_, inl, inr}
 use mathlib.Core.Bool.{Bool, true, false, _&&_}
-use mathlib.Core.List.{List, [], _∷_, _++_, flatMap}
-use lib.Dec.{leb}
-use lib.ListN.{length, getD, take, drop}
+use mathlib.Core.List.{List, []}
+use lib.ListN.{length}
 use borrow.Author.Tests.{le-leb, le-ltb}
 use Rattle.trees.specs.Plain.{if_then_else_, Answer, refused, gives}
 use Rattle.trees.specs.Names.{namesIn, goodNames}
@@ -19,24 +18,20 @@ use Rattle.trees.specs.Opening.{Opening, storeSize, inRange, goodConstants, ope
 use Rattle.trees.specs.Held.{Held, opened, closing}
 use Rattle.trees.specs.Questions.{ifRoom}
 use Rattle.head.specs.Head.{upTo}
-use Rattle.layout.specs.Store.{heldAt}
-use Rattle.store.specs.WholeStore.{wholeAt}
 use Rattle.table.specs.Answers.{refusalNumber, finishGiven}
 use Rattle.table.specs.Promises.{OpenedAs, Holds}
 use Rattle.table.specs.declared.Finish.{Finish}
 use Rattle.table.specs.declared.Finish.the-variants as finish
-use Rattle.table.specs.declared.Refusal.{Refusal}
 use Rattle.sheet.specs.Sheet.{sheetLines}
 use Rattle.sheet.specs.Summary.{firstLine, behindLine, spacesIn, summaryNumbers, firstConstant, secondConstant, namesOpening, summaryOpening, summaryBytes, closedSheet, summaryLines, refusalLine, printed, summary}
-use Rattle.sheet.specs.FirstLine.{Kept, keptAfter, keptOpening}
-use Rattle.sheet.specs.Texts.{capped}
+use Rattle.sheet.specs.FirstLine.{Kept, keptOpening}
 use Rattle.sheet.specs.TextsLaws.{capped-small}
 use Rattle.sheet.specs.Asked.{refusalAsked}
 use Rattle.sheet.specs.KeptLaws.{fresh, line-decides}
 use Rattle.promises.specs.Outcomes.{refusalIn, gives≢refused}
-use Rattle.promises.specs.SummarySteps.{whole, FewTexts, TextSteps, countAfter, LinesGiven, Printed, Summarised}
+use Rattle.promises.specs.SummarySteps.{whole, FewTexts, countAfter, allFed, refusedTexts, Printed, Summarised}
 use Rattle.promises.specs.LineStepLaws.{behind-most, line-follows}
-use Rattle.promises.specs.TextStepLaws.{all-fed, FedSoFar, lane-whole, texts-none, texts-follow, refusedTexts, refused-most, closed-follows}
+use Rattle.promises.specs.TextStepLaws.{lane-whole, texts-none, texts-follow, refused-most, closed-follows}
 use Rattle.promises.specs.PrintedLaws.{filled-line, lines-follow}
 
 -- ---- the opening
@@ -91,7 +86,7 @@ module _ (o : Opening) (lent s : List ℕ) (q : Holds (opened o) lent s) (ps : L
   unfolding opened
   lane = subst (λ (h : Held). 0 < h .opening .numbers .lanes) (q .held) (lane-whole s (q .whole))
 
-  lines-are : sheetLines (closing (all-fed o (whole ps) .after) 0 .after) (refusedTexts o (whole ps)) ≡ summaryLines o (whole ps)
+  lines-are : sheetLines (closing (allFed o (whole ps) .after) 0 .after) (refusedTexts o (whole ps)) ≡ summaryLines o (whole ps)
   unfolding summaryLines closedSheet refusedTexts
   lines-are = refl
 

@@ -5,6 +5,8 @@
 --   LineSteps k ps z v           taking the first line from ps, with k kept of it: in the end z is kept, and the bytes v stand behind it
 --   countAfter n r               the number of refused texts, n before, that a call answers with r
 --   TextSteps s n ps t m         feeding ps, behind n refused texts: the lent bytes s become t, the number m
+--   allFed o v                   feeding v at once to what was just opened
+--   refusedTexts o v             how many texts are refused then, a refused closing included
 --   LinesGiven s n j ls          asking for the lines j, j + 1, .. up to a refusal, each into a buffer of 8,192 bytes or more, gives ls
 --   Printed r s qs out           what is printed when the opening answered r and left s: the line of its refusal, or the sheet behind the texts qs
 --   Summarised names lent ps out     what is printed, from the first piece on: with a buffer for names, and lent bytes
@@ -13,7 +15,9 @@ use mathlib.Core.Path.{_≡_}
 use mathlib.Core.Bool.{true, false}
 use mathlib.Core.List.{List, [], _∷_, _++_, flatMap}
 use lib.ListN.{length, take, drop}
-use Rattle.trees.specs.Batch.{semicolons}
+use Rattle.trees.specs.Opening.{Opening}
+use Rattle.trees.specs.Held.{opened, closing}
+use Rattle.trees.specs.Batch.{semicolons, Batched, batching}
 use Rattle.table.specs.Answers.{refusalNumber}
 use Rattle.table.specs.Promises.{OpenedAs}
 use Rattle.table.specs.Filled.{FilledAs}
@@ -24,6 +28,7 @@ use Rattle.table.specs.declared.Number.the-variants as number
 use Rattle.table.specs.declared.Refusal.{Refusal}
 use Rattle.feeding.specs.Feeding.{batchOf}
 use Rattle.sheet.specs.declared.Taken.{Taken}
+use Rattle.sheet.specs.Summary.{refusedIn, refusedAfter}
 use Rattle.sheet.specs.FirstLine.{Kept, keptOf, TakenAs, keptOpening}
 use Rattle.sheet.specs.Texts.{TextsAs, ClosedAs}
 use Rattle.sheet.specs.Asked.{lineAsked, refusalAsked}
@@ -55,6 +60,13 @@ unfoldable pub TextSteps : List ℕ → ℕ → List (List ℕ) → List ℕ →
 unfolding countAfter
 TextSteps s n [] t m = (t ≡ s) × (m ≡ n)
 TextSteps s n (p ∷ ps) t m = (r : Number) × (u : List ℕ) × TextsAs (batchOf s 0 p 4096) n r s u × TextSteps u (countAfter n r) ps t m
+
+abbrev pub allFed : Opening → List ℕ → Batched
+allFed o v = batching (semicolons v) (opened o) 0 v
+
+unfoldable pub refusedTexts : Opening → List ℕ → ℕ
+unfolding refusedAfter refusedIn closing batching semicolons opened
+refusedTexts o v = refusedAfter (refusedIn (allFed o v .verdicts)) (closing (allFed o v .after) 0 .answer)
 
 unfoldable pub LinesGiven : List ℕ → ℕ → ℕ → List (List ℕ) → Type 0
 LinesGiven s n j [] =

@@ -1,13 +1,11 @@
 -- The texts, fed in pieces, are fed as one; and the closing behind them. Assumes nothing.
 --
 --   capped-more            a capped number and a further one, capped
---   all-fed o v            the outcome of feeding v at once to what was just opened
 --   FedSoFar o v s n       the lent bytes s hold what feeding v leaves, and n counts its refusals
 --   lane-whole             a whole store has a lane 0
 --   texts-none             nothing yet
 --   texts-follow           pieces, one after another
---   refusedTexts o v       how many texts are refused, the closing included
---   refused-most           they are at most one more than the bytes of v
+--   refused-most           the refused texts are at most one more than the bytes of v
 --   closed-follows         so the closing leaves what the sheet of v is of
 use Prim.Native.Nat.{ℕ, zero, suc, _+_, _≤_, _<_}
 use native.Mathlib.Omega.{arith}
@@ -20,16 +18,15 @@ use lib.ListN.{length, drop, length-replicate}
 use borrow.Author.Tests.{lt-ltb, le-ltb}
 use Rattle.trees.specs.Plain.{if_then_else_, keep, Answer, refused, gives}
 use Rattle.trees.specs.Opening.{Opening}
-use Rattle.trees.specs.Held.{Held, Lane, holding, Fed, opened, laneOf, withLane, longer, feeding, closing}
+use Rattle.trees.specs.Held.{Held, holding, Fed, opened, laneOf, withLane, longer, feeding, closing}
 use Rattle.trees.specs.Batch.{semicolons, withVerdict, Batched, batching, batch}
 use Rattle.theorems.specs.PieceLaws.{set-replicate, getD-all}
-use Rattle.head.specs.Head.{openingAt, numbersAt}
+use Rattle.head.specs.Head.{openingAt}
 use Rattle.layout.specs.Store.{heldAt}
 use Rattle.store.specs.UpToLaws.{less-or-not}
 use Rattle.store.specs.WholeStore.{wholeAt}
 use Rattle.store.specs.HeldWholeLaws.{held-numbers, opening-facts}
 use Rattle.table.specs.Answers.{numberGiven}
-use Rattle.table.specs.Promises.{Holds}
 use Rattle.table.specs.QuestionLaws.{when-whole}
 use Rattle.table.specs.declared.Number.{Number}
 use Rattle.table.specs.declared.Number.the-variants as number
@@ -37,9 +34,9 @@ use Rattle.feeding.specs.Feeding.{batchOf}
 use Rattle.sheet.specs.Summary.{refusedIn, refusedAfter}
 use Rattle.sheet.specs.Texts.{capped, TextsAs, closedCount, ClosedAs}
 use Rattle.sheet.specs.TextsLaws.{capped-small, capped-large}
-use Rattle.promises.specs.Outcomes.{refusalIn, valueOr, gives≢refused}
+use Rattle.promises.specs.Outcomes.{valueOr, gives≢refused}
 use Rattle.promises.specs.CutLaws.{LaneThere, fed-open, joined, semicolons-append, refused-append, batching-append}
-use Rattle.promises.specs.SummarySteps.{whole, FewTexts, countAfter, TextSteps}
+use Rattle.promises.specs.SummarySteps.{whole, FewTexts, countAfter, TextSteps, allFed, refusedTexts}
 use Rattle.promises.specs.LineStepLaws.{whole-none, whole-more}
 
 -- ---- counts
@@ -63,9 +60,6 @@ count-given n m (number.Gives k) e = ap (valueOr 0) e
 
 -- ---- what is fed at once
 
-abbrev pub all-fed : Opening → List ℕ → Batched
-all-fed o v = batching (semicolons v) (opened o) 0 v
-
 module _ (o : Opening) (lane : 0 < o .numbers .lanes) where
   lane-opened : LaneThere (opened o) 0
   unfolding opened
@@ -76,13 +70,13 @@ module _ (o : Opening) (lane : 0 < o .numbers .lanes) where
   nothing-kept =
       rw (getD-all (o .numbers .lanes) 0 (holding []), set-replicate (o .numbers .lanes) 0 (holding [])) refl
 
-  nothing-fed : all-fed o [] ≡ record { verdicts = []; after = opened o }
+  nothing-fed : allFed o [] ≡ record { verdicts = []; after = opened o }
   unfolding batching semicolons
   nothing-fed =
       ap (λ (h : Held). record { verdicts = []; after = h })
       (ap (λ (f : Fed). f .after) (fed-open (opened o) 0 lane-opened [] refl) ∙ nothing-kept)
 
-  more-fed : (v p : List ℕ) → all-fed o (v ++ p) ≡ joined (all-fed o v) (batching (semicolons p) (all-fed o v .after) 0 p)
+  more-fed : (v p : List ℕ) → allFed o (v ++ p) ≡ joined (allFed o v) (batching (semicolons p) (allFed o v .after) 0 p)
   more-fed v p =
       ap (λ (n : ℕ). batching n (opened o) 0 (v ++ p)) (semicolons-append v p)
       ∙ batching-append (semicolons v) (semicolons p) (opened o) 0 lane-opened v p refl
@@ -91,8 +85,8 @@ module _ (o : Opening) (lane : 0 < o .numbers .lanes) where
 
 pub record FedSoFar (o : Opening) (v s : List ℕ) (n : ℕ) : Type 0 where
   pub whole : wholeAt s ≡ true
-  pub held : heldAt s ≡ all-fed o v .after
-  pub count : n ≡ capped (refusedIn (all-fed o v .verdicts))
+  pub held : heldAt s ≡ allFed o v .after
+  pub count : n ≡ capped (refusedIn (allFed o v .verdicts))
 
 pub lane-whole : (s : List ℕ) → wholeAt s ≡ true → 0 < heldAt s .opening .numbers .lanes
 unfolding openingAt
@@ -116,14 +110,14 @@ module _ (o : Opening) (lane : 0 < o .numbers .lanes) where
     abbrev b : Batched
     b = batching (semicolons p) (heldAt s) 0 p
 
-    both : all-fed o (v ++ p) ≡ joined (all-fed o v) b
-    both = more-fed o lane v p ∙ ap (λ (h : Held). joined (all-fed o v) (batching (semicolons p) h 0 p)) (sym (g .held))
+    both : allFed o (v ++ p) ≡ joined (allFed o v) b
+    both = more-fed o lane v p ∙ ap (λ (h : Held). joined (allFed o v) (batching (semicolons p) h 0 p)) (sym (g .held))
 
-    both-refused : capped (n + refusedIn (b .verdicts)) ≡ capped (refusedIn (all-fed o (v ++ p) .verdicts))
+    both-refused : capped (n + refusedIn (b .verdicts)) ≡ capped (refusedIn (allFed o (v ++ p) .verdicts))
     unfolding joined
     both-refused =
-        ap (λ (k : ℕ). capped (k + refusedIn (b .verdicts))) (g .count) ∙ capped-more (refusedIn (all-fed o v .verdicts)) (refusedIn (b .verdicts))
-        ∙ ap capped (sym (refused-append (all-fed o v .verdicts) (b .verdicts)))
+        ap (λ (k : ℕ). capped (k + refusedIn (b .verdicts))) (g .count) ∙ capped-more (refusedIn (allFed o v .verdicts)) (refusedIn (b .verdicts))
+        ∙ ap capped (sym (refused-append (allFed o v .verdicts) (b .verdicts)))
         ∙ ap (λ (x : Batched). capped (refusedIn (x .verdicts))) (sym both)
 
     texts-more : (r : Number) (u : List ℕ) → TextsAs (batchOf s 0 p 4096) n r s u → FedSoFar o (v ++ p) u (countAfter n r)
@@ -149,10 +143,6 @@ module _ (o : Opening) (lane : 0 < o .numbers .lanes) where
 
 -- ---- the closing
 
-unfoldable pub refusedTexts : Opening → List ℕ → ℕ
-unfolding refusedAfter refusedIn closing batching semicolons opened
-refusedTexts o v = refusedAfter (refusedIn (all-fed o v .verdicts)) (closing (all-fed o v .after) 0 .answer)
-
 -- at most every text, and the closing
 keep-most : (f : ℕ → Bool) (v : List ℕ) → length (keep f v) ≤ length v
 unfolding keep
@@ -176,7 +166,7 @@ after-most n (gives x) = omega arith
 pub refused-most : (o : Opening) (v : List ℕ) → refusedTexts o v ≤ suc (length v)
 unfolding refusedTexts refusedIn semicolons
 refused-most o v =
-    omega (arith, after-most (refusedIn (all-fed o v .verdicts)) (closing (all-fed o v .after) 0 .answer), keep-most (λ x. ltb x 256) (all-fed o v .verdicts), verdicts-many (semicolons v) (opened o) 0 v, keep-most (eqb 59) v)
+    omega (arith, after-most (refusedIn (allFed o v .verdicts)) (closing (allFed o v .after) 0 .answer), keep-most (λ x. ltb x 256) (allFed o v .verdicts), verdicts-many (semicolons v) (opened o) 0 v, keep-most (eqb 59) v)
 
 one-more : (n : ℕ) (a : Answer (Unit {0})) → refusedAfter n a ≡ n + refusedAfter 0 a
 unfolding refusedAfter
@@ -191,9 +181,9 @@ module _ (o : Opening) (v s : List ℕ) (n : ℕ) (g : FedSoFar o v s n) (r : Nu
   unfolding refusedTexts
   counted =
       ap₂ (λ (k : ℕ) (h : Held). capped (refusedAfter k (closing h 0 .answer))) (g .count) (g .held)
-      ∙ capped-after (refusedIn (all-fed o v .verdicts)) (closing (all-fed o v .after) 0 .answer)
+      ∙ capped-after (refusedIn (allFed o v .verdicts)) (closing (allFed o v .after) 0 .answer)
 
-  pub closed-follows : (wholeAt t ≡ true) × (heldAt t ≡ closing (all-fed o v .after) 0 .after) × (countAfter n r ≡ capped (refusedTexts o v))
+  pub closed-follows : (wholeAt t ≡ true) × (heldAt t ≡ closing (allFed o v .after) 0 .after) × (countAfter n r ≡ capped (refusedTexts o v))
   unfolding closedCount
   closed-follows =
       let x = c .holds (g .whole) in (
