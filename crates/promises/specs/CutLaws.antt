@@ -4,10 +4,10 @@
 --   refused-append         the refusals among two runs of verdicts
 --   LaneThere h l          the collection h has a lane l
 --   fed-open               a piece that ends no text
+--   takenMore n f          the outcome f of a feeding, with n bytes more taken
 --   continued              feeding p, which ends no text, and then q is feeding p ++ q
---   takenMore n f          the outcome f of a feeding, with n bytes more
 --   joined b c             the outcomes b and then c of two batches, as one
---   batching-append        a batch of p and then one of q are a batch of p ++ q
+--   batching-append        a batch of p, and then one of q on what it leaves, are a batch of p ++ q
 use Prim.Native.Nat.{ℕ, zero, suc, _+_, _<_}
 use native.Mathlib.Nat.{zero-add, suc-add}
 use native.Mathlib.Omega.{arith}

@@ -1,4 +1,5 @@
--- Runs of calls on lent bytes, as the promises allow them, and what they come to; and that each promise leaves one outcome.
+-- Runs of calls on lent bytes, as the promises allow them, and what they come to; that each promise leaves one outcome; and that
+-- what is printed is the summary of the input.
 pub mod Steps
 pub mod StepLaws
 pub mod RunLaws

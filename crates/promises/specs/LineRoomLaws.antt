@@ -3,9 +3,9 @@
 --   Short m ws       the words or lines ws have at most m bytes each
 --   lines-fit        so have the lines of the sheet, with m = 8,192
 use Prim.Native.Nat.{ℕ, zero, suc, _+_, _*_, _/_, _%_, _^_, _≤_, _<_}
+use Prim.Native.String.{String}
 use native.Mathlib.Nat.{pow-suc, pow-le-pow-right, suc-mul}
 use native.Mathlib.Omega.{arith}
-use Prim.Native.String.{String}
 use mathlib.Core.Path.{_≡_, refl}
 use mathlib.Core.Logic.{inl, inr}
 use mathlib.Core.Bool.{Bool, true, false}
@@ -116,7 +116,7 @@ module _ (s : List ℕ) (w : wholeAt s ≡ true) where
   unfolding openingAt
   splits-most = omega (arith, recorded-length s w, whole-at-facts s w .head .splits-fit, opening-facts s w .ranges .most-splits)
 
-  counts-short : (n : ℕ) → n < 18446744073709551616 → length (countsLine h n) ≤ 8192
+  counts-short : (n : ℕ) → n < 2 ^ 64 → length (countsLine h n) ≤ 8192
   unfolding countsLine Short bytes
   counts-short n b =
       let taxa = number-short (h .opening .numbers .taxa) 19 (omega (arith, taxa-most)) in
@@ -137,7 +137,7 @@ module _ (s : List ℕ) (w : wholeAt s ≡ true) where
           ∷ digitsOf (length (recorded (h .trees)))
           ∷ []
 
-  mask-below : (m : ℕ) → Mem m (recorded (h .trees)) → m < 18446744073709551616
+  mask-below : (m : ℕ) → Mem m (recorded (h .trees)) → m < 2 ^ 64
   unfolding everyTaxon
   mask-below m k =
       let n = numbersAt s .taxa in
@@ -200,7 +200,7 @@ module _ (s : List ℕ) (w : wholeAt s ≡ true) where
 
   -- ---- all lines
 
-  lines-short : (n : ℕ) → n < 18446744073709551616 → Short 8192 (sheetLines h n)
+  lines-short : (n : ℕ) → n < 2 ^ 64 → Short 8192 (sheetLines h n)
   unfolding sheetLines Short
   lines-short n b = (
     counts-short n b,
@@ -210,5 +210,5 @@ module _ (s : List ℕ) (w : wholeAt s ≡ true) where
         (majority-short, (strict-short, tt))),
   )
 
-  pub lines-fit : (n : ℕ) → n < 18446744073709551616 → (i : ℕ) → length (getD (sheetLines h n) i []) ≤ 8192
+  pub lines-fit : (n : ℕ) → n < 2 ^ 64 → (i : ℕ) → length (getD (sheetLines h n) i []) ≤ 8192
   lines-fit n b i = short-at 8192 (sheetLines h n) (lines-short n b) i

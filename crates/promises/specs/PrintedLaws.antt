@@ -2,7 +2,7 @@
 --
 --   filled-line      a line that is given stands at the front of the buffer
 --   lines-follow     the lines of a whole store, from the line j on
-use Prim.Native.Nat.{ℕ, suc, _≤_, _<_}
+use Prim.Native.Nat.{ℕ, suc, _^_, _≤_, _<_}
 use native.Mathlib.Omega.{arith}
 use mathlib.Core.Path.{_≡_, refl, sym, ap, ap₂, _∙_}
 use mathlib.Core.Logic.{_⊎_, inl, inr}
@@ -48,7 +48,7 @@ refused-never x m e k out after f = gives≢refused k m (f .0 ∙ ap lengthGiven
 
 -- ---- the lines of a whole store
 
-module _ (s : List ℕ) (w : wholeAt s ≡ true) (n : ℕ) (small : n < 18446744073709551616) where
+module _ (s : List ℕ) (w : wholeAt s ≡ true) (n : ℕ) (small : n < 2 ^ 64) where
   abbrev lines : List (List ℕ)
   lines = sheetLines (heldAt s) n
 

@@ -4,7 +4,7 @@
 --   two-or-three          a first line that is refused then is refused with 2 or 3
 --   summary-printed       what is printed is `summary` of the whole input, where the refused texts can be counted
 --   input-printed         so it is for every input of fewer than 2 ^ 64 - 1 bytes
-use Prim.Native.Nat.{ℕ, suc, _≤_, _<_}
+use Prim.Native.Nat.{ℕ, suc, _-_, _^_, _≤_, _<_}
 use native.Mathlib.Omega.{arith}
 use mathlib.Core.Path.{_≡_, refl, sym, ap, ap₂, subst, _∙_}
 use mathlib.Core.Logic.{_⊎_, inl, inr}
@@ -81,7 +81,7 @@ refusal-fits k room e h = rw (le-ltb room (length (refusalLine k)) (omega (arith
 
 -- behind an opening that is accepted
 module _ (o : Opening) (lent s : List ℕ) (q : Holds (opened o) lent s) (ps : List (List ℕ)) (few : FewTexts ps)
-    (small : refusedTexts o (whole ps) < 18446744073709551616) where
+    (small : refusedTexts o (whole ps) < 2 ^ 64) where
   lane : 0 < o .numbers .lanes
   unfolding opened
   lane = subst (λ (h : Held). 0 < h .opening .numbers .lanes) (q .held) (lane-whole s (q .whole))
@@ -126,7 +126,7 @@ module _ (names lent : List ℕ) (a : 2112 ≤ length names) (b : summaryBytes �
       let c = refusal-fits k (length (g .1)) (two-or-three line summaryBytes (omega arith) k e) (g .3) in
       g .5 ∙ filled-line _ (refusalLine k) (ap (λ (m : ℕ). refusalAsked m (length (g .1))) n ∙ c) (g .0) (g .1) (g .2) (g .4)
 
-  accepted-printed : (o : Opening) → refusedTexts o texts < 18446744073709551616 → (r : Finish) → OpenedAs (gives o) r lent (run .store)
+  accepted-printed : (o : Opening) → refusedTexts o texts < 2 ^ 64 → (r : Finish) → OpenedAs (gives o) r lent (run .store)
       → Printed r (run .store) (run .texts) out → out ≡ whole (summaryLines o texts)
   unfolding OpenedAs finishGiven
   accepted-printed o h (finish.Refused w) x g = absurd (gives≢refused tt (refusalNumber w) (sym (x .0)))
@@ -134,7 +134,7 @@ module _ (names lent : List ℕ) (a : 2112 ≤ length names) (b : summaryBytes �
       sheet-printed o lent (run .store) (x .1) (run .texts) (run .few) (rw behind-is h) out g ∙ ap (λ (v : List ℕ). whole (summaryLines o v)) behind-is
 
   -- as long as 64 bits can count the refused texts
-  pub summary-printed : ((o : Opening) → summaryOpening line summaryBytes ≡ gives o → refusedTexts o texts < 18446744073709551616) → out ≡ summary (whole ps)
+  pub summary-printed : ((o : Opening) → summaryOpening line summaryBytes ≡ gives o → refusedTexts o texts < 2 ^ 64) → out ≡ summary (whole ps)
   unfolding summary printed whole
   summary-printed small = go (summaryOpening line summaryBytes) refl (subst (λ (x : Answer Opening). OpenedAs x (run .answer) lent (run .store)) opens (run .opened))
     where
@@ -143,5 +143,5 @@ module _ (names lent : List ℕ) (a : 2112 ≤ length names) (b : summaryBytes �
       go (gives o) e y = accepted-printed o (small o e) (run .answer) y (run .prints)
 
   -- so for every input of fewer than 2 ^ 64 - 1 bytes
-  pub input-printed : length (whole ps) < 18446744073709551615 → out ≡ summary (whole ps)
+  pub input-printed : length (whole ps) < 2 ^ 64 - 1 → out ≡ summary (whole ps)
   input-printed h = summary-printed (λ o e. omega (arith, refused-most o texts, behind-most (whole ps)))

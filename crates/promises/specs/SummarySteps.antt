@@ -93,7 +93,7 @@ Printed finish.Done s qs printed =
     × LinesGiven u (countAfter n r) 0 ls
     × (printed ≡ whole ls)
 
--- what stands behind the first line may be cut anew
+-- the first line is taken from the pieces ps, and what it asks for is opened; what stands behind it may be cut anew
 pub record Summarised (names lent : List ℕ) (ps : List (List ℕ)) (printed : List ℕ) : Type 0 where
   pub kept : Kept
   pub behind : List ℕ

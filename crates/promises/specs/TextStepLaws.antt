@@ -141,9 +141,8 @@ module _ (o : Opening) (lane : 0 < o .numbers .lanes) where
       subst (λ (w : List ℕ). FedSoFar o w t m) e
       (texts-follow ps (v ++ p) (q .1) (countAfter n (q .0)) (texts-more v s n g p (f .0) (q .0) (q .1) (q .2)) (f .1) t m (q .3))
 
--- ---- the closing
+-- ---- how many texts are refused
 
--- at most every text, and the closing
 keep-most : (f : ℕ → Bool) (v : List ℕ) → length (keep f v) ≤ length v
 unfolding keep
 keep-most f [] = omega arith
@@ -163,10 +162,15 @@ unfolding refusedAfter
 after-most n (refused k) = omega arith
 after-most n (gives x) = omega arith
 
+-- every text, and the closing
 pub refused-most : (o : Opening) (v : List ℕ) → refusedTexts o v ≤ suc (length v)
 unfolding refusedTexts refusedIn semicolons
 refused-most o v =
-    omega (arith, after-most (refusedIn (allFed o v .verdicts)) (closing (allFed o v .after) 0 .answer), keep-most (λ x. ltb x 256) (allFed o v .verdicts), verdicts-many (semicolons v) (opened o) 0 v, keep-most (eqb 59) v)
+    let b = allFed o v in
+    let n = verdicts-many (semicolons v) (opened o) 0 v in
+    omega (arith, after-most (refusedIn (b .verdicts)) (closing (b .after) 0 .answer), keep-most (λ x. ltb x 256) (b .verdicts), n, keep-most (eqb 59) v)
+
+-- ---- the closing
 
 one-more : (n : ℕ) (a : Answer (Unit {0})) → refusedAfter n a ≡ n + refusedAfter 0 a
 unfolding refusedAfter
