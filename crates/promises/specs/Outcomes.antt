@@ -5,6 +5,7 @@
 --   refusalIn, valueOr, gives≢refused     the parts of an answer
 --   answered-once          a promise that is an equation: every question's, for its answer and for its buffers
 --   SameStore n t u        what two lent bytes hold, how many they are, and those past the size n, are the same
+--   holds-once             two lent bytes that a promise lets hold the same
 --   opened-refused-once, opened-once, fed-once, closed-once, batched-refused-once, batched-once     the calls that change a store
 use Prim.Native.Nat.{ℕ, suc, _≤_}
 use native.Mathlib.Omega.{arith}
@@ -143,7 +144,7 @@ pub record SameStore (n : ℕ) (t u : List ℕ) : Type 0 where
   pub size : length t ≡ length u
   pub behind : (i : ℕ) → n ≤ i → getD t i 0 ≡ getD u i 0
 
-holds-once : (h : Held) (s t u : List ℕ) → Holds h s t → Holds h s u → SameStore (storeSize (h .opening .numbers)) t u
+pub holds-once : (h : Held) (s t u : List ℕ) → Holds h s t → Holds h s u → SameStore (storeSize (h .opening .numbers)) t u
 holds-once h s t u a b = record {
   holding = a .held ∙ sym (b .held);
   size = a .size ∙ sym (b .size);

@@ -1,0 +1,98 @@
+-- Two pieces as one: what stands in them, and before their first semicolon or LF. Assumes nothing.
+--
+--   member-left, member-right     a byte that is in the first piece, and one that is not
+--   text-left, text-right         what stands before the first semicolon
+--   line-left, line-right         what stands before the first LF
+--   keep-append                   how many bytes pass a test
+use Prim.Native.Nat.{ℕ, _+_}
+use native.Mathlib.Omega.{arith}
+use mathlib.Core.Path.{_≡_, refl, sym, ap, _∙_}
+use mathlib.Core.Bool.{Bool, true, false, _||_, true≢false}
+use mathlib.Core.List.{List, [], _∷_, _++_}
+use lib.Dec.{eqb}
+use lib.ListN.{length}
+use Rattle.trees.specs.Plain.{if_then_else_, keep, member}
+use Rattle.trees.specs.Held.{beforeSemicolon}
+use Rattle.sheet.specs.Summary.{firstLine}
+use Rattle.sheet.specs.FirstLineLaws.{eqb-flip}
+
+-- ---- the first byte c
+
+-- all before it
+before : ℕ → List ℕ → List ℕ
+before c [] = []
+before c (b ∷ p) = if eqb b c then [] else b ∷ before c p
+
+before-text : (p : List ℕ) → beforeSemicolon p ≡ before 59 p
+unfolding before beforeSemicolon
+before-text [] = refl
+before-text (b ∷ p) = ap (λ (v : List ℕ). if eqb b 59 then [] else b ∷ v) (before-text p)
+
+before-line : (p : List ℕ) → firstLine p ≡ before 10 p
+unfolding before firstLine
+before-line [] = refl
+before-line (b ∷ p) = ap (λ (v : List ℕ). if eqb b 10 then [] else b ∷ v) (before-line p)
+
+module _ (c : ℕ) where
+  pub member-left : (p q : List ℕ) → member c p ≡ true → member c (p ++ q) ≡ true
+  unfolding member
+  member-left [] q e = absurd (true≢false (sym e))
+  member-left (b ∷ p) q e = go (eqb c b) (member-left p q) e
+    where
+      go : (t : Bool) → (member c p ≡ true → member c (p ++ q) ≡ true) → (t || member c p) ≡ true → (t || member c (p ++ q)) ≡ true
+      go true f h = refl
+      go false f h = f h
+
+  pub member-right : (p q : List ℕ) → member c p ≡ false → member c (p ++ q) ≡ member c q
+  unfolding member
+  member-right [] q e = refl
+  member-right (b ∷ p) q e = go (eqb c b) (member-right p q) e
+    where
+      go : (t : Bool) → (member c p ≡ false → member c (p ++ q) ≡ member c q) → (t || member c p) ≡ false → (t || member c (p ++ q)) ≡ member c q
+      go true f h = absurd (true≢false h)
+      go false f h = f h
+
+  before-left : (p q : List ℕ) → member c p ≡ true → before c (p ++ q) ≡ before c p
+  unfolding member before
+  before-left [] q e = absurd (true≢false (sym e))
+  before-left (b ∷ p) q e = go (eqb b c) (before-left p q) (rw (eqb-flip c b) at e)
+    where
+      go : (t : Bool) → (member c p ≡ true → before c (p ++ q) ≡ before c p) → (t || member c p) ≡ true
+          → (if t then [] else b ∷ before c (p ++ q)) ≡ (if t then [] else b ∷ before c p)
+      go true f h = refl
+      go false f h = ap (λ (v : List ℕ). b ∷ v) (f h)
+
+  before-right : (p q : List ℕ) → member c p ≡ false → before c (p ++ q) ≡ p ++ before c q
+  unfolding member before
+  before-right [] q e = refl
+  before-right (b ∷ p) q e = go (eqb b c) (before-right p q) (rw (eqb-flip c b) at e)
+    where
+      go : (t : Bool) → (member c p ≡ false → before c (p ++ q) ≡ p ++ before c q) → (t || member c p) ≡ false
+          → (if t then [] else b ∷ before c (p ++ q)) ≡ b ∷ (p ++ before c q)
+      go true f h = absurd (true≢false h)
+      go false f h = ap (λ (v : List ℕ). b ∷ v) (f h)
+
+module _ (p q : List ℕ) where
+  pub text-left : member 59 p ≡ true → beforeSemicolon (p ++ q) ≡ beforeSemicolon p
+  text-left e = before-text (p ++ q) ∙ before-left 59 p q e ∙ sym (before-text p)
+
+  pub text-right : member 59 p ≡ false → beforeSemicolon (p ++ q) ≡ p ++ beforeSemicolon q
+  text-right e = before-text (p ++ q) ∙ before-right 59 p q e ∙ ap (λ (v : List ℕ). p ++ v) (sym (before-text q))
+
+  pub line-left : member 10 p ≡ true → firstLine (p ++ q) ≡ firstLine p
+  line-left e = before-line (p ++ q) ∙ before-left 10 p q e ∙ sym (before-line p)
+
+  pub line-right : member 10 p ≡ false → firstLine (p ++ q) ≡ p ++ firstLine q
+  line-right e = before-line (p ++ q) ∙ before-right 10 p q e ∙ ap (λ (v : List ℕ). p ++ v) (sym (before-line q))
+
+-- ---- how many bytes pass a test
+
+pub keep-append : (f : ℕ → Bool) (p q : List ℕ) → length (keep f (p ++ q)) ≡ length (keep f p) + length (keep f q)
+unfolding keep
+keep-append f [] q = omega arith
+keep-append f (b ∷ p) q = go (f b) (keep-append f p q)
+  where
+    go : (t : Bool) → length (keep f (p ++ q)) ≡ length (keep f p) + length (keep f q)
+        → length (if t then b ∷ keep f (p ++ q) else keep f (p ++ q)) ≡ length (if t then b ∷ keep f p else keep f p) + length (keep f q)
+    go true e = omega arith
+    go false e = e
