@@ -1,6 +1,6 @@
 -- What is kept of a first line decides as the line itself. Assumes nothing.
 --
---   Keeps v k            k is what is kept of the line v so far
+--   Keeps room v k       k is what is kept of the line v so far, in a buffer of `room` bytes
 --   fresh out            nothing is kept yet
 --   keeps-all            what is kept of a whole line
 --   names-short          a good name list of n names has fewer than 33 · n bytes

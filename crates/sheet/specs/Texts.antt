@@ -17,6 +17,7 @@ use Rattle.store.specs.WholeStore.{wholeAt}
 use Rattle.table.specs.declared.Number.{Number}
 use Rattle.table.specs.Answers.{numberGiven}
 use Rattle.table.specs.Promises.{ifWhole, Holds}
+use Rattle.feeding.specs.Feeding.{SameOutside}
 use Rattle.sheet.specs.Summary.{refusedIn, refusedAfter}
 
 -- 2 ^ 64 - 1 at most
@@ -33,7 +34,9 @@ unfoldable pub closedCount : List ℕ → ℕ → Answer ℕ
 unfolding ifWhole capped refusedAfter closing
 closedCount s n = ifWhole s (λ h. gives (capped (refusedAfter n (closing h 0 .answer))))
 
+-- "All lent memory stays as found, save the lane emptied by .. a closing"
 pub record ClosedAs (s : List ℕ) (n : ℕ) (r : Number) (t : List ℕ) : Type 0 where
   pub answer : numberGiven r ≡ closedCount s n
   pub found : wholeAt s ≡ false → t ≡ s
   pub holds : wholeAt s ≡ true → Holds (closing (heldAt s) 0 .after) s t
+  pub outside : SameOutside s 0 t

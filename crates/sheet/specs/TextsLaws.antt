@@ -112,6 +112,7 @@ closed-refused s n e = record {
   answer = sym (not-whole s (λ h. gives (capped (refusedAfter n (closing h 0 .answer)))) e);
   found = λ f. refl;
   holds = λ f. absurd (true≢false (sym f ∙ e));
+  outside = λ i h. refl;
 }
 
 module _ (s : List ℕ) (w : wholeAt s ≡ true) where
@@ -137,4 +138,5 @@ module _ (s : List ℕ) (w : wholeAt s ≡ true) where
     answer = ap gives (f ∙ ap capped (ap (λ (m : ℕ). n + m) (e ∙ ap (refusedAfter 0) (p .answer ∙ ap (λ (q : Closed). q .answer) closed-whole)) ∙ one-more n (closing (heldAt s) 0 .answer))) ∙ sym (when-whole s (λ h. gives (capped (refusedAfter n (closing h 0 .answer)))) w);
     found = λ g. absurd (true≢false (sym w ∙ g));
     holds = λ g. subst (λ (q : Closed). Holds (q .after) s t) closed-whole (p .holds lane-there);
+    outside = p .outside;
   }
