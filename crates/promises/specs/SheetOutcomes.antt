@@ -24,6 +24,7 @@ use Rattle.table.specs.declared.Finish.{Finish}
 use Rattle.table.specs.declared.Number.{Number}
 use Rattle.sheet.specs.declared.Taken.{Taken}
 use Rattle.sheet.specs.FirstLine.{Kept, TakenAs, keptOpening}
+use Rattle.feeding.specs.Feeding.{SameOutside}
 use Rattle.sheet.specs.Texts.{TextsAs, ClosedAs}
 use Rattle.promises.specs.Outcomes.{SameStore, holds-once, number-one, opened-refused-once, opened-once}
 
@@ -63,11 +64,15 @@ unfolding TextsAs
 texts-once y n q r s t u a b = (number-one q r (a .0 ∙ sym (b .0)), holds-once (y .after) s t u (a .1) (b .1))
 
 pub texts-closed-once : (s : List ℕ) (n : ℕ) (q r : Number) (t u : List ℕ) → ClosedAs s n q t → ClosedAs s n r u
-    → (q ≡ r) × (wholeAt s ≡ false → t ≡ u) × (wholeAt s ≡ true → SameStore (storeSize (closing (heldAt s) 0 .after .opening .numbers)) t u)
+    → (q ≡ r)
+    × (wholeAt s ≡ false → t ≡ u)
+    × (wholeAt s ≡ true → SameStore (storeSize (closing (heldAt s) 0 .after .opening .numbers)) t u)
+    × SameOutside t 0 u
 texts-closed-once s n q r t u a b = (
   number-one q r (a .answer ∙ sym (b .answer)),
   λ e. a .found e ∙ sym (b .found e),
   λ e. holds-once (closing (heldAt s) 0 .after) s t u (a .holds e) (b .holds e),
+  λ i m. b .outside i m ∙ sym (a .outside i m),
 )
 
 -- ---- the lines
