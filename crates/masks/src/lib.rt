@@ -1,6 +1,6 @@
-// Masks in one word: sets of at most 64 taxa, bit i for taxon i. This crate alone knows that a mask is a u64; its callers
-// know only what the contracts say, over masks of any size. Read crate trees, specs/Mask.antt, for what they cite; ones,
-// bitOr and ltb are the library's.
+// Masks in one word: sets of at most 64 taxa, bit i for taxon i. Callers hold masks as u64 too, but what a mask means is
+// said here alone, by contracts over masks of any size. Read crate trees, specs/Mask.antt, for what they cite; ones, bitOr
+// and ltb are the library's.
 ghost use mathlib.Core.Path.{_≡_};
 ghost use Prim.Native.Nat.{_≤_, _<_, _^_};
 ghost use lib.Bits.{bitOr};

@@ -1,12 +1,12 @@
 -- Walks along the chains of a store.
 --
 --   placeIn s m          the place of the mask m
---   met s p              the splits met along the place p, by their numbers
---   ofPlace s p n        the splits below n that have the place p, the highest first
+--   met s p              the splits met along the place p, by their rows
+--   ofPlace s p n        the rows below n whose splits have the place p, the highest first
 --   Falling l            each number is less than the one before
---   lookAt s m e         the split with the mask m that is met first from the entry e: its number, or none
+--   lookAt s m e         the split with the mask m that is met first from the entry e: its row, or none
 --   look s m             the split with the mask m, along its place
--- An entry is a split's number and one more, or 0 at a chain's end. Links fall, so as many steps as the entry's number are enough.
+-- An entry is a row and one more, or 0 at a chain's end. Links fall, so as many steps as the entry is high are enough.
 use Prim.Native.Nat.{ℕ, zero, suc, _<_}
 use mathlib.Core.List.{List, [], _∷_}
 use mathlib.Core.Option.{Option, none, some}
@@ -35,7 +35,7 @@ met s p = metFrom s (startAt s p) (startAt s p)
 
 -- ---- what should be met
 
--- of the splits below n
+-- of the rows below n
 unfoldable pub ofPlace : List ℕ → ℕ → ℕ → List ℕ
 unfolding place firstAt numbersAt maskAt
 ofPlace s p zero = []

@@ -1,11 +1,11 @@
 -- "Every split is met exactly once along its hash place", and what a look along a chain finds. Assumes nothing.
 --
---   highest-none, highest-step, highest-here, highest-lower, highest-most     `highestBelow`, a split at a time
---   highest-same                it depends on the places of the splits below alone
+--   highest-none, highest-step, highest-here, highest-lower, highest-most     `highestBelow`, a row at a time
+--   highest-same                it depends on the places of the rows below alone
 --   place-below                 a place is below the number of places
 --   start-most, link-falls      the entries of the chains
 --   met-all, met-exactly        the splits met along a place are those that have it
---   met-falls                   their numbers fall, so each is met once
+--   met-falls                   their rows fall, so each is met once
 --   look-starts, look-ends, look-step, look-here, look-next     a look, an entry at a time
 --   look-finds                  what a look finds
 --   look-nothing                a look finds nothing exactly when the mask is not recorded

@@ -1,10 +1,10 @@
 -- The recorded splits of a whole store are its masks, and its counts are theirs. Assumes nothing.
 --
 --   held-trees, trees-length, tree-at, trees-mem, mem-trees     the trees that any bytes are read as
---   tree-mem, mem-tree                 the splits of a tree, by their numbers
+--   tree-mem, mem-tree                 the splits of a tree, by their rows
 --   listed-some                        a split that is listed is listed by a tree
 -- of whole bytes:
---   member-at                          a tree has a split exactly when it lists the split's number
+--   member-at                          a tree has a split exactly when it lists the split's row
 --   count-at                           the count of a split is the one that is stored
 --   recorded-at                        the recorded splits are the masks
 --   recorded-length, recorded-mask     "a recorded split's number is its place in the list by rising mask"

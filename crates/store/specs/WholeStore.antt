@@ -4,8 +4,9 @@
 --   goodSplits         "recorded masks are proper for n and all different"; "its identifier right where one is stored"
 --   goodList           "each tree lists recorded splits, rising and agreeing in pairs"
 --   goodCount          "each count is the number of trees listing that split, at least 1"
---   goodChains         "every split is met exactly once along its hash place": a place's chain starts at its highest row, and each
---                      row's link leads to the next lower one of the place
+--   goodChains         "every split is met exactly once along its hash place", and more strictly, in one order: a place's chain starts
+--                      at its highest row, and each row's link leads to the next lower one of the place (ChainLaws: `met-exactly`,
+--                      `met-falls`)
 --   goodLaneAt         "each lane's length is in range"
 --   wholeAt s          the lent bytes s are a whole collection
 use Prim.Native.Nat.{ℕ, zero, suc}

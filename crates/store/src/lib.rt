@@ -1,6 +1,7 @@
-// The collection in lent bytes: what whole tests.
+// Whether lent bytes are a whole collection.
 //
-// Read specs/Store.antt for every byte and specs/WholeStore.antt for what "whole" means of bytes; `wholeAt` is what `is_whole` answers.
+// Read crate layout, specs/Store.antt, for every byte, and specs/WholeStore.antt for what "whole" means of bytes; `wholeAt` is
+// what `is_whole` answers.
 ghost use mathlib.Core.Path.{_≡_};
 ghost use Rattle.store.specs.WholeStore.{wholeAt};
 

@@ -1,8 +1,8 @@
-// The collection in lent bytes: every call on it. Each call does its own checking and asks nothing of
-// what it is given.
+// Calls on a collection in lent bytes: its size, opening it, and the questions on its splits and trees;
+// and the answers of every call. Each call does its own checking and asks nothing of what it is given.
 //
 // Read `specs/Answers.antt` for the answers as document 01 numbers them; what the calls mean is said
-// in crate trees, `specs/Held.antt` and `specs/Questions.antt`, and what lent bytes hold in crate
+// in crate trees, `specs/Opening.antt` and `specs/Questions.antt`, and what lent bytes hold in crate
 // layout, `specs/Store.antt`.
 ghost use mathlib.Core.Path.{_≡_};
 ghost use Rattle.table.specs.Answers.{refusalNumber};
