@@ -4,7 +4,8 @@
 --   branchText ns s m r      their text
 --   childMask i x            the taxa of the child with the smallest taxon i: a leaf, where x is 0, or the node of the mask x
 --   childText ns s i x       its text
---   Ready n ns s m r         the writer can go on: n good names, good splits, and every split below m within the taxa r or away from them
+--   Ready n ns s m r         the writer can go on: n good names, good splits, and the taxa r are of m, and every split below m
+--                            lies within them or away from them
 --   Child n ns s i x         so it can with the child of i and x
 --   Step n ns s m r i x      that child is the first of the branches of m that have the taxa r
 --   Put before at w after e  the bytes w were stored from `at` up to e, as far as there is room
@@ -43,6 +44,7 @@ pub record Ready (n : ℕ) (ns : List (List ℕ)) (s : List ℕ) (m r : ℕ) : T
   pub names : goodNames n ns ≡ true
   pub splits : goodTree n s ≡ true
   pub named : Sub r (everyTaxon n)
+  pub inside : Sub r m
   pub closed : Closed s m r
 
 pub record Child (n : ℕ) (ns : List (List ℕ)) (s : List ℕ) (i x : ℕ) : Type 0 where

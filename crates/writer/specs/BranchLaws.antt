@@ -2,8 +2,9 @@
 --
 --   mask-leaf, mask-inner        the taxa of a leaf and of an inner node
 --   child-ok                     the first child can be written
---   child-less                   its own branches take fewer steps
---   rest-ready, rest-less        the branches behind it can be written, in fewer steps
+--   child-less, child-ones       its own branches take fewer steps, and have fewer ones
+--   rest-ready                   the branches behind it can be written,
+--   rest-less, rest-ones         in fewer steps, with fewer ones
 --   enough                       any number of steps above m + r makes the branches
 --   grown-none, grown-leaf, grown-inner     the branches, one child at a time
 use Prim.Native.Nat.{ℕ, zero, suc, _+_, _-_, _^_, _<_, _≤_}
@@ -15,6 +16,7 @@ use mathlib.Core.Bool.{Bool, true, false}
 use mathlib.Core.List.{List, []}
 use lib.Dec.{eqb}
 use lib.Bits.{bitXor}
+use lib.Count.{ones}
 use lib.ListN.{getD}
 use borrow.Author.Tests.{eqb-true, eqb-false, eq-eqb, ne-eqb}
 use Rattle.trees.specs.Mask.{everyTaxon, without, lowest}
@@ -23,6 +25,7 @@ use Rattle.trees.specs.Written.{widest, branches}
 use Rattle.theorems.specs.ListLaws.{if-true, if-false, Mem}
 use Rattle.theorems.specs.BitLaws.{On, Sub, sub-le, less-sub, less-lt}
 use Rattle.theorems.specs.MaskLaws.{on-below, without-sub}
+use Rattle.theorems.specs.OnesLaws.{ones-part, ones-pos, ones-lt}
 use Rattle.theorems.specs.WidestLaws.{Fit, lowest-on, widest-from, widest-top}
 use Rattle.theorems.specs.BranchLaws.{Closed, on-pos, closed-self, leaf-within, leaf-closed, inner-within, inner-closed}
 use Rattle.theorems.specs.TreeOfLaws.{branchesBy, branches-step}
@@ -93,11 +96,17 @@ module _ {n : ℕ} {ns : List (List ℕ)} {s : List ℕ} {m r i x : ℕ} (k : St
         names = k .ready .names;
         splits = k .ready .splits;
         named = λ j a. k .ready .named j (less-sub r (childMask i x) child-sub j a);
+        inside = λ j a. k .ready .inside j (less-sub r (childMask i x) child-sub j a);
         closed = rest-closed;
       })
 
   pub rest-less : {q : ℕ} → q ≡ without r (childMask i x) → q < r
   rest-less d = rw (d, without-sub r (childMask i x) child-sub) (less-lt r (childMask i x) child-sub child-pos)
+
+  pub rest-ones : {q : ℕ} → q ≡ without r (childMask i x) → ones q < ones r
+  rest-ones d =
+      let c = childMask i x in
+      rw (d, without-sub r c child-sub) (omega (arith, ones-part c r child-sub, ones-pos c child-pos))
 
   child-ready : (x ≡ 0 → ⊥) → Ready n ns s x x
   child-ready z =
@@ -105,11 +114,15 @@ module _ {n : ℕ} {ns : List (List ℕ)} {s : List ℕ} {m r i x : ℕ} (k : St
         names = k .ready .names;
         splits = k .ready .splits;
         named = λ j a. k .ready .named j (inner-sub z j a);
+        inside = λ j a. a;
         closed = closed-self n ns s (k .ready .names) (k .ready .splits) x (fits z .0);
       }
 
   pub child-less : (x ≡ 0 → ⊥) → x + x < m + r
   child-less z = omega (arith, sub-le x r (inner-sub z), fits z .1 .0)
+
+  pub child-ones : (x ≡ 0 → ⊥) → ones x + ones x < ones m + ones r
+  child-ones z = omega (arith, ones-part x r (inner-sub z), ones-lt x m (λ j a. k .ready .inside j (inner-sub z j a)) (fits z .1 .0))
 
   pub child-ok : Child n ns s i x
   unfolding everyTaxon

@@ -63,7 +63,7 @@ module _ (h : List ℕ) (g : goodOpening (openingAt h) ≡ true) where
 
     module _ (a : ℕ) (e : a ≡ everyTaxon (numbersAt h .taxa)) where
       pub root-ready : Ready (numbersAt h .taxa) (namesAt h) s a a
-      root-ready = rw e (record { names = names-good; splits = splits-good; named = λ i o. o; closed = all-closed })
+      root-ready = rw e (record { names = names-good; splits = splits-good; named = λ i o. o; inside = λ i o. o; closed = all-closed })
 
       root-text : written (namesAt h) s ≡ 40 ∷ (branchText (namesAt h) s a a ++ 41 ∷ 59 ∷ [])
       root-text = rw (e, ← names-length h) (written-text (namesAt h) s)

@@ -1,6 +1,6 @@
 -- The laws of the recursion, as the code makes it. Assumes nothing.
 --
---   step-less, step-fewer                the measures of the first child and of the other branches are less
+--   step-less, step-fewer                the ones of the first child and of the other branches are fewer
 --   step-room                            the room of the other branches
 --   step-none, step-last, step-more      what is stored: nothing, one child, a child, a comma and the others
 --   child-leaf-put, child-inner-put      a child: its name, or its branches in brackets
@@ -10,12 +10,14 @@ use native.Mathlib.Omega.{arith}
 use mathlib.Core.Path.{_≡_, refl, ap, _∙_}
 use mathlib.Core.Bool.{Bool, true, false}
 use mathlib.Core.List.{List, [], _∷_}
+use lib.Count.{ones}
 use lib.Dec.{eqb}
 use lib.ListN.{length, getD, set, length-append}
 use borrow.Author.Tests.{eqb-true, eqb-false}
 use Rattle.trees.specs.Mask.{without}
+use Rattle.theorems.specs.OnesLaws.{ones-zero, ones-pos}
 use Rattle.writer.specs.Branch.{branchText, childMask, childText, Step, Put}
-use Rattle.writer.specs.BranchLaws.{positive, child-less, rest-less}
+use Rattle.writer.specs.BranchLaws.{positive, child-ones, rest-ones}
 use Rattle.writer.specs.BranchTextLaws.{child-leaf, child-inner, text-none, text-last, text-more}
 use Rattle.writer.specs.PutLaws.{put-none, put-one, put-then}
 
@@ -25,16 +27,16 @@ pub step-none : (ns : List (List ℕ)) (s : List ℕ) (m r : ℕ) (l : List ℕ)
 step-none ns s m r l at z = rw (text-none ns s m r z) (put-none l at)
 
 module _ {n : ℕ} {ns : List (List ℕ)} {s : List ℕ} {m r i x : ℕ} (k : Step n ns s m r i x) where
-  pub step-less : 2 * (x + x) + 1 < 2 * (m + r)
+  pub step-less : 2 * (ones x + ones x) + 1 < 2 * (ones m + ones r)
   step-less = go (eqb x 0) refl
     where
-      go : (b : Bool) → eqb x 0 ≡ b → 2 * (x + x) + 1 < 2 * (m + r)
-      go true e = omega (arith, eqb-true x 0 e, positive k)
-      go false e = omega (arith, child-less k (eqb-false x 0 e))
+      go : (b : Bool) → eqb x 0 ≡ b → 2 * (ones x + ones x) + 1 < 2 * (ones m + ones r)
+      go true e = omega (arith, ap ones (eqb-true x 0 e) ∙ ones-zero, ones-pos r (positive k))
+      go false e = omega (arith, child-ones k (eqb-false x 0 e))
 
   module _ {q : ℕ} (d : q ≡ without r (childMask i x)) where
-    pub step-fewer : 2 * (m + q) < 2 * (m + r)
-    step-fewer = omega (arith, rest-less k d)
+    pub step-fewer : 2 * (ones m + ones q) < 2 * (ones m + ones r)
+    step-fewer = omega (arith, rest-ones k d)
 
     pub step-room : (q ≡ 0 → ⊥) → length (branchText ns s m r) ≡ length (childText ns s i x) + 1 + length (branchText ns s m q)
     step-room z = ap length (text-more k d z) ∙ omega (arith, length-append (childText ns s i x) (44 ∷ branchText ns s m q))

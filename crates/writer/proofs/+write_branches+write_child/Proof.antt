@@ -1,8 +1,9 @@
--- `writer::write_branches` and `writer::write_child`, which call each other, meet their contracts. The measure of the branches is twice m + r;
--- a child's lies between those of the branches that it is of and of its own. Assumes nothing.
+-- `writer::write_branches` and `writer::write_child`, which call each other, meet their contracts. The measure of the branches is twice the ones of m
+-- and r; a child's lies between those of the branches that it is of and of its own. Assumes nothing.
 use Prim.Native.Nat.{ℕ, _+_, _*_, _<_}
 use mathlib.Core.Path.{ap, _∙_}
 use native.Mathlib.Omega.{arith}
+use lib.Count.{ones}
 use lib.ListN.{take}
 use Rattle.trees.specs.Mask.{without}
 use Rattle.head.specs.Head.{numbersAt, namesAt}
@@ -29,10 +30,10 @@ use Rattle.writer.proofs.+write_branches+write_child.{statement}
 use Rattle.writer.proofs.+write_branches+write_child.Tie.{close}
 
 abbrev μ-write-branches : Measures 3 write-branches-kinds.ps ℕ
-μ-write-branches κs a = 2 * (a .1 .1 .1 .0 + a .1 .1 .1 .1 .0)
+μ-write-branches κs a = 2 * (ones (a .1 .1 .1 .0) + ones (a .1 .1 .1 .1 .0))
 
 abbrev μ-write-child : Measures 3 write-child-kinds.ps ℕ
-μ-write-child κs a = 2 * (a .1 .1 .1 .1 .0 + a .1 .1 .1 .1 .0) + 1
+μ-write-child κs a = 2 * (ones (a .1 .1 .1 .1 .0) + ones (a .1 .1 .1 .1 .0)) + 1
 
 abbrev write-branches-at : ℕ → In 3 write-branches-kinds.ps
 write-branches-at t =
