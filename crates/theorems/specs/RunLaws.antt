@@ -19,7 +19,7 @@ use borrow.Author.Tests.{ltb-false}
 use Rattle.trees.specs.Plain.{if_then_else_, member, Answer, refused, gives}
 use Rattle.trees.specs.Opening.{Numbers, Opening, opening}
 use Rattle.trees.specs.Held.{Held, Lane, holding, opened, laneOf, longer, verdict, Progress, moreWanted, accepted, beforeSemicolon, Fed, finished, finishing, feeding, closing}
-use Rattle.trees.specs.Whole.{whole}
+use Rattle.theorems.specs.WholeHeld.{whole}
 use Rattle.theorems.specs.HeldLaws.{opened-whole, feeding-whole, closing-whole}
 use Rattle.theorems.specs.WrittenFedLaws.{feedingBy, feeding-by}
 use Rattle.theorems.specs.OwnLaneLaws.{laneAfter, lanesAfter, feeding-opening, feeding-texts, closing-opening, closing-texts}

@@ -13,16 +13,15 @@ use mathlib.Core.List.{List, [], _∷_, _++_, map}
 use mathlib.Core.Option.{Option, none, some}
 use mathlib.Core.Path.{_≡_, refl}
 use lib.ListN.{length, replicate}
-use Rattle.trees.specs.Plain.{Answer, refused, gives}
+use Rattle.trees.specs.Plain.{bytes, Answer, refused, gives}
 use Rattle.trees.specs.Length.{isLength}
 use Rattle.trees.specs.Tree.{Nodes}
 use Rattle.trees.specs.Reading.{reading}
-use Rattle.trees.specs.Opening.{Numbers, Opening, opening, sizing}
-use Rattle.trees.specs.Held.{Held, Lane, moreWanted, accepted, opened}
+use Rattle.trees.specs.Opening.{Numbers, opening}
+use Rattle.trees.specs.Held.{Held, moreWanted, accepted, opened}
 use Rattle.trees.specs.Questions.{splitList, splitNumber, treeNumber, doubledOf, matrixOf, collisionsOf, strictOf, majorityOf, writtenOf}
-use Rattle.trees.specs.Whole.{whole}
-use Rattle.trees.specs.Runs.{Call, feed, close, Heard, fed, closed, answers}
-use Rattle.trees.specs.Samples.{bytes, over, collection, Sample, said, has, is, agrees, the-splits, the-verdict, the-agreement}
+use Rattle.trees.specs.Runs.{Call, feed, close, Heard, fed, closedLane, answers}
+use Rattle.trees.specs.Samples.{collection, Sample, said, has-splits, is, agrees, the-splits, the-verdict, the-agreement}
 use Rattle.trees.specs.Names.{namesIn}
 
 abbrev AtoE : String
@@ -30,7 +29,7 @@ AtoE = "A B C D E"
 
 unfoldable pub texts : List Sample
 texts =
-    record { name = "blanks, lengths and inner labels"; asked = the-splits AtoE " ( (A:-1.5e+3 ,B:.5)x:1. , C , \t (D,E)\n:7)y:1e0 ;"; says = has (24 ∷ 28 ∷ []) }
+    record { name = "blanks, lengths and inner labels"; asked = the-splits AtoE " ( (A:-1.5e+3 ,B:.5)x:1. , C , \t (D,E)\n:7)y:1e0 ;"; says = has-splits (24 ∷ 28 ∷ []) }
     ∷ record { name = "an unknown leaf before one that came before"; asked = the-verdict AtoE "(F,A,A,C,D);"; says = is 8 }
     ∷ record { name = "nothing"; asked = the-verdict AtoE " ;"; says = is 7 }
     ∷ record { name = "a leaf alone"; asked = the-verdict AtoE "A;"; says = is 10 }
@@ -144,9 +143,9 @@ calls =
     ∷ (feed 1 (bytes "(A,B,C,D,E);"), fed 12 (gives (accepted 1)))
     ∷ (feed 0 (bytes "((A,B),D,(C,E));"), fed 16 (refused 11))
     ∷ (feed 0 (bytes " x"), fed 2 (gives moreWanted))
-    ∷ (close 0, closed (refused 7))
-    ∷ (close 0, closed (gives tt))
-    ∷ (close 2, closed (refused 5))
+    ∷ (close 0, closedLane (refused 7))
+    ∷ (close 0, closedLane (gives tt))
+    ∷ (close 2, closedLane (refused 5))
     ∷ []
 
 pub calls-hold : answers shop (map (λ c. c .0) calls) ≡ map (λ c. c .1) calls
@@ -174,6 +173,5 @@ pub questions-hold :
     × (strictOf three 16 ≡ gives (bytes "(A,B,(C,D,E));"))
     × (strictOf (collection AtoE []) 99 ≡ refused 14)
     × (writtenOf three 1 99 ≡ gives (bytes "(A,B,((C,E),D));"))
-    × (whole three ≡ true)
-unfolding collection splitList splitNumber treeNumber doubledOf matrixOf collisionsOf majorityOf strictOf writtenOf whole bytes
-questions-hold = (refl, refl, refl, refl, refl, refl, refl, refl, refl, refl, refl, refl, refl, refl, refl, refl)
+unfolding collection splitList splitNumber treeNumber doubledOf matrixOf collisionsOf majorityOf strictOf writtenOf bytes
+questions-hold = (refl, refl, refl, refl, refl, refl, refl, refl, refl, refl, refl, refl, refl, refl, refl)

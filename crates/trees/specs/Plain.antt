@@ -6,8 +6,12 @@
 --   member m xs           the number m is in the list xs
 --   sameBytes v w         two runs of bytes are equal, byte by byte
 --   inNames w ws          the run of bytes w is in the list ws
+--   bytes t, byte t       the bytes of a quoted text; the byte of a quoted character
 --   Answer A              a call's answer: refused with a number of the table, or what it gives
 use Prim.Native.Nat.{ℕ}
+use Prim.Native.String.{String}
+use Prim.Native.String as text
+use Prim.Native.Char.{code}
 use mathlib.Core.Bool.{Bool, true, false, _&&_, _||_}
 use mathlib.Core.List.{List, [], _∷_}
 use lib.Dec.{eqb}
@@ -39,6 +43,15 @@ unfoldable pub inNames : List ℕ → List (List ℕ) → Bool
 unfolding sameBytes
 inNames w [] = false
 inNames w (v ∷ vs) = sameBytes v w || inNames w vs
+
+-- texts of ASCII characters, each of which is one byte
+unfoldable pub bytes : String → List ℕ
+bytes text.[] = []
+bytes (text._∷_ c s) = code c ∷ bytes s
+
+abbrev pub byte : String → ℕ
+byte text.[] = 0
+byte (text._∷_ c s) = code c
 
 -- "A refusal answers its number"
 pub data Answer (A : Type 0) : Type 0 where
