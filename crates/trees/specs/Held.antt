@@ -8,11 +8,10 @@
 --   feeding h l p       feeding the piece p to lane l
 --   closing h l         closing lane l
 use Prim.Native.Nat.{ℕ, suc, _+_}
-use mathlib.Core.Bool.{not}
 use mathlib.Core.List.{List, [], _∷_, _++_}
 use lib.Dec.{ltb, eqb}
 use lib.ListN.{length, getD, set, replicate}
-use Rattle.trees.specs.Plain.{if_then_else_, every, keep, member, Answer, refused, gives}
+use Rattle.trees.specs.Plain.{if_then_else_, every, member, lacking, Answer, refused, gives}
 use Rattle.trees.specs.Text.{semicolon, isBlank}
 use Rattle.trees.specs.Verdict.{judged}
 use Rattle.trees.specs.Consensus.{recorded}
@@ -52,8 +51,8 @@ longer (holding s) p = if ltb mostText (length (s ++ p)) then overrun else holdi
 
 -- the splits of a tree that no accepted tree has
 unfoldable pub newSplits : Held → List ℕ → List ℕ
-unfolding keep recorded member
-newSplits h t = keep (λ m. not (member m (recorded (h .trees)))) t
+unfolding lacking recorded
+newSplits h t = lacking t (recorded (h .trees))
 
 -- "accepted trees equal the tree room"; "recorded splits and this tree's new ones together exceed the split room"
 unfoldable pub roomFor : Held → List ℕ → Answer (List ℕ)

@@ -2,8 +2,9 @@
 --
 --   if b then x else y    x where the test b passes, y where it fails
 --   every p xs            every member of xs passes the test p
---   keep p xs             the members of xs that pass, in their order
+--   keep p xs             the members of xs that pass, in their order; how many pass is its length
 --   member m xs           the number m is in the list xs
+--   lacking a b           the members of a that b lacks, in their order
 --   sameBytes v w         two runs of bytes are equal, byte by byte
 --   inNames w ws          the run of bytes w is in the list ws
 --   bytes t, byte t       the bytes of a quoted text; the byte of a quoted character
@@ -12,7 +13,7 @@ use Prim.Native.Nat.{ℕ}
 use Prim.Native.String.{String}
 use Prim.Native.String as text
 use Prim.Native.Char.{code}
-use mathlib.Core.Bool.{Bool, true, false, _&&_, _||_}
+use mathlib.Core.Bool.{Bool, true, false, _&&_, _||_, not}
 use mathlib.Core.List.{List, [], _∷_}
 use lib.Dec.{eqb}
 
@@ -32,6 +33,10 @@ keep p (x ∷ xs) = if p x then x ∷ keep p xs else keep p xs
 unfoldable pub member : ℕ → List ℕ → Bool
 member m [] = false
 member m (x ∷ xs) = eqb m x || member m xs
+
+unfoldable pub lacking : List ℕ → List ℕ → List ℕ
+unfolding keep member
+lacking a b = keep (λ m. not (member m b)) a
 
 unfoldable pub sameBytes : List ℕ → List ℕ → Bool
 sameBytes [] [] = true
