@@ -33,7 +33,7 @@ oneSided-most a b = keep-most (λ m. not (member m b)) a
 pub oneSided-map : (f : ℕ → ℕ) (a b : List ℕ) → ((k : ℕ) → Mem k a → member (f k) (map f b) ≡ member k b) → oneSided (map f a) (map f b) ≡ oneSided a b
 oneSided-map f [] b h = oneSided-nil (map f b) ∙ sym (oneSided-nil b)
 oneSided-map f (k ∷ a) b h =
-    oneSided-step (f k) (map f a) (map f b) ∙ rw (h k (inl refl), oneSided-map f a b (λ x m. h x (inr m))) ∙ sym (oneSided-step k a b)
+    oneSided-step (f k) (map f a) (map f b) ∙ rw (h k (inl refl), oneSided-map f a b (λ x m. h x (inr m))) (sym (oneSided-step k a b))
 
 -- ---- one member more
 
@@ -45,7 +45,7 @@ module _ (m : ℕ) (b : List ℕ) where
   oneSided-skip : (a : List ℕ) → (Mem m a → ⊥) → oneSided a (m ∷ b) ≡ oneSided a b
   oneSided-skip [] n = oneSided-nil (m ∷ b) ∙ sym (oneSided-nil b)
   oneSided-skip (y ∷ a) n =
-      oneSided-step y a (m ∷ b) ∙ rw (member-other y (λ e. n (inl (sym e))), oneSided-skip a (λ h. n (inr h))) ∙ sym (oneSided-step y a b)
+      oneSided-step y a (m ∷ b) ∙ rw (member-other y (λ e. n (inl (sym e))), oneSided-skip a (λ h. n (inr h))) (sym (oneSided-step y a b))
 
   oneSided-once : (a : List ℕ) → Rising a → Mem m a → member m b ≡ false → oneSided a b ≡ suc (oneSided a (m ∷ b))
   oneSided-once [] r h f = absurd h

@@ -93,8 +93,7 @@ module _ (s : List ℕ) (whole : wholeAt s ≡ true) where
   listed-count k a (suc t) h =
       ap (λ (ts : List (List ℕ)). count ts (maskAt s k)) (upTo-more (treeAt s) t)
       ∙ count-append (upTo (treeAt s) t) (treeAt s t) (maskAt s k)
-      ∙ rw (member-at k t a h, listed-count k a t (omega arith))
-      ∙ sym (listed-next s k t)
+      ∙ rw (member-at k t a h, listed-count k a t (omega arith)) (sym (listed-next s k t))
 
   pub count-at : (k : ℕ) → k < splitsHeldAt s → count (heldAt s .trees) (maskAt s k) ≡ countAt s k
   unfolding heldAt
