@@ -1,9 +1,8 @@
 -- Laws of the splits that enough of the trees have. Assumes nothing.
 --
---   count-most                       a count is at most the number of trees
 --   keep-same                        tests that are equal everywhere keep the same
 --   chosen-strict, chosen-majority   those in all trees are the strict splits; those in half of them and one more, the majority splits
-use Prim.Native.Nat.{ℕ, suc, _+_, _*_, _/_, _≤_}
+use Prim.Native.Nat.{ℕ, _+_, _*_, _/_}
 use native.Mathlib.Omega.{arith}
 use mathlib.Core.Path.{_≡_, refl}
 use mathlib.Core.Bool.{Bool}
@@ -11,18 +10,11 @@ use mathlib.Core.List.{List, [], _∷_}
 use lib.Dec.{leb, ltb, eqb}
 use lib.ListN.{length}
 use borrow.Author.Tests.{leb-true, le-leb, ltb-true, lt-ltb, eqb-true, eq-eqb}
-use Rattle.trees.specs.Plain.{keep, member}
+use Rattle.trees.specs.Plain.{keep}
 use Rattle.trees.specs.Consensus.{recorded, count, isStrict, isMajority, strict, majority}
-use Rattle.theorems.specs.ListLaws.{by-test}
+use Rattle.theorems.specs.ConsensusLaws.{count-most}
 use Rattle.store.specs.UpToLaws.{bool-same}
 use Rattle.consensus.specs.Chosen.{inEnough, chosen}
-
-pub count-most : (ts : List (List ℕ)) (m : ℕ) → count ts m ≤ length ts
-unfolding count
-count-most [] m = omega arith
-count-most (t ∷ ts) m =
-    let h = count-most ts m in
-    by-test (λ (c : ℕ). c ≤ suc (length ts)) (member m t) (λ e. omega arith) (λ e. omega arith)
 
 pub keep-same : (p q : ℕ → Bool) (l : List ℕ) → ((m : ℕ) → p m ≡ q m) → keep p l ≡ keep q l
 unfolding keep

@@ -10,35 +10,30 @@ use Prim.Native.Nat.{ℕ, suc, _+_, _≤_}
 use native.Mathlib.Omega.{arith}
 use mathlib.Core.Path.{_≡_, refl, ap, sym, _∙_}
 use mathlib.Core.Logic.{inl, inr}
-use mathlib.Core.Bool.{Bool, true, false}
+use mathlib.Core.Bool.{Bool, true, false, not}
 use mathlib.Core.List.{List, [], _∷_, map}
 use lib.Dec.{eqb}
 use lib.ListN.{length}
 use borrow.Author.Tests.{eqb-true, eqb-false, ne-eqb}
-use Rattle.trees.specs.Plain.{if_then_else_, member}
+use Rattle.trees.specs.Plain.{member}
 use Rattle.trees.specs.Distance.{oneSided}
-use Rattle.theorems.specs.ListLaws.{Mem, member-mem, mem-member, member-not, not-member}
+use Rattle.theorems.specs.ListLaws.{Mem, member-mem, mem-member, member-not, not-member, keep-most}
 use Rattle.theorems.specs.RisingLaws.{Rising}
-use Rattle.theorems.specs.DistanceLaws.{oneSided-has, oneSided-lacks}
+use Rattle.theorems.specs.DistanceLaws.{oneSided-nil, oneSided-step, oneSided-has, oneSided-lacks}
 
 oneSided-none : (a : List ℕ) → oneSided a [] ≡ length a
-unfolding oneSided member
-oneSided-none [] = refl
-oneSided-none (m ∷ a) = ap suc (oneSided-none a)
+unfolding member
+oneSided-none [] = oneSided-nil []
+oneSided-none (m ∷ a) = oneSided-lacks m a [] refl ∙ ap suc (oneSided-none a)
 
 pub oneSided-most : (a b : List ℕ) → oneSided a b ≤ length a
 unfolding oneSided
-oneSided-most [] b = omega arith
-oneSided-most (m ∷ a) b = go (member m b) (oneSided-most a b)
-  where
-    go : (t : Bool) → oneSided a b ≤ length a → (if t then oneSided a b else suc (oneSided a b)) ≤ suc (length a)
-    go true h = omega arith
-    go false h = omega arith
+oneSided-most a b = keep-most (λ m. not (member m b)) a
 
 pub oneSided-map : (f : ℕ → ℕ) (a b : List ℕ) → ((k : ℕ) → Mem k a → member (f k) (map f b) ≡ member k b) → oneSided (map f a) (map f b) ≡ oneSided a b
-unfolding oneSided
-oneSided-map f [] b h = refl
-oneSided-map f (k ∷ a) b h = rw (h k (inl refl), oneSided-map f a b (λ x m. h x (inr m)))
+oneSided-map f [] b h = oneSided-nil (map f b) ∙ sym (oneSided-nil b)
+oneSided-map f (k ∷ a) b h =
+    oneSided-step (f k) (map f a) (map f b) ∙ rw (h k (inl refl), oneSided-map f a b (λ x m. h x (inr m))) (sym (oneSided-step k a b))
 
 -- ---- one member more
 
@@ -48,9 +43,9 @@ module _ (m : ℕ) (b : List ℕ) where
   member-other y n = rw (ne-eqb y m n)
 
   oneSided-skip : (a : List ℕ) → (Mem m a → ⊥) → oneSided a (m ∷ b) ≡ oneSided a b
-  unfolding oneSided
-  oneSided-skip [] n = refl
-  oneSided-skip (y ∷ a) n = rw (member-other y (λ e. n (inl (sym e))), oneSided-skip a (λ h. n (inr h)))
+  oneSided-skip [] n = oneSided-nil (m ∷ b) ∙ sym (oneSided-nil b)
+  oneSided-skip (y ∷ a) n =
+      oneSided-step y a (m ∷ b) ∙ rw (member-other y (λ e. n (inl (sym e))), oneSided-skip a (λ h. n (inr h))) (sym (oneSided-step y a b))
 
   oneSided-once : (a : List ℕ) → Rising a → Mem m a → member m b ≡ false → oneSided a b ≡ suc (oneSided a (m ∷ b))
   oneSided-once [] r h f = absurd h
@@ -73,8 +68,7 @@ module _ (m : ℕ) (b : List ℕ) where
 -- ---- both ways
 
 pub oneSided-balance : (a b : List ℕ) → Rising a → Rising b → length a + oneSided b a ≡ length b + oneSided a b
-unfolding oneSided
-oneSided-balance [] b p q = omega (arith, oneSided-none b)
+oneSided-balance [] b p q = omega (arith, oneSided-none b, oneSided-nil b)
 oneSided-balance (m ∷ a) b p q = go (member m b) refl (oneSided-balance a b (p .1) q)
   where
     again : member m a ≡ false

@@ -22,7 +22,7 @@ use borrow.Author.Tests.{eqb-true, eqb-false, ne-eqb}
 use Rattle.trees.specs.Plain.{if_then_else_, member}
 use Rattle.trees.specs.Distance.{oneSided}
 use Rattle.theorems.specs.ListLaws.{Mem}
-use Rattle.theorems.specs.DistanceLaws.{oneSided-has, oneSided-lacks}
+use Rattle.theorems.specs.DistanceLaws.{oneSided-nil, oneSided-has, oneSided-lacks}
 use Rattle.distances.specs.Marks.{marked, noMarks, marksOf, markSum}
 
 -- ---- the marks after a list's rows are marked
@@ -96,8 +96,8 @@ unfolding markSum
 sum-end m l j h = rw (drop-of-length-le l h)
 
 pub sum-lacks : (a b : List ℕ) → ((k : ℕ) → Mem k a → k < 4096) → markSum (marksOf b) a ≡ oneSided a b
-unfolding markSum oneSided
-sum-lacks [] b f = refl
+unfolding markSum
+sum-lacks [] b f = sym (oneSided-nil b)
 sum-lacks (k ∷ a) b f = go (member k b) refl (sum-lacks a b (λ x h. f x (inr h)))
   where
     mark : (t : Bool) → member k b ≡ t → getD (marksOf b) k 0 ≡ (if t then 0 else 1)

@@ -23,6 +23,7 @@ use lib.Count.{ones, trailingZeros}
 use lib.Dec.{ltb, eqb}
 use borrow.Author.Tests.{eq-eqb, ne-eqb, lt-ltb, le-ltb, le-leb, lt-leb}
 use Rattle.trees.specs.Mask.{without, apart, within, agree, proper, lowestFrom, lowest}
+use Rattle.theorems.specs.ProperLaws.{proper-ones}
 
 -- ---- cases
 
@@ -81,31 +82,27 @@ and-not k a b ha hb = omega (arith, and-not-and k a b ha hb)
 
 module _ (n m : ℕ) where
   pub proper-odd : (m % 2 ≡ 0 → ⊥) → proper n m ≡ false
-  unfolding proper
-  proper-odd h = simp (ne-eqb _ _ h)
+  proper-odd h = proper-ones n m ∙ simp (ne-eqb _ _ h)
 
   pub proper-few-ones : ones m < 2 → proper n m ≡ false
-  unfolding proper
-  proper-few-ones h = rw (lt-leb 2 (ones m) h) (and-false (eqb (m % 2) 0))
+  proper-few-ones h = proper-ones n m ∙ rw (lt-leb 2 (ones m) h) (and-false (eqb (m % 2) 0))
 
   few-or-more : (ones m < 2) ⊎ (2 ≤ ones m)
   few-or-more = lt-or-ge (ones m) 2
 
   two-and-too-many : 2 ≤ ones m → n < ones m + 2 → proper n m ≡ false
-  unfolding proper
   two-and-too-many h l =
       let l′ : n - 2 < ones m = omega arith in
-      rw (le-leb 2 (ones m) h, lt-leb (ones m) (n - 2) l′) (and-false (eqb (m % 2) 0))
+      proper-ones n m ∙ rw (le-leb 2 (ones m) h, lt-leb (ones m) (n - 2) l′) (and-false (eqb (m % 2) 0))
 
   pub proper-many-ones : n < ones m + 2 → proper n m ≡ false
   proper-many-ones l = ⊎-elim (λ h. proper-few-ones h) (λ h. two-and-too-many h l) few-or-more
 
   module _ (e : m % 2 ≡ 0) (h : 2 ≤ ones m) (l : ones m + 2 ≤ n) where
     proper-rest : proper n m ≡ ltb m (2 ^ n)
-    unfolding proper
     proper-rest =
         let l′ : ones m ≤ n - 2 = omega arith in
-        simp (eq-eqb _ _ e, le-leb _ _ h, le-leb _ _ l′)
+        proper-ones n m ∙ simp (eq-eqb _ _ e, le-leb _ _ h, le-leb _ _ l′)
 
     pub proper-narrow : proper n m ≡ eqb (m / 2 ^ n) 0
     proper-narrow = proper-rest ∙ sym (shift-none m n)

@@ -12,7 +12,7 @@ use lib.ListN.{take, drop}
 use Rattle.trees.specs.Plain.{gives}
 use Rattle.trees.specs.Held.{Held, feeding}
 use Rattle.trees.specs.Batch.{verdictNumber, withVerdict, batching}
-use Rattle.trees.specs.Runs.{Call, feed, Heard, fed, closed, answer, next, answers, ending}
+use Rattle.trees.specs.Runs.{Call, feed, Heard, fed, closedLane, answer, next, answers, ending}
 use Rattle.layout.specs.Store.{heldAt}
 use Rattle.store.specs.WholeStore.{wholeAt}
 use Rattle.table.specs.declared.Number.{Number}
@@ -25,7 +25,7 @@ feedings (suc n) h l p = feed l p ∷ feedings n (feeding h l p .after) l (drop 
 unfoldable pub heardNumber : Heard → ℕ
 unfolding verdictNumber
 heardNumber (fed n a) = verdictNumber a
-heardNumber (closed a) = 0
+heardNumber (closedLane a) = 0
 
 pub batching-ends : (n : ℕ) (h : Held) (l : ℕ) (p : List ℕ) → batching n h l p .after ≡ ending h (feedings n h l p)
 unfolding batching withVerdict feedings ending next

@@ -14,7 +14,7 @@ use lib.Dec.{ltb, eqb}
 use lib.ListN.{length, getD, length-append, length-map}
 use borrow.Author.Tests.{ltb-false}
 use Rattle.trees.specs.Plain.{if_then_else_}
-use Rattle.trees.specs.Samples.{bytes}
+use Rattle.trees.specs.Plain.{bytes}
 use Rattle.trees.specs.Mask.{everyTaxon, proper}
 use Rattle.trees.specs.Names.{goodNames}
 use Rattle.trees.specs.Distance.{doubled}
@@ -28,7 +28,7 @@ use Rattle.theorems.specs.BitLaws.{sub-le}
 use Rattle.theorems.specs.ProperLaws.{proper-sub}
 use Rattle.theorems.specs.RisingLaws.{recorded-mem}
 use Rattle.theorems.specs.WrittenLaws.{written-length}
-use Rattle.theorems.specs.ConsensusLaws.{good-proper, strict-good, majority-good}
+use Rattle.theorems.specs.ConsensusLaws.{count-most, good-proper, strict-good, majority-good}
 use Rattle.head.specs.Head.{numbersAt, namesAt, openingAt}
 use Rattle.layout.specs.Store.{heldAt}
 use Rattle.store.specs.WholeStore.{wholeAt}
@@ -37,7 +37,6 @@ use Rattle.store.specs.RecordedAtLaws.{trees-length, recorded-length}
 use Rattle.store.specs.HeldWholeLaws.{held-numbers, opening-facts}
 use Rattle.distances.specs.LackLaws.{oneSided-most}
 use Rattle.distances.specs.WholeTreeLaws.{trees-few}
-use Rattle.consensus.specs.ChosenLaws.{count-most}
 use Rattle.consensus.specs.FewLaws.{tree-few, trees-good}
 use Rattle.sheet.specs.Sheet.{digitsFrom, digitsOf, spaced, fields, lineOf, countsLine, splitLine, rowLine, treeLine, majorityLine, strictLine, sheetLines}
 

@@ -12,7 +12,7 @@ use Rattle.trees.specs.Plain.{gives}
 use Rattle.trees.specs.Opening.{Opening}
 use Rattle.trees.specs.Held.{Held, opened, feeding, closing}
 use Rattle.trees.specs.Held as held
-use Rattle.trees.specs.Runs.{Call, feed, close, Heard, fed, closed, answer, next, answers, ending, verdicts, wholeTexts}
+use Rattle.trees.specs.Runs.{Call, feed, close, Heard, fed, closedLane, answer, next, answers, ending, finals, wholeTexts}
 use Rattle.theorems.specs.LaneLaws.{lanes-make-no-difference}
 use Rattle.theorems.specs.WrittenFedLaws.{feeding-by}
 use Rattle.layout.specs.Store.{heldAt}
@@ -57,7 +57,7 @@ module _ (s : List ℕ) (w : wholeAt s ≡ true) where
       go : (b : Bool) → reached s l ≡ b → (wholeAt t ≡ true) × (heldAt t ≡ feeding (heldAt s) l p .after)
       go true e = (f .holds e .whole, f .holds e .held ∙ rw (fed-whole s w l p) refl)
       go false e = (rw (f .found e) w, ap heldAt (f .found e) ∙ sym (fed-nowhere s w l p e))
-  step-follows (close l) a t q = (go (reached s l) refl .0, go (reached s l) refl .1, q .2 ∙ ap closed (f .answer ∙ rw (closed-whole s w l) refl))
+  step-follows (close l) a t q = (go (reached s l) refl .0, go (reached s l) refl .1, q .2 ∙ ap closedLane (f .answer ∙ rw (closed-whole s w l) refl))
     where
       f : ClosedAs s l (q .0) t
       f = q .1
@@ -92,9 +92,9 @@ module _ (o : Opening) (r : Finish) (before s : List ℕ) (q : OpenedAs (gives o
   opening-follows = rw (opened-here .1) at (steps-follow cs s heard t (opened-here .0) run)
 
   -- "Every verdict .. is the one that whole texts give when handed in one after another"
-  pub same-verdicts : (verdicts heard ≡ verdicts (answers (opened o) (wholeTexts (o .numbers .lanes) cs)))
+  pub same-verdicts : (finals heard ≡ finals (answers (opened o) (wholeTexts (o .numbers .lanes) cs)))
       × (heldAt t .trees ≡ ending (opened o) (wholeTexts (o .numbers .lanes) cs) .trees)
   same-verdicts =
       let d = lanes-make-no-difference o cs in
       let f = opening-follows in
-      (ap verdicts (f .2) ∙ d .0, ap (λ (h : Held). h .trees) (f .1) ∙ d .1)
+      (ap finals (f .2) ∙ d .0, ap (λ (h : Held). h .trees) (f .1) ∙ d .1)

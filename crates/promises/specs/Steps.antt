@@ -5,7 +5,7 @@
 use Prim.Native.Nat.{ℕ}
 use mathlib.Core.Path.{_≡_}
 use mathlib.Core.List.{List, [], _∷_}
-use Rattle.trees.specs.Runs.{Call, feed, close, Heard, fed, closed}
+use Rattle.trees.specs.Runs.{Call, feed, close, Heard, fed, closedLane}
 use Rattle.table.specs.Answers.{finishGiven, progressGiven}
 use Rattle.table.specs.declared.Fed.{Fed}
 use Rattle.table.specs.declared.Finish.{Finish}
@@ -14,7 +14,7 @@ use Rattle.feeding.specs.Feeding.{FedAs, ClosedAs}
 unfoldable pub Step : List ℕ → Call → Heard → List ℕ → Type 0
 unfolding progressGiven finishGiven
 Step s (feed l p) a t = (r : Fed) × FedAs s l p r t × (a ≡ fed (r .taken) (progressGiven (r .progress)))
-Step s (close l) a t = (r : Finish) × ClosedAs s l r t × (a ≡ closed (finishGiven r))
+Step s (close l) a t = (r : Finish) × ClosedAs s l r t × (a ≡ closedLane (finishGiven r))
 
 unfoldable pub Steps : List ℕ → List Call → List Heard → List ℕ → Type 0
 unfolding Step

@@ -5,7 +5,7 @@
 use Prim.Native.Nat.{ℕ, _≤_}
 use mathlib.Core.List.{List}
 use lib.ListN.{length, take}
-use Rattle.trees.specs.Samples.{bytes}
+use Rattle.trees.specs.Plain.{bytes}
 use Rattle.table.specs.declared.Number.{Number}
 use Rattle.table.specs.declared.Number.the-variants as number
 

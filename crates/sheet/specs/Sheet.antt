@@ -14,7 +14,7 @@ use mathlib.Core.List.{List, [], _∷_, _++_, map}
 use lib.Dec.{ltb, eqb}
 use lib.ListN.{length}
 use Rattle.trees.specs.Plain.{if_then_else_}
-use Rattle.trees.specs.Samples.{bytes}
+use Rattle.trees.specs.Plain.{bytes}
 use Rattle.trees.specs.Distance.{doubled}
 use Rattle.trees.specs.Consensus.{recorded, count, strict, majority}
 use Rattle.trees.specs.Written.{written}

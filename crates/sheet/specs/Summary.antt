@@ -16,7 +16,7 @@ use mathlib.Core.List.{List, [], _∷_, flatMap}
 use lib.Dec.{ltb, eqb}
 use lib.ListN.{length}
 use Rattle.trees.specs.Plain.{if_then_else_, keep, Answer, refused, gives}
-use Rattle.trees.specs.Samples.{bytes}
+use Rattle.trees.specs.Plain.{bytes}
 use Rattle.trees.specs.Opening.{Numbers, Opening, opening}
 use Rattle.trees.specs.Held.{opened, closing}
 use Rattle.trees.specs.Batch.{semicolons, Batched, batching}

@@ -21,22 +21,24 @@ use lib.ListN.{length, getD, set, take, replicate, length-set, length-replicate}
 use lib.Seq.{take-suc, take-all, getD-set-same, getD-set-other}
 use borrow.Author.Tests.{eq-eqb, ne-eqb, le-leb}
 use Rattle.trees.specs.Plain.{if_then_else_, member}
+use Rattle.trees.specs.Consensus.{count}
 use Rattle.theorems.specs.ListLaws.{Mem, member-not}
 use Rattle.theorems.specs.RisingLaws.{Rising}
 use Rattle.fields.specs.Field.{number}
+use Rattle.head.specs.HeadLaws.{upTo-same}
 use Rattle.layout.specs.Store.{treesHeldAt, splitsHeldAt, countsFrom, maskAt, countAt, listAt, treeAt}
 use Rattle.layout.specs.StoreLaws.{tree-is}
 use Rattle.store.specs.WholeStore.{listed, goodCount}
 use Rattle.store.specs.ListTests.{oneIf, CountedPart, Counted}
 use Rattle.store.specs.ListTestLaws.{mem-getD}
 use Rattle.store.specs.ChainTests.{equal-or-not}
-use Rattle.store.specs.UpToLaws.{mem-map}
+use Rattle.store.specs.UpToLaws.{mem-map, listed-nil, listed-next}
 
 -- ---- one tree more
 
 pub listed-step : (s : List ℕ) (k t : ℕ) → listed s k (suc t) ≡ listed s k t + oneIf (member k (listAt s t))
-unfolding listed oneIf
-listed-step s k t = go (member k (listAt s t))
+unfolding oneIf
+listed-step s k t = listed-next s k t ∙ go (member k (listAt s t))
   where
     go : (b : Bool) → (if b then suc (listed s k t) else listed s k t) ≡ listed s k t + (if b then 1 else 0)
     go true = omega arith
@@ -48,14 +50,12 @@ one-most true = omega arith
 one-most false = omega arith
 
 pub listed-most : (s : List ℕ) (k t : ℕ) → listed s k t ≤ t
-unfolding listed
-listed-most s k zero = omega arith
+listed-most s k zero = omega (arith, listed-nil s k)
 listed-most s k (suc t) = omega (arith, listed-step s k t, one-most (member k (listAt s t)), listed-most s k t)
 
 pub listed-same : (s t : List ℕ) (k n : ℕ) → ((i : ℕ) → i < n → listAt s i ≡ listAt t i) → listed s k n ≡ listed t k n
 unfolding listed
-listed-same s t k zero h = refl
-listed-same s t k (suc n) h = rw (h n (omega arith), listed-same s t k n (λ i l. h i (omega arith)))
+listed-same s t k n h = ap (λ (ls : List (List ℕ)). count ls k) (upTo-same (listAt s) (listAt t) n h)
 
 -- ---- the first numbers of a list
 
@@ -122,8 +122,7 @@ module _ (s : List ℕ) (t : ℕ) where
 
 -- no tree is counted yet
 pub counted-none : (s : List ℕ) → Counted s 0 (replicate 4096 0)
-unfolding listed
-counted-none s = record { size = length-replicate {A = ℕ} 4096 0; entries = λ k h. zeros 4096 k }
+counted-none s = record { size = length-replicate {A = ℕ} 4096 0; entries = λ k h. zeros 4096 k ∙ sym (listed-nil s k) }
   where
     zeros : (n k : ℕ) → _≡_ {A = ℕ} (getD (replicate n 0) k 0) 0
     zeros zero k = refl

@@ -17,10 +17,11 @@ use borrow.Author.Tests.{le-leb, eqb-false}
 use Rattle.trees.specs.Plain.{every}
 use Rattle.trees.specs.Mask.{proper}
 use Rattle.trees.specs.Held.{Lane, mostText}
-use Rattle.trees.specs.Whole.{goodTree, goodLane, whole}
+use Rattle.trees.specs.Whole.{goodTree, goodLane}
 use Rattle.theorems.specs.ListLaws.{by-test, and-true, Mem, every-intro}
 use Rattle.theorems.specs.RisingLaws.{Rising, rising-true}
 use Rattle.theorems.specs.OpeningLaws.{GoodOpening, good-opening}
+use Rattle.theorems.specs.WholeHeld.{whole}
 use Rattle.theorems.specs.HeldLaws.{Whole, facts-whole}
 use Rattle.fields.specs.Field.{number}
 use Rattle.head.specs.Head.{numbersAt, openingAt}

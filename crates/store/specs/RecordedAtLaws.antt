@@ -18,13 +18,14 @@ use Rattle.trees.specs.Plain.{if_then_else_, member}
 use Rattle.trees.specs.Consensus.{recorded, count}
 use Rattle.theorems.specs.ListLaws.{Mem, member-mem, mem-member}
 use Rattle.theorems.specs.RisingLaws.{rising-same, recorded-rising, recorded-mem, mem-recorded}
+use Rattle.theorems.specs.ConsensusLaws.{count-nil}
 use Rattle.head.specs.Head.{upTo}
 use Rattle.head.specs.HeadLaws.{upTo-length, upTo-at}
 use Rattle.layout.specs.Store.{treesHeldAt, splitsHeldAt, maskAt, splitAt, masksAt, countAt, listAt, treeAt, heldAt}
 use Rattle.store.specs.WholeStore.{listed, wholeAt}
 use Rattle.store.specs.WholeFacts.{SplitsAt, WholeAt, whole-at-facts}
 use Rattle.store.specs.OrderLaws.{masks-length, number-mask, masks-rise, masks-mem, mem-masks, mask-same}
-use Rattle.store.specs.UpToLaws.{bool-same, upTo-mem, mem-upTo, upTo-more, map-mem, mem-map, count-append}
+use Rattle.store.specs.UpToLaws.{bool-same, upTo-mem, mem-upTo, upTo-more, map-mem, mem-map, count-append, listed-nil, listed-next}
 
 -- ---- what any bytes are read as
 
@@ -59,9 +60,8 @@ module _ (s : List ℕ) where
 
   -- a split that some tree lists
   pub listed-some : (k t : ℕ) → 1 ≤ listed s k t → (i : ℕ) × (i < t) × Mem k (listAt s i)
-  unfolding listed
-  listed-some k zero h = absurd (omega arith)
-  listed-some k (suc t) h = go (member k (listAt s t)) refl h (listed-some k t)
+  listed-some k zero h = absurd (omega (arith, listed-nil s k))
+  listed-some k (suc t) h = go (member k (listAt s t)) refl (subst (λ (n : ℕ). 1 ≤ n) (listed-next s k t) h) (listed-some k t)
     where
       go : (b : Bool) → member k (listAt s t) ≡ b → 1 ≤ (if b then suc (listed s k t) else listed s k t)
           → (1 ≤ listed s k t → (i : ℕ) × (i < t) × Mem k (listAt s i)) → (i : ℕ) × (i < suc t) × Mem k (listAt s i)
@@ -88,12 +88,12 @@ module _ (s : List ℕ) (whole : wholeAt s ≡ true) where
 
   -- of the first t trees
   listed-count : (k : ℕ) → k < splitsHeldAt s → (t : ℕ) → t ≤ treesHeldAt s → count (upTo (treeAt s) t) (maskAt s k) ≡ listed s k t
-  unfolding listed upTo count
-  listed-count k a zero h = refl
+  unfolding upTo
+  listed-count k a zero h = count-nil (maskAt s k) ∙ sym (listed-nil s k)
   listed-count k a (suc t) h =
       ap (λ (ts : List (List ℕ)). count ts (maskAt s k)) (upTo-more (treeAt s) t)
       ∙ count-append (upTo (treeAt s) t) (treeAt s t) (maskAt s k)
-      ∙ rw (member-at k t a h, listed-count k a t (omega arith))
+      ∙ rw (member-at k t a h, listed-count k a t (omega arith)) (sym (listed-next s k t))
 
   pub count-at : (k : ℕ) → k < splitsHeldAt s → count (heldAt s .trees) (maskAt s k) ≡ countAt s k
   unfolding heldAt

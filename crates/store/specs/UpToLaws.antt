@@ -7,6 +7,7 @@
 --   map-mem, mem-map              a list whose members are replaced
 --   bool-same                     two tests are equal where each passes with the other
 --   count-append                  the count behind one more tree
+--   listed-nil, listed-next       how many of no trees list a split, and of one tree more
 use Prim.Native.Nat.{ℕ, zero, suc, _+_, _≤_, _<_}
 use native.Mathlib.Nat.{add-zero, zero-add}
 use native.Mathlib.Omega.{arith}
@@ -20,7 +21,10 @@ use Rattle.trees.specs.Plain.{if_then_else_, member}
 use Rattle.trees.specs.Consensus.{count}
 use Rattle.theorems.specs.ListLaws.{Mem}
 use Rattle.theorems.specs.RisingLaws.{Rising}
+use Rattle.theorems.specs.ConsensusLaws.{count-step}
 use Rattle.head.specs.Head.{fromTo, upTo}
+use Rattle.layout.specs.Store.{listAt}
+use Rattle.store.specs.WholeStore.{listed}
 
 -- ---- two numbers, two tests
 
@@ -102,9 +106,9 @@ module _ (f : ℕ → ℕ) where
 -- ---- counts
 
 pub count-append : (ts : List (List ℕ)) (t : List ℕ) (m : ℕ) → count (ts ++ t ∷ []) m ≡ (if member m t then suc (count ts m) else count ts m)
-unfolding count
-count-append [] t m = refl
-count-append (u ∷ ts) t m = go (member m u) (member m t) (count-append ts t m)
+count-append [] t m = count-step t [] m
+count-append (u ∷ ts) t m =
+    count-step u (ts ++ t ∷ []) m ∙ go (member m u) (member m t) (count-append ts t m) ∙ ap (λ (c : ℕ). if member m t then suc c else c) (sym (count-step u ts m))
   where
     go : (a b : Bool) → count (ts ++ t ∷ []) m ≡ (if b then suc (count ts m) else count ts m)
         → (if a then suc (count (ts ++ t ∷ []) m) else count (ts ++ t ∷ []) m) ≡ (if b then suc (if a then suc (count ts m) else count ts m) else (if a then suc (count ts m) else count ts m))
@@ -112,3 +116,11 @@ count-append (u ∷ ts) t m = go (member m u) (member m t) (count-append ts t m)
     go true false e = ap suc e
     go false true e = e
     go false false e = e
+
+pub listed-nil : (s : List ℕ) (k : ℕ) → listed s k 0 ≡ 0
+unfolding listed
+listed-nil s k = refl
+
+pub listed-next : (s : List ℕ) (k t : ℕ) → listed s k (suc t) ≡ (if member k (listAt s t) then suc (listed s k t) else listed s k t)
+unfolding listed
+listed-next s k t = ap (λ (ls : List (List ℕ)). count ls k) (upTo-more (listAt s) t) ∙ count-append (upTo (listAt s) t) (listAt s t) k

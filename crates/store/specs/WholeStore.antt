@@ -14,12 +14,13 @@ use mathlib.Core.Bool.{Bool, true, _&&_}
 use mathlib.Core.List.{List}
 use lib.Dec.{leb, ltb, eqb}
 use lib.ListN.{length}
-use Rattle.trees.specs.Plain.{if_then_else_, every, member}
+use Rattle.trees.specs.Plain.{if_then_else_, every}
 use Rattle.trees.specs.Mask.{proper}
+use Rattle.trees.specs.Consensus.{count}
 use Rattle.trees.specs.Hash.{place, identifier}
 use Rattle.trees.specs.Whole.{rising, agreeInPairs, goodOpening}
 use Rattle.fields.specs.Field.{number}
-use Rattle.head.specs.Head.{numbersAt, firstAt, secondAt, openingAt}
+use Rattle.head.specs.Head.{upTo, numbersAt, firstAt, secondAt, openingAt}
 use Rattle.layout.specs.Store.{treesHeldAt, splitsHeldAt, treeFrom, laneFrom, sizeAt, maskAt, masksAt, identifierAt, countAt, linkAt, startAt, orderAt, listAt, treeAt}
 
 unfoldable pub allBelow : (ℕ → Bool) → ℕ → Bool
@@ -59,9 +60,8 @@ goodList s i =
 
 -- how many of the first t trees list the split in row k
 unfoldable pub listed : List ℕ → ℕ → ℕ → ℕ
-unfolding member listAt
-listed s k zero = 0
-listed s k (suc t) = if member k (listAt s t) then suc (listed s k t) else listed s k t
+unfolding count upTo listAt
+listed s k t = count (upTo (listAt s) t) k
 
 unfoldable pub goodCount : List ℕ → ℕ → Bool
 unfolding countAt listed treesHeldAt

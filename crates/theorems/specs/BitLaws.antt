@@ -80,7 +80,7 @@ same-odd a b f g = go (even-odd a) (even-odd b)
     go (inr x) (inl y) = omega (arith, f x)
     go (inr x) (inr y) = omega arith
 
-shift : (a i : ℕ) → a / 2 / 2 ^ i ≡ a / 2 ^ suc i
+pub shift : (a i : ℕ) → a / 2 / 2 ^ i ≡ a / 2 ^ suc i
 shift a i = div-div-eq-div-mul a 2 (2 ^ i) ∙ ap (λ (x : ℕ). a / x) (mul-comm 2 (2 ^ i) ∙ sym (pow-suc 2 i))
 
 pub on-shift : (a i : ℕ) → On a (suc i) → On (a / 2) i

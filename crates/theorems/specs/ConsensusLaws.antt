@@ -1,5 +1,6 @@
 -- Laws of counts and of the two consensus rules.
 --
+--   count-nil, count-step, count-has, count-lacks, count-most     the count among no trees, among one tree more; at most all trees
 --   common-tree          splits whose counts together exceed the trees have a tree in common
 --   strict-majority      a strict split is a majority split, when there is a tree
 --   majority-good, strict-good     the majority (strict) splits of trees are proper, rising, and agree in pairs
@@ -16,26 +17,35 @@ use Rattle.trees.specs.Plain.{if_then_else_, every, keep, member}
 use Rattle.trees.specs.Mask.{proper}
 use Rattle.trees.specs.Consensus.{recorded, count, isStrict, isMajority, strict, majority}
 use Rattle.trees.specs.Whole.{rising, agreeInPairs, goodTree}
-use Rattle.theorems.specs.ListLaws.{if-true, if-false, and-left, and-right, and-true, Mem, member-mem, every-at, every-intro, keep-mem, mem-keep}
+use Rattle.theorems.specs.ListLaws.{if-true, if-false, and-left, and-right, and-true, Mem, member-mem, every-at, every-intro, keep-mem, mem-keep, keep-step, keep-most}
 use Rattle.theorems.specs.RisingLaws.{recorded-rising, recorded-mem, keep-rising, true-rising, rising-true}
 use Rattle.theorems.specs.MaskLaws.{Ag}
 use Rattle.theorems.specs.SplitLaws.{pairs-at, pairs-intro}
 
 -- ---- counts
 
+pub count-nil : (m : ℕ) → count [] m ≡ 0
+unfolding count
+count-nil m = refl
+
+pub count-most : (ts : List (List ℕ)) (m : ℕ) → count ts m ≤ length ts
+unfolding count
+count-most ts m = keep-most (member m) ts
+
 module _ (t : List ℕ) (ts : List (List ℕ)) (m : ℕ) where
-  pub count-has : member m t ≡ true → count (t ∷ ts) m ≡ suc (count ts m)
+  pub count-step : count (t ∷ ts) m ≡ (if member m t then suc (count ts m) else count ts m)
   unfolding count
-  count-has e = if-true (suc (count ts m)) (count ts m) e
+  count-step = keep-step (member m) t ts
+
+  pub count-has : member m t ≡ true → count (t ∷ ts) m ≡ suc (count ts m)
+  count-has e = count-step ∙ if-true (suc (count ts m)) (count ts m) e
 
   pub count-lacks : member m t ≡ false → count (t ∷ ts) m ≡ count ts m
-  unfolding count
-  count-lacks e = if-false (suc (count ts m)) (count ts m) e
+  count-lacks e = count-step ∙ if-false (suc (count ts m)) (count ts m) e
 
 -- "disagreeing splits then come in together": not where the counts together exceed the trees
 pub common-tree : (ts : List (List ℕ)) (a b : ℕ) → length ts < count ts a + count ts b → (t : List ℕ) × Mem t ts × Mem a t × Mem b t
-unfolding count
-common-tree [] a b h = absurd (omega arith)
+common-tree [] a b h = absurd (omega (arith, count-nil a, count-nil b))
 common-tree (t ∷ ts) a b h = go (member a t) (member b t) refl refl (λ k. let r = common-tree ts a b k in (r .0, inr (r .1), r .2, r .3))
   where
     go : (u v : Bool) → member a t ≡ u → member b t ≡ v → (length ts < count ts a + count ts b → (s : List ℕ) × ((s ≡ t) ⊎ Mem s ts) × Mem a s × Mem b s) → (s : List ℕ) × ((s ≡ t) ⊎ Mem s ts) × Mem a s × Mem b s

@@ -1,5 +1,6 @@
 -- Laws of distances: the doubled distance is a metric on split sets.
 --
+--   oneSided-nil, oneSided-step, oneSided-has, oneSided-lacks     the one-sided number of no splits, and of one split more
 --   doubled-sym          it is symmetric
 --   doubled-zero         it is 0 exactly for equal split sets
 --   doubled-triangle     the way over a third tree is no shorter
@@ -8,13 +9,13 @@ use native.Mathlib.Omega.{arith}
 use native.Mathlib.Nat.{add-comm}
 use mathlib.Core.Path.{_≡_, refl, ap, ap₂, sym, _∙_, subst}
 use mathlib.Core.Logic.{_⊎_, inl, inr, _↔_}
-use mathlib.Core.Bool.{Bool, true, false, _||_, true≢false}
+use mathlib.Core.Bool.{Bool, true, false, _||_, not, true≢false}
 use mathlib.Core.List.{List, [], _∷_}
 use lib.Dec.{eqb}
 use borrow.Author.Tests.{eqb-true, eqb-false, ne-eqb}
 use Rattle.trees.specs.Plain.{if_then_else_, member}
 use Rattle.trees.specs.Distance.{oneSided, doubled}
-use Rattle.theorems.specs.ListLaws.{if-true, if-false, Mem, member-mem, mem-member, not-member}
+use Rattle.theorems.specs.ListLaws.{if-true, if-false, Mem, member-mem, mem-member, not-member, keep-step}
 use Rattle.theorems.specs.RisingLaws.{Rising, rising-same}
 
 pub doubled-sym : (a b : List ℕ) → doubled a b ≡ doubled b a
@@ -23,14 +24,24 @@ doubled-sym a b = add-comm (oneSided a b) (oneSided b a)
 
 -- ---- one step
 
+pub oneSided-nil : (b : List ℕ) → oneSided [] b ≡ 0
+unfolding oneSided
+oneSided-nil b = refl
+
 module _ (m : ℕ) (a b : List ℕ) where
-  pub oneSided-has : member m b ≡ true → oneSided (m ∷ a) b ≡ oneSided a b
+  pub oneSided-step : oneSided (m ∷ a) b ≡ (if member m b then oneSided a b else suc (oneSided a b))
   unfolding oneSided
-  oneSided-has e = if-true (oneSided a b) (suc (oneSided a b)) e
+  oneSided-step = keep-step (λ x. not (member x b)) m a ∙ turned (member m b)
+    where
+      turned : (t : Bool) → (if not t then suc (oneSided a b) else oneSided a b) ≡ (if t then oneSided a b else suc (oneSided a b))
+      turned true = refl
+      turned false = refl
+
+  pub oneSided-has : member m b ≡ true → oneSided (m ∷ a) b ≡ oneSided a b
+  oneSided-has e = oneSided-step ∙ if-true (oneSided a b) (suc (oneSided a b)) e
 
   pub oneSided-lacks : member m b ≡ false → oneSided (m ∷ a) b ≡ suc (oneSided a b)
-  unfolding oneSided
-  oneSided-lacks e = if-false (oneSided a b) (suc (oneSided a b)) e
+  oneSided-lacks e = oneSided-step ∙ if-false (oneSided a b) (suc (oneSided a b)) e
 
   oneSided-more : oneSided a b ≤ oneSided (m ∷ a) b
   oneSided-more = go (member m b) refl
@@ -50,8 +61,7 @@ zero-within (m ∷ a) b z y h = go (member m b) refl h (λ k. zero-within a b (o
     go false e k f = absurd (omega (arith, oneSided-lacks m a b e))
 
 pub within-zero : (a b : List ℕ) → ((y : ℕ) → Mem y a → Mem y b) → oneSided a b ≡ 0
-unfolding oneSided
-within-zero [] b f = refl
+within-zero [] b f = oneSided-nil b
 within-zero (m ∷ a) b f = oneSided-has m a b (mem-member m b (f m (inl refl))) ∙ within-zero a b (λ y h. f y (inr h))
 
 pub doubled-zero : (a b : List ℕ) → Rising a → Rising b → (doubled a b ≡ 0) ↔ (a ≡ b)
@@ -91,14 +101,14 @@ removed-member m y (x ∷ b) n = go (eqb m x) refl (removed-member m y b n)
     go false d q = ap (λ t. eqb y x || t) q
 
 removed-other : (m : ℕ) (a b : List ℕ) → (Mem m a → ⊥) → oneSided a (removed m b) ≡ oneSided a b
-unfolding oneSided
-removed-other m [] b n = refl
+removed-other m [] b n = oneSided-nil (removed m b) ∙ sym (oneSided-nil b)
 removed-other m (x ∷ a) b n =
-    ap₂ (λ (t : Bool) (k : ℕ). if t then k else suc k) (removed-member m x b (λ e. n (inl (sym e)))) (removed-other m a b (λ h. n (inr h)))
+    oneSided-step x a (removed m b)
+    ∙ ap₂ (λ (t : Bool) (k : ℕ). if t then k else suc k) (removed-member m x b (λ e. n (inl (sym e)))) (removed-other m a b (λ h. n (inr h)))
+    ∙ sym (oneSided-step x a b)
 
 oneSided-triangle : (a b c : List ℕ) → Rising a → oneSided a c ≤ oneSided a b + oneSided b c
-unfolding oneSided
-oneSided-triangle [] b c r = omega arith
+oneSided-triangle [] b c r = omega (arith, oneSided-nil c)
 oneSided-triangle (m ∷ a) b c r = go (member m c) (member m b) refl refl (oneSided-triangle a b c (r .1)) (oneSided-triangle a (removed m b) c (r .1))
   where
     again : Mem m a → ⊥

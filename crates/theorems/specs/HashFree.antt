@@ -12,7 +12,7 @@ use Rattle.trees.specs.Plain.{gives}
 use Rattle.trees.specs.Opening.{Numbers, Opening, opening}
 use Rattle.trees.specs.Held.{Held, Lane, holding, opened, laneOf, feeding, closing}
 use Rattle.theorems.specs.HeldLaws.{Accepted, opening-accepted}
-use Rattle.trees.specs.Runs.{Call, feed, close, Heard, fed, closed, answer, next, answers, ending}
+use Rattle.trees.specs.Runs.{Call, feed, close, Heard, fed, closedLane, answer, next, answers, ending}
 use Rattle.theorems.specs.Alike.{Alike, withPlaces, SameRun}
 use Rattle.theorems.specs.AlikeLaws.{feeding-alike, closing-alike, questions-alike}
 use Rattle.theorems.specs.OwnLaneLaws.{laneAfter, lanesAfter, feeding-texts, closing-texts}
@@ -52,7 +52,7 @@ module _ (h k : Held) (s : Same h k) (l : ℕ) where
 
   closing-heard : answer h (close l) ≡ answer k (close l)
   unfolding answer
-  closing-heard = ap closed (closing-alike h k (s .alike) l same-lane .answer)
+  closing-heard = ap closedLane (closing-alike h k (s .alike) l same-lane .answer)
 
 -- ---- a run of calls
 

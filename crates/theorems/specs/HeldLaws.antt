@@ -18,7 +18,8 @@ use Rattle.trees.specs.Consensus.{recorded}
 use Rattle.trees.specs.Verdict.{judged}
 use Rattle.trees.specs.Opening.{Numbers, Opening, inRange, goodConstants, storeSize, opening}
 use Rattle.trees.specs.Held.{Held, Lane, holding, overrun, mostText, opened, laneOf, withLane, withTree, longer, newSplits, roomFor, withRoom, verdict, Fed, beforeSemicolon, recording, finishing, feeding, Closed, closing}
-use Rattle.trees.specs.Whole.{goodTree, goodLane, goodOpening, whole}
+use Rattle.trees.specs.Whole.{goodTree, goodLane, goodOpening}
+use Rattle.theorems.specs.WholeHeld.{whole}
 use Rattle.theorems.specs.ListLaws.{by-test, and-left, and-right, and-true}
 use Rattle.theorems.specs.RisingLaws.{rising-true}
 use Rattle.theorems.specs.RecordedLaws.{recorded-more}

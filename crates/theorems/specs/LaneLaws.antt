@@ -22,7 +22,7 @@ use Rattle.trees.specs.Held.{Held, Lane, opened, longer, beforeSemicolon, finis
 use Rattle.theorems.specs.ListLaws.{if-true, if-false}
 use Rattle.theorems.specs.OpeningLaws.{every-getD}
 use Rattle.theorems.specs.HeldLaws.{every-set, every-replicate}
-use Rattle.trees.specs.Runs.{Call, feed, close, answers, ending, closedWith, verdicts, textsAfter, wholeTexts, onLane, onOneLane}
+use Rattle.trees.specs.Runs.{Call, feed, close, answers, ending, closedWith, finals, textsAfter, wholeTexts, onLane, onOneLane}
 use Rattle.theorems.specs.RunLaws.{ending-opening}
 use Rattle.theorems.specs.Alike.{SameAnswers}
 use Rattle.theorems.specs.AlikeLaws.{questions-alike}
@@ -153,7 +153,7 @@ module _ (o : Opening) where
 
 module _ (o : Opening) (g : ℕ → ℕ) (stay : (l : ℕ) → ltb (g l) (o .numbers .lanes) ≡ ltb l (o .numbers .lanes)) (cs : List Call) where
   -- the whole texts may be fed to any lanes
-  pub any-lane-will-do : (verdicts (answers (opened o) cs) ≡ verdicts (answers (opened o) (map (onLane g) (wholeTexts (o .numbers .lanes) cs))))
+  pub any-lane-will-do : (finals (answers (opened o) cs) ≡ finals (answers (opened o) (map (onLane g) (wholeTexts (o .numbers .lanes) cs))))
       × (ending (opened o) cs .trees ≡ ending (opened o) (map (onLane g) (wholeTexts (o .numbers .lanes) cs)) .trees)
   unfolding outcome
   any-lane-will-do = (ap (λ (r : Outcome). r .0) (opened-run o g stay cs), ap (λ (r : Outcome). r .1) (opened-run o g stay cs))
@@ -165,16 +165,16 @@ own-lanes (feed l p ∷ cs) = ap (λ (ds : List Call). feed l p ∷ ds) (own-lan
 own-lanes (close l ∷ cs) = ap (λ (ds : List Call). close l ∷ ds) (own-lanes cs)
 
 module _ (o : Opening) (cs : List Call) where
-  pub lanes-make-no-difference : (verdicts (answers (opened o) cs) ≡ verdicts (answers (opened o) (wholeTexts (o .numbers .lanes) cs)))
+  pub lanes-make-no-difference : (finals (answers (opened o) cs) ≡ finals (answers (opened o) (wholeTexts (o .numbers .lanes) cs)))
       × (ending (opened o) cs .trees ≡ ending (opened o) (wholeTexts (o .numbers .lanes) cs) .trees)
   lanes-make-no-difference =
       let r = any-lane-will-do o (λ l. l) (λ l. refl) cs in
       let e = own-lanes (wholeTexts (o .numbers .lanes) cs) in
-      (r .0 ∙ ap (λ (ds : List Call). verdicts (answers (opened o) ds)) e, r .1 ∙ ap (λ (ds : List Call). ending (opened o) ds .trees) e)
+      (r .0 ∙ ap (λ (ds : List Call). finals (answers (opened o) ds)) e, r .1 ∙ ap (λ (ds : List Call). ending (opened o) ds .trees) e)
 
   -- and so all to lane 0
   pub one-lane-will-do : 0 < o .numbers .lanes
-      → (verdicts (answers (opened o) cs) ≡ verdicts (answers (opened o) (map (onLane (onOneLane (o .numbers .lanes))) (wholeTexts (o .numbers .lanes) cs))))
+      → (finals (answers (opened o) cs) ≡ finals (answers (opened o) (map (onLane (onOneLane (o .numbers .lanes))) (wholeTexts (o .numbers .lanes) cs))))
       × (ending (opened o) cs .trees ≡ ending (opened o) (map (onLane (onOneLane (o .numbers .lanes))) (wholeTexts (o .numbers .lanes) cs)) .trees)
   unfolding onOneLane
   one-lane-will-do h = any-lane-will-do o (onOneLane (o .numbers .lanes)) (λ l. go l (ltb l (o .numbers .lanes)) refl) cs

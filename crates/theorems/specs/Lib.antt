@@ -21,6 +21,7 @@ pub mod TreeOfLaws
 pub mod WrittenLaws
 pub mod WrittenFedLaws
 pub mod RecordedLaws
+pub mod WholeHeld
 pub mod HeldLaws
 pub mod Alike
 pub mod AlikeLaws

@@ -2,12 +2,15 @@
 --
 --   Mem x l         x is a member of l, as a type
 --   by-test P b     what holds of both ways of a choice holds of the choice
-use Prim.Native.Nat.{ℕ}
+--   keep-step, keep-most     how many pass a test: one member more, and never more than there are
+use Prim.Native.Nat.{ℕ, suc, _≤_}
+use native.Mathlib.Omega.{arith}
 use mathlib.Core.Path.{_≡_, refl, ap, sym, _∙_, subst}
 use mathlib.Core.Logic.{_⊎_, inl, inr, ⊎-map}
 use mathlib.Core.Bool.{Bool, true, false, _&&_, _||_, true≢false}
 use mathlib.Core.List.{List, [], _∷_, _++_}
 use lib.Dec.{eqb}
+use lib.ListN.{length}
 use borrow.Author.Tests.{eqb-true, eq-eqb}
 use Rattle.trees.specs.Plain.{if_then_else_, every, keep, member}
 
@@ -112,3 +115,20 @@ pub mem-keep : {A : Type 0} (p : A → Bool) (l : List A) (x : A) → Mem x l �
 unfolding keep
 mem-keep {A} p (y ∷ l) x (inl q) e = by-test (λ (k : List A). Mem x k) (p y) (λ d. inl q) (λ d. absurd (true≢false (sym e ∙ ap p q ∙ d)))
 mem-keep {A} p (y ∷ l) x (inr h) e = by-test (λ (k : List A). Mem x k) (p y) (λ d. inr (mem-keep p l x h e)) (λ d. mem-keep p l x h e)
+
+-- ---- how many are kept
+
+pub keep-step : {A : Type 0} (p : A → Bool) (x : A) (l : List A) → length (keep p (x ∷ l)) ≡ (if p x then suc (length (keep p l)) else length (keep p l))
+unfolding keep
+keep-step p x l = go (p x)
+  where
+    go : (b : Bool) → length (if b then x ∷ keep p l else keep p l) ≡ (if b then suc (length (keep p l)) else length (keep p l))
+    go true = refl
+    go false = refl
+
+pub keep-most : {A : Type 0} (p : A → Bool) (l : List A) → length (keep p l) ≤ length l
+unfolding keep
+keep-most p [] = omega arith
+keep-most {A} p (x ∷ l) =
+    let h = keep-most p l in
+    by-test (λ (k : List A). length k ≤ suc (length l)) (p x) (λ e. omega arith) (λ e. omega arith)

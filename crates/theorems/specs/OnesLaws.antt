@@ -1,13 +1,23 @@
--- Laws of the number of taxa in a mask.
+-- Laws of the number of taxa in a mask: `ones`, the library's count of set bits.
+--
+--   below-ones                               the count over n taxa is the library's, for a mask of n taxa
+--   ones-zero, ones-bit, ones-in             of no taxa, of one taxon, and of the lowest bits alone
+--   ones-part, ones-lt                       the taxa of a part and those of the rest; a smaller part has fewer
+--   ones-pos, pos-of-ones                    a mask that is not empty has a taxon
 use Prim.Native.Nat.{ℕ, zero, suc, _+_, _/_, _%_, _^_, _<_}
 use native.Mathlib.Omega.{arith}
 use native.Mathlib.Nat.{pow-suc}
 use mathlib.Core.Path.{_≡_, refl, ap, ap₂, sym, _∙_}
 use mathlib.Core.Logic.{_⊎_, inl, inr}
+use lib.Dec.{eqb}
 use lib.Arith.{bin-ind}
 use lib.Bits.{bitXor, xor-shr, xor-zero-r, differ}
 use lib.Count.{ones, onesIn, ones-step}
-use Rattle.theorems.specs.BitLaws.{Sub, even-odd, xor-odd, pow-half, on-first, first-on, on-shift, shift-on, less-add}
+use borrow.Author.Tests.{eq-eqb, ne-eqb}
+use Rattle.trees.specs.Plain.{if_then_else_}
+use Rattle.trees.specs.Mask.{has, onesBelow}
+use Rattle.theorems.specs.ListLaws.{if-true, if-false}
+use Rattle.theorems.specs.BitLaws.{Sub, even-odd, xor-odd, pow-half, on-first, first-on, on-shift, shift-on, shift, less-add}
 
 pub ones-zero : ones 0 ≡ 0
 unfolding ones onesIn
@@ -57,3 +67,24 @@ ones-lt x m h l = let p : 0 < bitXor m x = omega (arith, less-add m x h) in omeg
 pub pos-of-ones : (z : ℕ) → 0 < ones z → 0 < z
 pos-of-ones zero h = absurd (omega (arith, ones-zero))
 pos-of-ones (suc z) h = omega arith
+
+-- ---- the count over n taxa
+
+-- one bit more, above the others
+in-last : (n m : ℕ) → onesIn (suc n) m ≡ onesIn n m + m / 2 ^ n % 2
+unfolding onesIn
+in-last zero m = omega arith
+in-last (suc n) m = omega (arith, in-last n (m / 2), ap (λ (x : ℕ). x % 2) (shift m n))
+
+below-in : (n m : ℕ) → onesBelow n m ≡ onesIn n m
+unfolding onesBelow onesIn has
+below-in zero m = refl
+below-in (suc n) m = go (even-odd (m / 2 ^ n)) (below-in n m) ∙ sym (in-last n m)
+  where
+    go : (m / 2 ^ n % 2 ≡ 0) ⊎ (m / 2 ^ n % 2 ≡ 1) → onesBelow n m ≡ onesIn n m
+        → (if has m n then suc (onesBelow n m) else onesBelow n m) ≡ onesIn n m + m / 2 ^ n % 2
+    go (inl e) h = if-false _ _ (ne-eqb (m / 2 ^ n % 2) 1 (λ d. omega arith)) ∙ omega arith
+    go (inr e) h = if-true _ _ (eq-eqb (m / 2 ^ n % 2) 1 e) ∙ omega arith
+
+pub below-ones : (n m : ℕ) → m < 2 ^ n → onesBelow n m ≡ ones m
+below-ones n m h = below-in n m ∙ ones-in n m h

@@ -1,6 +1,6 @@
 -- What a run of calls comes to, call by call, on a collection whose lanes hold pending bytes.
 --
---   outcome h cs        the verdicts of a run, and the trees at its end
+--   outcome h cs        the final answers of a run, and the trees at its end
 --   state o ts us       a collection with the trees ts, each lane of which was empty and got its bytes of us
 --   judgement o ts w    the verdict on the text w: it does not depend on what the lanes hold
 --   outcome-text, outcome-more, outcome-closed    one call to a lane
@@ -15,20 +15,20 @@ use Rattle.trees.specs.Plain.{member, Answer, refused, gives}
 use Rattle.trees.specs.Opening.{Opening}
 use Rattle.trees.specs.Held.{Held, Lane, holding, laneOf, withLane, withTree, longer, verdict, Progress, moreWanted, accepted, beforeSemicolon, Fed, finished, recording, finishing, feeding, Closed, closed, closing}
 use Rattle.theorems.specs.WrittenFedLaws.{feedingBy, feeding-by}
-use Rattle.trees.specs.Runs.{Call, feed, close, fed, answer, next, answers, ending, Verdict, acceptedAs, refusedWith, closedWith, verdicts}
+use Rattle.trees.specs.Runs.{Call, feed, close, fed, answer, next, answers, ending, Final, acceptedAs, refusedWith, closedWith, finals}
 use Rattle.theorems.specs.Alike.{Alike}
 use Rattle.theorems.specs.AlikeLaws.{closingBy, closing-by, verdict-alike}
 use Rattle.theorems.specs.PieceLaws.{longer-longer, text, map-set}
 
 -- ---- what a run comes to
 
--- its verdicts and the trees at its end
+-- its final answers and the trees at its end
 abbrev pub Outcome : Type 0
-Outcome = List Verdict × List (List ℕ)
+Outcome = List Final × List (List ℕ)
 
 unfoldable pub outcome : Held → List Call → Outcome
-unfolding verdicts answers ending
-outcome h cs = (verdicts (answers h cs), ending h cs .trees)
+unfolding finals answers ending
+outcome h cs = (finals (answers h cs), ending h cs .trees)
 
 -- an answer to a piece, and then the rest of the run
 unfoldable pub noted : Answer Progress → Outcome → Outcome
@@ -40,7 +40,7 @@ pub outcome-feed : (h : Held) (l : ℕ) (p : List ℕ) (cs : List Call) → outc
 unfolding outcome noted answer next
 outcome-feed h l p cs = go (feeding h l p .answer)
   where
-    go : (a : Answer Progress) → (verdicts (fed (feeding h l p .taken) a ∷ answers (feeding h l p .after) cs), ending (feeding h l p .after) cs .trees) ≡ noted a (outcome (feeding h l p .after) cs)
+    go : (a : Answer Progress) → (finals (fed (feeding h l p .taken) a ∷ answers (feeding h l p .after) cs), ending (feeding h l p .after) cs .trees) ≡ noted a (outcome (feeding h l p .after) cs)
     go (gives moreWanted) = refl
     go (gives (accepted t)) = refl
     go (refused k) = refl

@@ -1,32 +1,46 @@
 -- Laws of proper masks, the masks of splits that count.
 --
+--   proper-ones        proper, with the library's count of set bits
 --   proper-even, proper-two, proper-most, proper-sub   what it says of a mask that it is proper
 --   every-ones         all n taxa are n
 --   one-taxon          the cluster of one taxon is never a split
 use Prim.Native.Nat.{ℕ, _-_, _^_, _%_, _≤_}
 use native.Mathlib.Omega.{arith}
-use mathlib.Core.Path.{_≡_, ap, _∙_}
+use mathlib.Core.Path.{_≡_, refl, ap, sym, _∙_}
 use mathlib.Core.Logic.{_⊎_, inl, inr}
-use mathlib.Core.Bool.{true, _&&_}
+use mathlib.Core.Bool.{Bool, true, false, _&&_, and-false}
 use lib.Count.{ones, ones-ones}
 use lib.Dec.{leb, ltb, eqb}
 use borrow.Author.Tests.{ltb-true, leb-true, eqb-true}
-use Rattle.trees.specs.Mask.{everyTaxon, proper, side}
+use Rattle.trees.specs.Mask.{onesBelow, everyTaxon, proper, side}
 use Rattle.theorems.specs.ListLaws.{and-left, and-right}
 use Rattle.theorems.specs.BitLaws.{On, Sub, first-on, on?}
-use Rattle.theorems.specs.OnesLaws.{ones-part}
+use Rattle.theorems.specs.OnesLaws.{below-ones, ones-part}
 use Rattle.theorems.specs.MaskLaws.{below-sub, others-xor, side-even, side-odd}
 
 -- ---- one split
 
+pub proper-ones : (n m : ℕ) → proper n m ≡ (eqb (m % 2) 0 && (leb 2 (ones m) && (leb (ones m) (n - 2) && ltb m (2 ^ n))))
+unfolding proper
+proper-ones n m = go (ltb m (2 ^ n)) refl
+  where
+    none : (a b c : Bool) → (a && (b && (c && false))) ≡ false
+    none a b c = rw (and-false c, and-false b) (and-false a)
+
+    go : (b : Bool) → ltb m (2 ^ n) ≡ b
+        → (eqb (m % 2) 0 && (leb 2 (onesBelow n m) && (leb (onesBelow n m) (n - 2) && b))) ≡ (eqb (m % 2) 0 && (leb 2 (ones m) && (leb (ones m) (n - 2) && b)))
+    go true e = ap (λ (k : ℕ). eqb (m % 2) 0 && (leb 2 k && (leb k (n - 2) && true))) (below-ones n m (ltb-true m (2 ^ n) e))
+    go false e = none (eqb (m % 2) 0) (leb 2 (onesBelow n m)) (leb (onesBelow n m) (n - 2)) ∙ sym (none (eqb (m % 2) 0) (leb 2 (ones m)) (leb (ones m) (n - 2)))
+
 module _ (n m : ℕ) (h : proper n m ≡ true) where
+  proper-all : (eqb (m % 2) 0 && (leb 2 (ones m) && (leb (ones m) (n - 2) && ltb m (2 ^ n)))) ≡ true
+  proper-all = sym (proper-ones n m) ∙ h
+
   pub proper-even : On m 0 → ⊥
-  unfolding proper
-  proper-even o = omega (arith, first-on m o, eqb-true (m % 2) 0 (and-left (eqb (m % 2) 0) _ h))
+  proper-even o = omega (arith, first-on m o, eqb-true (m % 2) 0 (and-left (eqb (m % 2) 0) _ proper-all))
 
   proper-rest : (leb 2 (ones m) && (leb (ones m) (n - 2) && ltb m (2 ^ n))) ≡ true
-  unfolding proper
-  proper-rest = and-right (eqb (m % 2) 0) _ h
+  proper-rest = and-right (eqb (m % 2) 0) _ proper-all
 
   pub proper-two : 2 ≤ ones m
   proper-two = leb-true 2 (ones m) (and-left (leb 2 (ones m)) _ proper-rest)

@@ -5,7 +5,6 @@
 --   ending-opening                  the opening stays
 --   ending-whole, run-whole         from an accepted opening on, a collection is whole after every run
 --   lanes-hold-pending              every lane holds the bytes fed to it since its last semicolon or closing, or ran over
---   whole-texts-sample              the whole texts of a run, for an example
 use Prim.Native.Nat.{ℕ}
 use native.Mathlib.Omega.{arith}
 use mathlib.Core.Path.{_≡_, refl, ap, ap₂, sym, _∙_, subst}
@@ -19,12 +18,12 @@ use borrow.Author.Tests.{ltb-false}
 use Rattle.trees.specs.Plain.{if_then_else_, member, Answer, refused, gives}
 use Rattle.trees.specs.Opening.{Numbers, Opening, opening}
 use Rattle.trees.specs.Held.{Held, Lane, holding, opened, laneOf, longer, verdict, Progress, moreWanted, accepted, beforeSemicolon, Fed, finished, finishing, feeding, closing}
-use Rattle.trees.specs.Whole.{whole}
+use Rattle.theorems.specs.WholeHeld.{whole}
 use Rattle.theorems.specs.HeldLaws.{opened-whole, feeding-whole, closing-whole}
 use Rattle.theorems.specs.WrittenFedLaws.{feedingBy, feeding-by}
 use Rattle.theorems.specs.OwnLaneLaws.{laneAfter, lanesAfter, feeding-opening, feeding-texts, closing-opening, closing-texts}
 use Rattle.theorems.specs.PieceLaws.{longer-longer, text, map-set, map-replicate}
-use Rattle.trees.specs.Runs.{Call, feed, close, Heard, answer, next, answers, ending, pendingAfter, wholeTexts}
+use Rattle.trees.specs.Runs.{Call, feed, close, Heard, answer, next, answers, ending, pendingAfter}
 
 -- ---- which answers are verdicts
 
@@ -132,12 +131,3 @@ lanes-hold-pending o cs =
       many = length-replicate (o .numbers .lanes) [];
       lanes = sym (map-replicate text (o .numbers .lanes) []);
     }) cs .lanes
-
--- ---- an example
-
--- two lanes: `A`, `;` and `B` on lane 0, `C` and a closing on lane 1, and a piece to a lane that does not exist
-pub whole-texts-sample :
-    wholeTexts 2 (feed 0 (65 ∷ []) ∷ feed 1 (67 ∷ []) ∷ feed 0 (59 ∷ 66 ∷ []) ∷ feed 2 (68 ∷ []) ∷ feed 0 (66 ∷ []) ∷ close 1 ∷ [])
-    ≡ feed 0 (65 ∷ 59 ∷ []) ∷ feed 2 (68 ∷ []) ∷ feed 1 (67 ∷ []) ∷ close 1 ∷ []
-unfolding wholeTexts
-whole-texts-sample = refl

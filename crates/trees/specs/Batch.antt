@@ -10,11 +10,12 @@ use mathlib.Core.List.{List, [], _∷_}
 use lib.Dec.{ltb, eqb}
 use lib.ListN.{length, drop}
 use Rattle.trees.specs.Plain.{if_then_else_, keep, Answer, refused, gives}
+use Rattle.trees.specs.Text.{semicolon}
 use Rattle.trees.specs.Held.{Held, Progress, moreWanted, accepted, feeding}
 
 unfoldable pub semicolons : List ℕ → ℕ
 unfolding keep
-semicolons p = length (keep (eqb 59) p)
+semicolons p = length (keep (eqb semicolon) p)
 
 -- refusals go from 1 to 14
 unfoldable pub verdictNumber : Answer Progress → ℕ

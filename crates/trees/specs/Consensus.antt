@@ -4,12 +4,12 @@
 --   count ts m        how many of the trees have the split m
 --   strict ts         the splits that all trees have
 --   majority ts       the splits that more than half of the trees have
-use Prim.Native.Nat.{ℕ, suc, _*_}
+use Prim.Native.Nat.{ℕ, _*_}
 use mathlib.Core.Bool.{Bool}
 use mathlib.Core.List.{List, [], _∷_}
 use lib.Dec.{ltb, eqb}
 use lib.ListN.{length}
-use Rattle.trees.specs.Plain.{if_then_else_, keep, member}
+use Rattle.trees.specs.Plain.{keep, member}
 use Rattle.trees.specs.Splits.{insert}
 
 -- the rising list l with every mask of a
@@ -25,9 +25,8 @@ recorded [] = []
 recorded (t ∷ ts) = insertAll t (recorded ts)
 
 unfoldable pub count : List (List ℕ) → ℕ → ℕ
-unfolding member
-count [] m = 0
-count (t ∷ ts) m = if member m t then suc (count ts m) else count ts m
+unfolding keep member
+count ts m = length (keep (member m) ts)
 
 -- "strict if all t trees have it"
 unfoldable pub isStrict : List (List ℕ) → ℕ → Bool

@@ -1,17 +1,17 @@
 -- Distances between trees, each given by its splits.
 --
---   oneSided a b      the splits of a that b lacks
+--   oneSided a b      how many splits of a b lacks
 --   doubled a b       the doubled Robinson-Foulds distance
 --   matrix ts         the doubled distances of all pairs, row by row
-use Prim.Native.Nat.{ℕ, suc, _+_}
-use mathlib.Core.List.{List, [], _∷_, map, flatMap}
-use Rattle.trees.specs.Plain.{if_then_else_, member}
+use Prim.Native.Nat.{ℕ, _+_}
+use mathlib.Core.List.{List, map, flatMap}
+use lib.ListN.{length}
+use Rattle.trees.specs.Plain.{lacking}
 
 -- "the one-sided number is the splits of i that j lacks"
 unfoldable pub oneSided : List ℕ → List ℕ → ℕ
-unfolding member
-oneSided [] b = 0
-oneSided (m ∷ a) b = if member m b then oneSided a b else suc (oneSided a b)
+unfolding lacking
+oneSided a b = length (lacking a b)
 
 -- "the sum of the two one-sided numbers"
 unfoldable pub doubled : List ℕ → List ℕ → ℕ

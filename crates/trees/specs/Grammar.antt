@@ -27,11 +27,22 @@ mutual
   -- "A node is a leaf label, or an opening bracket, two or more nodes with commas between, a closing bracket and an optional label"
   pub data IsNode : ℕ → List Symbol → Nodes → Type 0 where
     is-leaf : {d : ℕ} {w : List ℕ} {e : List Symbol} → MayHaveLength e → IsNode d (token w ∷ e) (leaf w nil)
-    is-inner : {d : ℕ} {us ss l e : List Symbol} {c : Nodes} → us ≡ ss ++ (closeBracket ∷ (l ++ e)) → IsNodes d ss c → 2 ≤ width c → MayHaveLabel l → MayHaveLength e → IsNode (suc d) (openBracket ∷ us) (inner c nil)
+    is-inner : {d : ℕ} {us ss l e : List Symbol} {c : Nodes}
+        → us ≡ ss ++ (closeBracket ∷ (l ++ e))
+        → IsNodes d ss c
+        → 2 ≤ width c
+        → MayHaveLabel l
+        → MayHaveLength e
+        → IsNode (suc d) (openBracket ∷ us) (inner c nil)
 
   pub data IsNodes : ℕ → List Symbol → Nodes → Type 0 where
     is-one : {d : ℕ} {ss : List Symbol} {t : Nodes} → IsNode d ss t → IsNodes d ss t
-    is-more : {d : ℕ} {vs ss us : List Symbol} {g t k : Nodes} → vs ≡ ss ++ (comma ∷ us) → g ≡ beside t k → IsNode d ss t → IsNodes d us k → IsNodes d vs g
+    is-more : {d : ℕ} {vs ss us : List Symbol} {g t k : Nodes}
+        → vs ≡ ss ++ (comma ∷ us)
+        → g ≡ beside t k
+        → IsNode d ss t
+        → IsNodes d us k
+        → IsNodes d vs g
 
 -- "nesting of brackets", the most
 abbrev pub mostNesting : ℕ

@@ -1,15 +1,16 @@
--- Places, identifiers and collisions. Nothing else in these definitions depends on the constants or on the number of places.
+-- Places, identifiers and collisions. The constants and the number of places are checked by opening, and the store's size counts the
+-- places; of what is answered afterwards only the collision number depends on them.
 --
 --   sumOver cs m          the sum of the constants cs over the taxa of the mask m
 --   place cs p m          the place of the split m among p places
 --   identifier cs m       its identifier
 --   collisions f s p ms   the pairs of different masks of ms that are equal in place and identifier
-use Prim.Native.Nat.{ℕ, suc, _+_, _*_, _/_, _%_, _^_}
+use Prim.Native.Nat.{ℕ, _+_, _*_, _/_, _%_, _^_}
 use mathlib.Core.Bool.{Bool, _&&_}
 use mathlib.Core.List.{List, [], _∷_}
 use lib.Dec.{eqb}
 use lib.ListN.{length}
-use Rattle.trees.specs.Plain.{if_then_else_, keep}
+use Rattle.trees.specs.Plain.{keep}
 
 -- the first constant is that of the lowest taxon of m, which is bit 0
 unfoldable pub sumOver : List ℕ → ℕ → ℕ

@@ -8,12 +8,11 @@
 --   feeding h l p       feeding the piece p to lane l
 --   closing h l         closing lane l
 use Prim.Native.Nat.{ℕ, suc, _+_}
-use mathlib.Core.Bool.{Bool, true, false, not}
 use mathlib.Core.List.{List, [], _∷_, _++_}
 use lib.Dec.{ltb, eqb}
 use lib.ListN.{length, getD, set, replicate}
-use Rattle.trees.specs.Plain.{if_then_else_, every, keep, member, Answer, refused, gives}
-use Rattle.trees.specs.Text.{isBlank}
+use Rattle.trees.specs.Plain.{if_then_else_, every, member, lacking, Answer, refused, gives}
+use Rattle.trees.specs.Text.{semicolon, isBlank}
 use Rattle.trees.specs.Verdict.{judged}
 use Rattle.trees.specs.Consensus.{recorded}
 use Rattle.trees.specs.Opening.{Opening}
@@ -52,8 +51,8 @@ longer (holding s) p = if ltb mostText (length (s ++ p)) then overrun else holdi
 
 -- the splits of a tree that no accepted tree has
 unfoldable pub newSplits : Held → List ℕ → List ℕ
-unfolding keep recorded member
-newSplits h t = keep (λ m. not (member m (recorded (h .trees)))) t
+unfolding lacking recorded
+newSplits h t = lacking t (recorded (h .trees))
 
 -- "accepted trees equal the tree room"; "recorded splits and this tree's new ones together exceed the split room"
 unfoldable pub roomFor : Held → List ℕ → Answer (List ℕ)
@@ -85,10 +84,10 @@ pub record Fed : Type 0 where
   pub answer : Answer Progress
   pub after : Held
 
--- the bytes of a piece before its first semicolon, and whether it has one
+-- the bytes of a piece before its first semicolon; all of them if it has none
 unfoldable pub beforeSemicolon : List ℕ → List ℕ
 beforeSemicolon [] = []
-beforeSemicolon (b ∷ p) = if eqb b 59 then [] else b ∷ beforeSemicolon p
+beforeSemicolon (b ∷ p) = if eqb b semicolon then [] else b ∷ beforeSemicolon p
 
 -- "accepted, with the tree's number (from 0, in order of acceptance); refused, with a number"
 unfoldable pub finished : Held → Answer (List ℕ) → Answer Progress
@@ -110,7 +109,7 @@ unfoldable pub feeding : Held → ℕ → List ℕ → Fed
 unfolding member beforeSemicolon longer laneOf withLane verdict finishing
 feeding h l p =
     if ltb l (h .opening .numbers .lanes) then
-    if member 59 p then finishing h l (suc (length (beforeSemicolon p))) (verdict h (longer (laneOf h l) (beforeSemicolon p)))
+    if member semicolon p then finishing h l (suc (length (beforeSemicolon p))) (verdict h (longer (laneOf h l) (beforeSemicolon p)))
     else record { taken = length p; answer = gives moreWanted; after = withLane h l (longer (laneOf h l) p) }
     else record { taken = 0; answer = refused 5; after = h }
 

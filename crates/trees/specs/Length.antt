@@ -5,23 +5,23 @@ use Prim.Native.Nat.{ℕ}
 use mathlib.Core.Bool.{Bool, true, false, _&&_, _||_}
 use mathlib.Core.List.{List, [], _∷_}
 use lib.Dec.{leb, eqb}
-use Rattle.trees.specs.Plain.{if_then_else_, every}
+use Rattle.trees.specs.Plain.{if_then_else_, every, byte}
 
 -- 0 to 9
 unfoldable pub isDigit : ℕ → Bool
-isDigit b = leb 48 b && leb b 57
+isDigit b = leb (byte "0") b && leb b (byte "9")
 
 -- + or -
 unfoldable pub isSign : ℕ → Bool
-isSign b = eqb b 43 || eqb b 45
+isSign b = eqb b (byte "+") || eqb b (byte "-")
 
 -- the point
 unfoldable pub isPoint : ℕ → Bool
-isPoint b = eqb b 46
+isPoint b = eqb b (byte ".")
 
 -- e or E
 unfoldable pub isE : ℕ → Bool
-isE b = eqb b 101 || eqb b 69
+isE b = eqb b (byte "e") || eqb b (byte "E")
 
 -- "one or more digits"
 unfoldable pub isDigits : List ℕ → Bool

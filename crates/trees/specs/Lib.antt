@@ -19,4 +19,7 @@ pub mod Whole
 pub mod Batch
 pub mod Runs
 pub mod Samples
-pub mod Further
+pub mod FurtherTexts
+pub mod FurtherOpenings
+pub mod FurtherCalls
+pub mod FurtherQuestions

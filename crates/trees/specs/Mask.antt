@@ -1,7 +1,7 @@
 -- Masks: sets of taxa, each a natural number whose bit i is set for taxon i.
 --
 --   has m i       taxon i is in the mask m
---   ones m        the number of taxa in m (the library's count of set bits)
+--   onesBelow n m how many of n taxa are in the mask m
 --   everyTaxon n  the mask of all n taxa
 --   without a b   the taxa of a that are not in b
 --   apart a b     no common bit
@@ -14,12 +14,17 @@ use Prim.Native.Nat.{ℕ, zero, suc, _-_, _/_, _%_, _^_}
 use mathlib.Core.Bool.{Bool, true, false, _&&_, _||_}
 use lib.Dec.{leb, ltb, eqb}
 use lib.Bits.{bitAnd}
-use lib.Count.{ones, onesIn}
 use Rattle.trees.specs.Plain.{if_then_else_}
 
 -- "bit i set for each taxon i on the side"
 unfoldable pub has : ℕ → ℕ → Bool
 has m i = eqb (m / 2 ^ i % 2) 1
+
+-- the ones of m among its n lowest bits
+unfoldable pub onesBelow : ℕ → ℕ → ℕ
+unfolding has
+onesBelow zero m = 0
+onesBelow (suc n) m = if has m n then suc (onesBelow n m) else onesBelow n m
 
 -- taxa are numbered from 0, so n taxa are the n lowest bits
 unfoldable pub everyTaxon : ℕ → ℕ
@@ -49,8 +54,8 @@ side n m = if eqb (m % 2) 1 then everyTaxon n - m else m
 
 -- "bit 0 is clear, and the ones number from 2 to n − 2", of n taxa
 unfoldable pub proper : ℕ → ℕ → Bool
-unfolding ones onesIn
-proper n m = eqb (m % 2) 0 && (leb 2 (ones m) && (leb (ones m) (n - 2) && ltb m (2 ^ n)))
+unfolding onesBelow
+proper n m = eqb (m % 2) 0 && (leb 2 (onesBelow n m) && (leb (onesBelow n m) (n - 2) && ltb m (2 ^ n)))
 
 -- the first taxon from i on that is in the mask m, which begins with taxon i; f is more than enough steps
 unfoldable pub lowestFrom : ℕ → ℕ → ℕ → ℕ

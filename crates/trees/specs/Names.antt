@@ -11,7 +11,7 @@ use mathlib.Core.List.{List, [], _∷_, _++_}
 use mathlib.Core.Option.{Option, none, some}
 use lib.Dec.{leb, eqb}
 use lib.ListN.{length}
-use Rattle.trees.specs.Plain.{if_then_else_, every, sameBytes, inNames}
+use Rattle.trees.specs.Plain.{if_then_else_, every, sameBytes, inNames, byte}
 use Rattle.trees.specs.Text.{isLabelByte}
 
 -- the place of w in the names, of which the first is taxon k
@@ -28,7 +28,7 @@ taxonOf ns w = taxonFrom 0 ns w
 -- the parts of s, behind the bytes w of a part that has not ended
 unfoldable pub namesAfter : List ℕ → List ℕ → List (List ℕ)
 namesAfter w [] = w ∷ []
-namesAfter w (b ∷ s) = if eqb b 32 then w ∷ namesAfter [] s else namesAfter (w ++ b ∷ []) s
+namesAfter w (b ∷ s) = if eqb b (byte " ") then w ∷ namesAfter [] s else namesAfter (w ++ b ∷ []) s
 
 -- "n names, one space between, none at the ends": a space at an end or a double one leaves a name of no bytes
 unfoldable pub namesIn : List ℕ → List (List ℕ)

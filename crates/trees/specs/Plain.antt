@@ -2,13 +2,18 @@
 --
 --   if b then x else y    x where the test b passes, y where it fails
 --   every p xs            every member of xs passes the test p
---   keep p xs             the members of xs that pass, in their order
+--   keep p xs             the members of xs that pass, in their order; how many pass is its length
 --   member m xs           the number m is in the list xs
+--   lacking a b           the members of a that b lacks, in their order
 --   sameBytes v w         two runs of bytes are equal, byte by byte
 --   inNames w ws          the run of bytes w is in the list ws
+--   bytes t, byte t       the bytes of a quoted text; the byte of a quoted character
 --   Answer A              a call's answer: refused with a number of the table, or what it gives
 use Prim.Native.Nat.{ℕ}
-use mathlib.Core.Bool.{Bool, true, false, _&&_, _||_}
+use Prim.Native.String.{String}
+use Prim.Native.String as text
+use Prim.Native.Char.{code}
+use mathlib.Core.Bool.{Bool, true, false, _&&_, _||_, not}
 use mathlib.Core.List.{List, [], _∷_}
 use lib.Dec.{eqb}
 
@@ -29,6 +34,10 @@ unfoldable pub member : ℕ → List ℕ → Bool
 member m [] = false
 member m (x ∷ xs) = eqb m x || member m xs
 
+unfoldable pub lacking : List ℕ → List ℕ → List ℕ
+unfolding keep member
+lacking a b = keep (λ m. not (member m b)) a
+
 unfoldable pub sameBytes : List ℕ → List ℕ → Bool
 sameBytes [] [] = true
 sameBytes [] (y ∷ ys) = false
@@ -39,6 +48,15 @@ unfoldable pub inNames : List ℕ → List (List ℕ) → Bool
 unfolding sameBytes
 inNames w [] = false
 inNames w (v ∷ vs) = sameBytes v w || inNames w vs
+
+-- texts of ASCII characters, each of which is one byte
+unfoldable pub bytes : String → List ℕ
+bytes text.[] = []
+bytes (text._∷_ c s) = code c ∷ bytes s
+
+abbrev pub byte : String → ℕ
+byte text.[] = 0
+byte (text._∷_ c s) = code c
 
 -- "A refusal answers its number"
 pub data Answer (A : Type 0) : Type 0 where

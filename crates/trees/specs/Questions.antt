@@ -9,8 +9,8 @@
 --   collisionsOf            the collision number
 --   strictOf, majorityOf    the consensus trees, written
 --   writtenOf               an accepted tree, written
-use Prim.Native.Nat.{ℕ, zero}
-use mathlib.Core.Bool.{Bool, _||_}
+use Prim.Native.Nat.{ℕ}
+use mathlib.Core.Bool.{_||_}
 use mathlib.Core.List.{List, [], map}
 use lib.Dec.{ltb, eqb}
 use lib.ListN.{length, getD}

@@ -5,7 +5,6 @@
 --   readNodes f d ss  the nodes at the front of ss, with commas between
 --   reading s         the tree that the text s is, or nothing
 use Prim.Native.Nat.{ℕ, zero, suc, _*_}
-use mathlib.Core.Bool.{Bool, true, false}
 use mathlib.Core.List.{List, [], _∷_}
 use mathlib.Core.Option.{Option, none, some}
 use lib.Dec.{leb}

@@ -1,11 +1,11 @@
 -- Runs of calls: pieces fed to lanes, and closings, one after another.
 --
 --   Call                 feed l p: the piece p to lane l; close l: closing lane l
---   Heard                what a call answers: fed, with how many bytes it took and the answer; or closed, with the answer
+--   Heard                what a call answers: fed, with how many bytes it took and the answer; or closedLane, with the answer
 --   answers h cs         what the calls cs answer, in order, on the collection h
 --   ending h cs          what is held after them
---   Verdict              an answer that is not "more wanted", without the number of bytes taken
---   verdicts hs          the verdicts among the answers hs, in order
+--   Final                a final answer: one that is not "more wanted", without the number of bytes taken
+--   finals hs            the final answers among the answers hs, in order
 --   pendingAfter us cs   for each lane, the bytes that are pending after the calls cs, if before them us are
 --   wholeTexts n cs      the calls cs on n lanes with every text fed whole: at its semicolon, or at its lane's closing
 --   onLane g c           the call c, on lane g l in place of l
@@ -15,6 +15,7 @@ use mathlib.Core.List.{List, [], _∷_, _++_}
 use lib.Dec.{ltb}
 use lib.ListN.{length, getD, set, replicate}
 use Rattle.trees.specs.Plain.{if_then_else_, member, Answer, refused, gives}
+use Rattle.trees.specs.Text.{semicolon}
 use Rattle.trees.specs.Held.{Held, Progress, moreWanted, accepted, beforeSemicolon, feeding, closing}
 
 -- ---- calls and what they answer
@@ -25,12 +26,12 @@ pub data Call : Type 0 where
 
 pub data Heard : Type 0 where
   fed : ℕ → Answer Progress → Heard
-  closed : Answer (Unit {0}) → Heard
+  closedLane : Answer (Unit {0}) → Heard
 
 unfoldable pub answer : Held → Call → Heard
 unfolding feeding closing
 answer h (feed l p) = fed (feeding h l p .taken) (feeding h l p .answer)
-answer h (close l) = closed (closing h l .answer)
+answer h (close l) = closedLane (closing h l .answer)
 
 unfoldable pub next : Held → Call → Held
 unfolding feeding closing
@@ -47,21 +48,21 @@ unfolding next
 ending h [] = h
 ending h (c ∷ cs) = ending (next h c) cs
 
--- ---- verdicts
+-- ---- final answers
 
 -- "accepted, with the tree's number"; "refused, with a number"; what a closing answers
-pub data Verdict : Type 0 where
-  acceptedAs : ℕ → Verdict
-  refusedWith : ℕ → Verdict
-  closedWith : Answer (Unit {0}) → Verdict
+pub data Final : Type 0 where
+  acceptedAs : ℕ → Final
+  refusedWith : ℕ → Final
+  closedWith : Answer (Unit {0}) → Final
 
 -- every answer but "more wanted"
-unfoldable pub verdicts : List Heard → List Verdict
-verdicts [] = []
-verdicts (fed n (gives moreWanted) ∷ hs) = verdicts hs
-verdicts (fed n (gives (accepted t)) ∷ hs) = acceptedAs t ∷ verdicts hs
-verdicts (fed n (refused k) ∷ hs) = refusedWith k ∷ verdicts hs
-verdicts (closed a ∷ hs) = closedWith a ∷ verdicts hs
+unfoldable pub finals : List Heard → List Final
+finals [] = []
+finals (fed n (gives moreWanted) ∷ hs) = finals hs
+finals (fed n (gives (accepted t)) ∷ hs) = acceptedAs t ∷ finals hs
+finals (fed n (refused k) ∷ hs) = refusedWith k ∷ finals hs
+finals (closedLane a ∷ hs) = closedWith a ∷ finals hs
 
 -- ---- whole texts
 
@@ -69,7 +70,7 @@ verdicts (closed a ∷ hs) = closedWith a ∷ verdicts hs
 unfoldable pub pendingAfter : List (List ℕ) → List Call → List (List ℕ)
 unfolding member
 pendingAfter pending [] = pending
-pendingAfter pending (feed l p ∷ cs) = pendingAfter (set pending l (if member 59 p then [] else getD pending l [] ++ p)) cs
+pendingAfter pending (feed l p ∷ cs) = pendingAfter (set pending l (if member semicolon p then [] else getD pending l [] ++ p)) cs
 pendingAfter pending (close l ∷ cs) = pendingAfter (set pending l []) cs
 
 -- A piece with a semicolon ends a text, which is fed whole; one without only adds to the pending bytes. A closing finds them all fed.
@@ -79,7 +80,7 @@ unfolding member beforeSemicolon
 textsAfter pending [] = []
 textsAfter pending (feed l p ∷ cs) =
     if ltb l (length pending) then
-    if member 59 p then feed l (getD pending l [] ++ beforeSemicolon p ++ 59 ∷ []) ∷ textsAfter (set pending l []) cs
+    if member semicolon p then feed l (getD pending l [] ++ beforeSemicolon p ++ semicolon ∷ []) ∷ textsAfter (set pending l []) cs
     else textsAfter (set pending l (getD pending l [] ++ p)) cs
     else feed l p ∷ textsAfter pending cs
 textsAfter pending (close l ∷ cs) =

@@ -1,31 +1,23 @@
 -- The samples S1 to S14 of document 01, as one table, and the theorem that the definitions give what it says.
 -- Each row shows the sample's text, or masks, and the answer as the document prints it.
 --
---   bytes t           the bytes of a quoted text
 --   collection ns ts  the collection over the names ns, fed with the texts ts one after another
 --   Asked, Said       what a sample asks, and what is said of it
 --   said a            what the definitions say
 --   table             the samples
 use Prim.Native.Nat.{ℕ}
 use Prim.Native.String.{String}
-use Prim.Native.String as text
-use Prim.Native.Char.{code}
 use mathlib.Core.Bool.{Bool, true, false}
 use mathlib.Core.List.{List, [], _∷_, map}
 use mathlib.Core.Path.{_≡_, refl}
 use lib.ListN.{length, replicate}
-use Rattle.trees.specs.Plain.{Answer, refused, gives}
+use Rattle.trees.specs.Plain.{bytes, Answer, refused, gives}
 use Rattle.trees.specs.Mask.{agree}
 use Rattle.trees.specs.Names.{namesIn}
 use Rattle.trees.specs.Consensus.{majority}
 use Rattle.trees.specs.Opening.{Opening}
 use Rattle.trees.specs.Held.{Held, Progress, opened, feeding}
 use Rattle.trees.specs.Questions.{treeNumber, oneSidedOf, doubledOf, writtenOf}
-
--- the bytes of a text of ASCII characters
-unfoldable pub bytes : String → List ℕ
-bytes text.[] = []
-bytes (text._∷_ c s) = code c ∷ bytes s
 
 -- an opening over the names: one lane, four trees, eight splits, one place, all constants 0
 unfoldable pub over : List (List ℕ) → Opening
@@ -55,17 +47,17 @@ pub data Asked : Type 0 where
   the-written : String → String → Asked
 
 pub data Said : Type 0 where
-  has : List ℕ → Said
+  has-splits : List ℕ → Said
   is : ℕ → Said
-  apart : ℕ → ℕ → ℕ → Said
+  are-apart : ℕ → ℕ → ℕ → Said
   agrees : Bool → Said
   reads : List ℕ → Said
   nothing : Said
 
 -- an answer, as the document would say it
-unfoldable pub hasOr : Answer (List ℕ) → Said
-hasOr (refused k) = is k
-hasOr (gives ms) = has ms
+unfoldable pub splitsOr : Answer (List ℕ) → Said
+splitsOr (refused k) = is k
+splitsOr (gives ms) = has-splits ms
 
 unfoldable pub isOr : Answer Progress → Said
 isOr (refused k) = is k
@@ -75,19 +67,19 @@ unfoldable pub readsOr : Answer (List ℕ) → Said
 readsOr (refused k) = is k
 readsOr (gives s) = reads s
 
-unfoldable pub apartOr : Answer ℕ → Answer ℕ → Answer ℕ → Said
-apartOr (refused k) b c = is k
-apartOr (gives a) (refused k) c = is k
-apartOr (gives a) (gives b) (refused k) = is k
-apartOr (gives a) (gives b) (gives c) = apart a b c
+unfoldable pub distancesOr : Answer ℕ → Answer ℕ → Answer ℕ → Said
+distancesOr (refused k) b c = is k
+distancesOr (gives a) (refused k) c = is k
+distancesOr (gives a) (gives b) (refused k) = is k
+distancesOr (gives a) (gives b) (gives c) = are-apart a b c
 
 unfoldable pub said : Asked → Said
-unfolding collection feeding bytes treeNumber oneSidedOf doubledOf agree majority writtenOf hasOr isOr readsOr apartOr
-said (the-splits ns t) = hasOr (treeNumber (collection ns (t ∷ [])) 0 61)
+unfolding collection feeding bytes treeNumber oneSidedOf doubledOf agree majority writtenOf splitsOr isOr readsOr distancesOr
+said (the-splits ns t) = splitsOr (treeNumber (collection ns (t ∷ [])) 0 61)
 said (the-verdict ns t) = isOr (feeding (collection ns []) 0 (bytes t) .answer)
-said (the-distances ns t u) = let h = collection ns (t ∷ u ∷ []) in apartOr (oneSidedOf h 0 1) (oneSidedOf h 1 0) (doubledOf h 0 1)
+said (the-distances ns t u) = let h = collection ns (t ∷ u ∷ []) in distancesOr (oneSidedOf h 0 1) (oneSidedOf h 1 0) (doubledOf h 0 1)
 said (the-agreement a b) = agrees (agree a b)
-said (the-majority ns ts) = has (majority (collection ns ts .trees))
+said (the-majority ns ts) = has-splits (majority (collection ns ts .trees))
 said (the-written ns t) = readsOr (writtenOf (collection ns (t ∷ [])) 0 2236)
 
 pub record Sample : Type 0 where
@@ -113,21 +105,21 @@ T2 = "((D,E),(C,(A,B)));"
 unfoldable pub table : List Sample
 unfolding bytes
 table =
-    record { name = "S1"; asked = the-splits AtoE T0; says = has (24 ∷ 28 ∷ []) }
-    ∷ record { name = "S2"; asked = the-splits AtoE T1; says = has (20 ∷ 28 ∷ []) }
-    ∷ record { name = "S3"; asked = the-splits AtoE T2; says = has (24 ∷ 28 ∷ []) }
-    ∷ record { name = "S4"; asked = the-distances AtoE T0 T1; says = apart 1 1 2 }
-    ∷ record { name = "S5"; asked = the-splits AtoE "((A,B),C,D,E);"; says = has (28 ∷ []) }
-    ∷ record { name = "S5"; asked = the-distances AtoE "((A,B),C,D,E);" T0; says = apart 0 1 1 }
+    record { name = "S1"; asked = the-splits AtoE T0; says = has-splits (24 ∷ 28 ∷ []) }
+    ∷ record { name = "S2"; asked = the-splits AtoE T1; says = has-splits (20 ∷ 28 ∷ []) }
+    ∷ record { name = "S3"; asked = the-splits AtoE T2; says = has-splits (24 ∷ 28 ∷ []) }
+    ∷ record { name = "S4"; asked = the-distances AtoE T0 T1; says = are-apart 1 1 2 }
+    ∷ record { name = "S5"; asked = the-splits AtoE "((A,B),C,D,E);"; says = has-splits (28 ∷ []) }
+    ∷ record { name = "S5"; asked = the-distances AtoE "((A,B),C,D,E);" T0; says = are-apart 0 1 1 }
     ∷ record { name = "S6"; asked = the-agreement 20 24; says = agrees false }
     ∷ record { name = "S7"; asked = the-agreement 24 28; says = agrees true }
-    ∷ record { name = "S8"; asked = the-majority AtoE (T0 ∷ T1 ∷ T2 ∷ []); says = has (24 ∷ 28 ∷ []) }
-    ∷ record { name = "S9"; asked = the-majority AtoE (T0 ∷ T1 ∷ []); says = has (28 ∷ []) }
+    ∷ record { name = "S8"; asked = the-majority AtoE (T0 ∷ T1 ∷ T2 ∷ []); says = has-splits (24 ∷ 28 ∷ []) }
+    ∷ record { name = "S9"; asked = the-majority AtoE (T0 ∷ T1 ∷ []); says = has-splits (28 ∷ []) }
     ∷ record { name = "S10"; asked = the-verdict AtoE "((A),B,C,D,E);"; says = is 7 }
     ∷ record { name = "S11"; asked = the-verdict AtoE "(A,A,C,D,F);"; says = is 9 }
     ∷ record { name = "S12"; asked = the-verdict AtoE "(A,B,C,D);"; says = is 10 }
-    ∷ record { name = "S13"; asked = the-splits AtoD "((A,B),(C,D));"; says = has (12 ∷ []) }
-    ∷ record { name = "S14"; asked = the-splits AtoD "(A,(B,C,D));"; says = has [] }
+    ∷ record { name = "S13"; asked = the-splits AtoD "((A,B),(C,D));"; says = has-splits (12 ∷ []) }
+    ∷ record { name = "S14"; asked = the-splits AtoD "(A,(B,C,D));"; says = has-splits [] }
     ∷ record { name = "S14"; asked = the-written AtoD "(A,(B,C,D));"; says = reads (bytes "(A,B,C,D);") }
     ∷ []
 

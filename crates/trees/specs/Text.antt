@@ -1,5 +1,6 @@
 -- The bytes of a text, and what they are read as. A text is every byte since the last semicolon or closing.
 --
+--   semicolon         the byte that ends a text
 --   isBlank b         a blank
 --   isLabelByte b     a label byte
 --   Symbol            what a text is made of: a token, a bracket, a comma, a colon; or a stray byte, which no tree has
@@ -9,17 +10,20 @@ use Prim.Native.Nat.{ℕ}
 use mathlib.Core.Bool.{Bool, _&&_, not}
 use mathlib.Core.List.{List, [], _∷_, _++_}
 use lib.Dec.{leb, eqb}
-use Rattle.trees.specs.Plain.{if_then_else_, member}
+use Rattle.trees.specs.Plain.{if_then_else_, member, bytes, byte}
+
+abbrev pub semicolon : ℕ
+semicolon = byte ";"
 
 -- "Blanks are space, tab, CR and LF"
 unfoldable pub isBlank : ℕ → Bool
-unfolding member
-isBlank b = member b (32 ∷ 9 ∷ 13 ∷ 10 ∷ [])
+unfolding member bytes
+isBlank b = member b (bytes " \t\r\n")
 
 -- "33 to 126, without `( ) [ ] ' : ; ,`"
 unfoldable pub isLabelByte : ℕ → Bool
-unfolding member
-isLabelByte b = leb 33 b && (leb b 126 && not (member b (40 ∷ 41 ∷ 91 ∷ 93 ∷ 39 ∷ 58 ∷ 59 ∷ 44 ∷ [])))
+unfolding member bytes
+isLabelByte b = leb 33 b && (leb b 126 && not (member b (bytes "()[]':;,")))
 
 pub data Symbol : Type 0 where
   openBracket closeBracket comma colon stray : Symbol
@@ -34,10 +38,10 @@ unfoldable pub kind : ℕ → Kind
 unfolding isBlank isLabelByte
 kind b =
     if isBlank b then blank
-    else if eqb b 40 then mark openBracket
-    else if eqb b 41 then mark closeBracket
-    else if eqb b 44 then mark comma
-    else if eqb b 58 then mark colon
+    else if eqb b (byte "(") then mark openBracket
+    else if eqb b (byte ")") then mark closeBracket
+    else if eqb b (byte ",") then mark comma
+    else if eqb b (byte ":") then mark colon
     else if isLabelByte b then label
     else mark stray
 

@@ -1,22 +1,21 @@
--- What "whole" asks of what a collection holds. What it asks of the lent bytes (counts, hash places, identifiers, size) is said where
--- the bytes are: in the crate of the store.
+-- What "whole" asks of a tree's splits, of a lane and of an opening. What it asks of the lent bytes (counts, hash places, identifiers,
+-- rooms, size) is said where the bytes are: in crate `store`, by `wholeAt`, which cites these.
 --
 --   rising l           each mask is greater than the one before
 --   agreeInPairs l     every two masks of l agree
 --   goodTree n t       a tree's splits: proper for n, rising, agreeing in pairs
 --   goodLane l         a lane's text has a length in range
---   whole h            all that is held is in order
+--   goodOpening o      numbers, constants and names pass the opening checks
 use Prim.Native.Nat.{ℕ}
-use mathlib.Core.Bool.{Bool, true, false, _&&_}
+use mathlib.Core.Bool.{Bool, true, _&&_}
 use mathlib.Core.List.{List, [], _∷_}
-use lib.Dec.{leb, ltb, eqb}
+use lib.Dec.{leb, ltb}
 use lib.ListN.{length}
 use Rattle.trees.specs.Plain.{every}
 use Rattle.trees.specs.Mask.{agree, proper}
 use Rattle.trees.specs.Names.{goodNames}
-use Rattle.trees.specs.Consensus.{recorded}
 use Rattle.trees.specs.Opening.{Opening, inRange, goodConstants}
-use Rattle.trees.specs.Held.{Held, Lane, holding, overrun, mostText}
+use Rattle.trees.specs.Held.{Lane, holding, overrun, mostText}
 
 unfoldable pub rising : List ℕ → Bool
 unfolding every
@@ -42,13 +41,3 @@ goodLane (holding s) = leb (length s) mostText
 unfoldable pub goodOpening : Opening → Bool
 unfolding inRange goodConstants goodNames
 goodOpening o = inRange (o .numbers) && (goodConstants (o .numbers) (o .first) (o .second) && goodNames (o .numbers .taxa) (o .names))
-
--- "rooms hold": trees and splits are no more than their rooms; and there are as many lanes as the opening says
-unfoldable pub whole : Held → Bool
-unfolding every goodOpening goodTree goodLane recorded
-whole h =
-    goodOpening (h .opening)
-    && (every (goodTree (h .opening .numbers .taxa)) (h .trees)
-    && (leb (length (h .trees)) (h .opening .numbers .treeRoom)
-    && (leb (length (recorded (h .trees))) (h .opening .numbers .splitRoom)
-    && (eqb (length (h .texts)) (h .opening .numbers .lanes) && every goodLane (h .texts)))))

@@ -11,7 +11,8 @@ use mathlib.Core.Bool.{true, false, _&&_}
 use mathlib.Core.List.{List, [], _∷_, _++_}
 use lib.Dec.{ltb, eqb}
 use lib.ListN.{length, getD}
-use Rattle.trees.specs.Plain.{if_then_else_}
+use Rattle.trees.specs.Plain.{if_then_else_, byte}
+use Rattle.trees.specs.Text.{semicolon}
 use Rattle.trees.specs.Mask.{has, everyTaxon, without, lowest}
 use Rattle.trees.specs.Tree.{Nodes, nil, leaf, inner}
 
@@ -53,17 +54,17 @@ treeOf ns s = let all = everyTaxon (length ns) in inner (branches (suc (all + al
 -- a comma, where a node follows
 unfoldable pub parted : Nodes → List ℕ → List ℕ
 parted nil s = s
-parted (leaf w r) s = 44 ∷ s
-parted (inner c r) s = 44 ∷ s
+parted (leaf w r) s = byte "," ∷ s
+parted (inner c r) s = byte "," ∷ s
 
 -- "no blanks outside names, no lengths or inner labels"
 unfoldable pub shown : Nodes → List ℕ
 unfolding parted
 shown nil = []
 shown (leaf w r) = w ++ parted r (shown r)
-shown (inner c r) = 40 ∷ (shown c ++ (41 ∷ parted r (shown r)))
+shown (inner c r) = byte "(" ∷ (shown c ++ (byte ")" ∷ parted r (shown r)))
 
 -- "and a semicolon"
 unfoldable pub written : List (List ℕ) → List ℕ → List ℕ
 unfolding treeOf shown
-written ns s = shown (treeOf ns s) ++ 59 ∷ []
+written ns s = shown (treeOf ns s) ++ semicolon ∷ []

@@ -2,7 +2,7 @@
 use native.Mathlib.Omega.{arith}
 use lib.ListN.{length-take}
 use borrow.Author.Needs.{needs}
-use Rattle.trees.specs.Samples.{bytes}
+use Rattle.trees.specs.Plain.{bytes}
 use Rattle.sheet.specs.LineLaws.{shown-fits, answer-given, answer-none}
 use Rattle.sheet.proofs.lines.put_answer.Statement.{statement}
 use Rattle.sheet.proofs.lines.put_answer.Tie as tie

@@ -3,7 +3,7 @@ use Prim.Native.Nat.{ℕ}
 use native.Mathlib.Omega.{arith}
 use lib.ListN.{replicate, length-replicate}
 use borrow.Author.Needs.{needs}
-use Rattle.trees.specs.Samples.{bytes}
+use Rattle.trees.specs.Plain.{bytes}
 use Rattle.sheet.specs.LineLaws.{strict-shown, strict-put}
 use Rattle.sheet.proofs.lines.strict_line.Statement.{statement}
 use Rattle.sheet.proofs.lines.strict_line.Tie as tie
