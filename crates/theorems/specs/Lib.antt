@@ -30,3 +30,9 @@ pub mod RunLaws
 pub mod OutcomeLaws
 pub mod LaneLaws
 pub mod HashFree
+pub mod Refusing
+pub mod FaultLaws
+pub mod RefusingLaws
+pub mod RefusalNumberLaws
+pub mod EdgeLaws
+pub mod RootLaws
