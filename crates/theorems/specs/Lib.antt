@@ -8,7 +8,9 @@ pub mod MaskLaws
 pub mod SplitLaws
 pub mod VerdictLaws
 pub mod DistanceLaws
+pub mod MatrixLaws
 pub mod ConsensusLaws
+pub mod CountLaws
 pub mod HashLaws
 pub mod OpeningLaws
 pub mod NameLaws
@@ -22,6 +24,7 @@ pub mod WrittenLaws
 pub mod WrittenFedLaws
 pub mod RecordedLaws
 pub mod HeldLaws
+pub mod MetricLaws
 pub mod Alike
 pub mod AlikeLaws
 pub mod OwnLaneLaws
