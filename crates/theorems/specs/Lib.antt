@@ -38,4 +38,5 @@ pub mod FaultLaws
 pub mod RefusingLaws
 pub mod RefusalNumberLaws
 pub mod EdgeLaws
-pub mod RootLaws
+pub mod Unrooted
+pub mod UnrootedLaws
