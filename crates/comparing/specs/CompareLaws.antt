@@ -21,7 +21,7 @@ use Rattle.head.specs.Head.{numbersAt, firstAt, secondAt, openingAt}
 use Rattle.layout.specs.Store.{treesHeldAt, treeAt, masksAt, heldAt}
 use Rattle.store.specs.WholeStore.{wholeAt}
 use Rattle.store.specs.RecordedAtLaws.{trees-length, tree-at, recorded-at}
-use Rattle.distances.specs.MatrixLaws.{matrix-length}
+use Rattle.theorems.specs.MatrixLaws.{matrix-length}
 use Rattle.distances.specs.WholeTreeLaws.{trees-few}
 use Rattle.distances.specs.EntryLaws.{square-few}
 use Rattle.table.specs.declared.Number.the-variants as number

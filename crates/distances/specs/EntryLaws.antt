@@ -22,7 +22,7 @@ use Rattle.store.specs.UpToLaws.{less-or-not}
 use Rattle.store.specs.ChainTests.{equal-or-not}
 use Rattle.store.specs.RecordedAtLaws.{trees-length, tree-at}
 use Rattle.distances.specs.Entries.{Written, Filled}
-use Rattle.distances.specs.MatrixLaws.{matrix-length, matrix-at}
+use Rattle.theorems.specs.MatrixLaws.{matrix-length, matrix-at}
 
 -- ---- where an entry is
 

@@ -2,6 +2,7 @@
 --
 --   oneSided-nil, oneSided-step, oneSided-has, oneSided-lacks     the one-sided number of no splits, and of one split more
 --   doubled-sym          it is symmetric
+--   doubled-self         it is 0 for a tree and itself
 --   doubled-zero         it is 0 exactly for equal split sets
 --   doubled-triangle     the way over a third tree is no shorter
 use Prim.Native.Nat.{ℕ, zero, suc, _+_, _≤_, _<_}
@@ -63,6 +64,10 @@ zero-within (m ∷ a) b z y h = go (member m b) refl h (λ k. zero-within a b (o
 pub within-zero : (a b : List ℕ) → ((y : ℕ) → Mem y a → Mem y b) → oneSided a b ≡ 0
 within-zero [] b f = oneSided-nil b
 within-zero (m ∷ a) b f = oneSided-has m a b (mem-member m b (f m (inl refl))) ∙ within-zero a b (λ y h. f y (inr h))
+
+pub doubled-self : (a : List ℕ) → doubled a a ≡ 0
+unfolding doubled
+doubled-self a = ap₂ _+_ (within-zero a a (λ y h. h)) (within-zero a a (λ y h. h))
 
 pub doubled-zero : (a b : List ℕ) → Rising a → Rising b → (doubled a b ≡ 0) ↔ (a ≡ b)
 unfolding doubled

@@ -8,7 +8,9 @@ pub mod MaskLaws
 pub mod SplitLaws
 pub mod VerdictLaws
 pub mod DistanceLaws
+pub mod MatrixLaws
 pub mod ConsensusLaws
+pub mod CountLaws
 pub mod HashLaws
 pub mod OpeningLaws
 pub mod NameLaws
@@ -23,6 +25,7 @@ pub mod WrittenFedLaws
 pub mod RecordedLaws
 pub mod WholeHeld
 pub mod HeldLaws
+pub mod MetricLaws
 pub mod Alike
 pub mod AlikeLaws
 pub mod OwnLaneLaws
@@ -31,3 +34,10 @@ pub mod RunLaws
 pub mod OutcomeLaws
 pub mod LaneLaws
 pub mod HashFree
+pub mod Refusing
+pub mod FaultLaws
+pub mod RefusingLaws
+pub mod RefusalNumberLaws
+pub mod EdgeLaws
+pub mod Unrooted
+pub mod UnrootedLaws

@@ -4,6 +4,7 @@
 --   Constants x f s   both lists are n long, and their constants are in their ranges
 --   Named n ns        n different names
 --   GoodOpening o     all of these
+--   size-most         a store is no larger than document 01 allows
 use Prim.Native.Nat.{ℕ, zero, suc, _+_, _*_, _^_, _≤_, _<_}
 use native.Mathlib.Omega.{arith}
 use mathlib.Core.Path.{_≡_, ap, sym, _∙_, subst}
@@ -14,7 +15,7 @@ use lib.ListN.{length, getD}
 use borrow.Author.Tests.{leb-true, ltb-true, lt-ltb, eqb-true}
 use Rattle.trees.specs.Plain.{every}
 use Rattle.trees.specs.Names.{isName, different, goodNames}
-use Rattle.trees.specs.Opening.{Numbers, Opening, between, inRange, goodConstants}
+use Rattle.trees.specs.Opening.{Numbers, Opening, between, inRange, storeSize, goodConstants}
 use Rattle.trees.specs.Whole.{goodOpening}
 use Rattle.theorems.specs.ListLaws.{and-left, and-right}
 
@@ -71,6 +72,11 @@ in-range x e =
       least-places = m .0;
       most-places = m .1;
     }
+
+-- "at most 64 bytes per split of room, 256 per tree of room, 8,192 per lane and 8,192 besides"
+pub size-most : (x : Numbers) → inRange x ≡ true → storeSize x ≤ 64 * x .splitRoom + 256 * x .treeRoom + 8192 * x .lanes + 8192
+unfolding storeSize
+size-most x e = let r = in-range x e in omega (arith, r .most-places)
 
 -- ---- the constants
 

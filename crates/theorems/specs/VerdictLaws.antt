@@ -56,7 +56,7 @@ module _ (ns : List (List ℕ)) (seen : ℕ) (w : List ℕ) (ws : List (List ℕ
   leaf-new i e f = leaf-step ns seen w ws ∙ ap (leafBy ns seen ws) e ∙ if-false 9 (leafFault ns (seen + 2 ^ i) ws) (off-has seen i f)
 
   -- a leaf without a fault
-  leaf-fine : leafFault ns seen (w ∷ ws) ≡ 0 → (i : ℕ) × (taxonOf ns w ≡ some i) × (On seen i → ⊥) × (leafFault ns (seen + 2 ^ i) ws ≡ 0)
+  pub leaf-fine : leafFault ns seen (w ∷ ws) ≡ 0 → (i : ℕ) × (taxonOf ns w ≡ some i) × (On seen i → ⊥) × (leafFault ns (seen + 2 ^ i) ws ≡ 0)
   leaf-fine z = go (taxonOf ns w) refl (sym (leaf-step ns seen w ws) ∙ z)
     where
       go : (o : Option ℕ) → taxonOf ns w ≡ o → leafBy ns seen ws o ≡ 0 → (i : ℕ) × (taxonOf ns w ≡ some i) × (On seen i → ⊥) × (leafFault ns (seen + 2 ^ i) ws ≡ 0)

@@ -1,7 +1,9 @@
--- Laws of the matrix of distances. Assumes nothing.
+-- Laws of the matrix of distances.
 --
 --   matrix-length     it has an entry for each pair
 --   matrix-at         and each entry is the distance of its pair
+--   matrix-sym        it is symmetric
+--   matrix-diagonal   with a zero diagonal
 use Prim.Native.Nat.{ℕ, zero, suc, _+_, _*_, _<_}
 use native.Mathlib.Nat.{zero-mul, suc-mul, zero-add}
 use native.Mathlib.Omega.{arith}
@@ -10,6 +12,7 @@ use mathlib.Core.List.{List, [], _∷_, map, flatMap}
 use lib.ListN.{length, getD, length-append, List·getD-append}
 use lib.Seq.{getD-append-add}
 use Rattle.trees.specs.Distance.{doubled, matrix}
+use Rattle.theorems.specs.DistanceLaws.{doubled-sym, doubled-self}
 
 module _ (us : List (List ℕ)) where
   abbrev row : List ℕ → List ℕ
@@ -51,3 +54,9 @@ module _ (ts : List (List ℕ)) where
   pub matrix-at : (a b : ℕ) → a < length ts → b < length ts → getD (matrix ts) (a * length ts + b) 0 ≡ doubled (getD ts a []) (getD ts b [])
   unfolding matrix
   matrix-at a b h f = rows-at ts ts a b h f
+
+  pub matrix-sym : (a b : ℕ) → a < length ts → b < length ts → getD (matrix ts) (a * length ts + b) 0 ≡ getD (matrix ts) (b * length ts + a) 0
+  matrix-sym a b h f = matrix-at a b h f ∙ doubled-sym (getD ts a []) (getD ts b []) ∙ sym (matrix-at b a f h)
+
+  pub matrix-diagonal : (a : ℕ) → a < length ts → getD (matrix ts) (a * length ts + a) 0 ≡ 0
+  matrix-diagonal a h = matrix-at a a h h ∙ doubled-self (getD ts a [])

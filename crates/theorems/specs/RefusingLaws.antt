@@ -1,0 +1,234 @@
+-- "A text is refused exactly when a listed fault holds", of what a collection answers to a whole text: 6 to 12.
+--
+--   onText h s               the verdict of the collection h on the whole text s: that on a lane which was empty and took s
+--   refused-exactly          it is the number k exactly when the fault k holds
+--   accepted-exactly         and it gives splits exactly when no fault holds and they are those of the text's tree
+--   refused-once             at most one fault holds
+--   refused-numbers          its number is one of 6 to 12
+--   refused-or-accepted      a fault holds, or none
+--   accepted-unless-refused  accepted exactly when no fault holds
+-- and of the call, a text and its semicolon being fed in one piece to an empty lane:
+--   fed-refused-exactly      feeding refuses with k exactly when the fault k holds
+--   fed-accepted-exactly     it accepts exactly when no fault holds, and the tree's number is that of the trees before
+--   fed-refused-after, fed-accepted-after    what is held then: nothing new; exactly the splits of the text's tree. The lane is empty either way
+--   fed-taken                the text and the semicolon are taken
+use Prim.Native.Nat.{ℕ, suc, _+_, _≤_, _<_}
+use native.Mathlib.Omega.{arith}
+use mathlib.Core.Path.{_≡_, refl, ap, ap₂, sym, _∙_, subst}
+use mathlib.Core.Logic.{_⊎_, inl, inr, _↔_}
+use mathlib.Core.Bool.{Bool, true, false}
+use mathlib.Core.List.{List, [], _∷_, _++_}
+use lib.Dec.{ltb, eqb}
+use lib.ListN.{length}
+use borrow.Author.Tests.{ltb-true, ltb-false, lt-ltb, le-ltb, eqb-true, eqb-false, eq-eqb, ne-eqb}
+use Rattle.trees.specs.Plain.{if_then_else_, Answer, refused, gives}
+use Rattle.trees.specs.Tree.{Nodes, children}
+use Rattle.trees.specs.Splits.{clusters, splitsOf}
+use Rattle.trees.specs.Verdict.{judged}
+use Rattle.trees.specs.Consensus.{recorded}
+use Rattle.trees.specs.Held.{Held, holding, overrun, mostText, laneOf, withLane, withTree, longer, newSplits, roomFor, withRoom, verdict, Progress, accepted, finished, recording, finishing, feeding}
+use Rattle.theorems.specs.ListLaws.{if-true, if-false, Mem, mem-right, mem-member}
+use Rattle.theorems.specs.RisingLaws.{Rising}
+use Rattle.theorems.specs.SplitLaws.{counted-rising}
+use Rattle.theorems.specs.RecordedLaws.{recorded-more}
+use Rattle.theorems.specs.FaultLaws.{fault-numbers-only, Refusal, judged-refuses, judged-accepts}
+use Rattle.theorems.specs.WrittenLaws.{before-semicolon}
+use Rattle.theorems.specs.WrittenFedLaws.{feedingBy, feeding-by}
+use Rattle.theorems.specs.Refusing.{Faultless, TreesFull, splitsWith, Refuses, too-long, no-form, a-leaf, no-tree-room, no-split-room, Accepts}
+
+abbrev pub onText : Held → List ℕ → Answer (List ℕ)
+onText h s = verdict h (longer (holding []) s)
+
+never-both : {A : Type 0} {k : ℕ} {a : A} → refused k ≡ gives a → ⊥
+never-both e = let z : _≡_ {A = ℕ} 0 1 = cc in omega arith
+
+-- ---- room for a tree
+
+pub splits-rising : (ns : List (List ℕ)) (t : Nodes) → Rising (splitsOf ns t)
+unfolding splitsOf
+splits-rising ns t = counted-rising (length ns) (clusters ns (children t))
+
+module _ (h : Held) (t : Nodes) where
+  abbrev ofTree : List ℕ
+  ofTree = splitsOf (h .opening .names) t
+
+  together : length (recorded (h .trees)) + length (newSplits h ofTree) ≡ splitsWith h t
+  unfolding newSplits
+  together = sym (recorded-more (h .trees) ofTree (splits-rising (h .opening .names) t))
+
+  over : ℕ → Answer (List ℕ)
+  over k = if ltb (h .opening .numbers .splitRoom) k then refused 12 else gives ofTree
+
+  room-step : roomFor h ofTree ≡ if eqb (length (h .trees)) (h .opening .numbers .treeRoom) then refused 11 else over (splitsWith h t)
+  unfolding roomFor over
+  room-step = ap (λ (k : ℕ). if eqb (length (h .trees)) (h .opening .numbers .treeRoom) then refused 11 else over k) together
+
+  full-room : TreesFull h → roomFor h ofTree ≡ refused 11
+  full-room e = room-step ∙ if-true (refused 11) (over (splitsWith h t)) (eq-eqb (length (h .trees)) (h .opening .numbers .treeRoom) e)
+
+  free-room : (TreesFull h → ⊥) → roomFor h ofTree ≡ over (splitsWith h t)
+  free-room f = room-step ∙ if-false (refused 11) (over (splitsWith h t)) (ne-eqb (length (h .trees)) (h .opening .numbers .treeRoom) f)
+
+  over-room : h .opening .numbers .splitRoom < splitsWith h t → over (splitsWith h t) ≡ refused 12
+  unfolding over
+  over-room l = if-true (refused 12) (gives ofTree) (lt-ltb (h .opening .numbers .splitRoom) (splitsWith h t) l)
+
+  within-room : splitsWith h t ≤ h .opening .numbers .splitRoom → over (splitsWith h t) ≡ gives ofTree
+  unfolding over
+  within-room l = if-false (refused 12) (gives ofTree) (le-ltb (h .opening .numbers .splitRoom) (splitsWith h t) l)
+
+-- ---- a fault that holds is the verdict
+
+module _ (h : Held) (s : List ℕ) where
+  long-text : mostText < length s → onText h s ≡ refused 6
+  unfolding longer verdict
+  long-text l = ap (verdict h) (if-true overrun (holding s) (lt-ltb mostText (length s) l))
+
+  short-text : length s ≤ mostText → onText h s ≡ withRoom h (judged (h .opening .names) s)
+  unfolding longer verdict
+  short-text l = ap (verdict h) (if-false overrun (holding s) (le-ltb mostText (length s) l))
+
+  refused-text : length s ≤ mostText → (k : ℕ) → Refusal (h .opening .names) s k → onText h s ≡ refused k
+  unfolding withRoom
+  refused-text l k r = short-text l ∙ ap (withRoom h) (judged-refuses (h .opening .names) s k .1 r)
+
+  faultless-text : (t : Nodes) → Faultless h s t → onText h s ≡ roomFor h (splitsOf (h .opening .names) t)
+  unfolding withRoom
+  faultless-text t f = short-text (f .short) ∙ ap (withRoom h) (judged-accepts (h .opening .names) s (splitsOf (h .opening .names) t) .1 (t, f .tree, f .leaves-fine, refl))
+
+  refuses-answer : {k : ℕ} → Refuses h s k → onText h s ≡ refused k
+  refuses-answer (too-long l) = long-text l
+  refuses-answer (no-form l f) = refused-text l 7 (inl (refl, f))
+  refuses-answer (a-leaf {t} {k} l i f) = refused-text l k (inr (t, i, f))
+  refuses-answer (no-tree-room {t} f e) = faultless-text t f ∙ full-room h t e
+  refuses-answer (no-split-room {t} f e l) = faultless-text t f ∙ free-room h t e ∙ over-room h t l
+
+  accepts-answer : {ms : List ℕ} → Accepts h s ms → onText h s ≡ gives ms
+  accepts-answer a = faultless-text (a .tree) (a .faultless) ∙ free-room h (a .tree) (a .tree-room) ∙ within-room h (a .tree) (a .split-room) ∙ ap gives (sym (a .splits))
+
+  -- ---- the verdict is a fault that holds, or none does
+
+  abbrev Answers : Answer (List ℕ) → Type 0
+  Answers (refused k) = Refuses h s k
+  Answers (gives ms) = Accepts h s ms
+
+  room-answers : (t : Nodes) → Faultless h s t → Answers (roomFor h (splitsOf (h .opening .names) t))
+  room-answers t f = full (eqb (length (h .trees)) (h .opening .numbers .treeRoom)) refl
+    where
+      free : (TreesFull h → ⊥) → (b : Bool) → ltb (h .opening .numbers .splitRoom) (splitsWith h t) ≡ b → Answers (over h t (splitsWith h t))
+      free n true e = let l = ltb-true _ _ e in subst Answers (sym (over-room h t l)) (no-split-room f n l)
+      free n false e = let l = ltb-false _ _ e in subst Answers (sym (within-room h t l)) (record { tree = t; faultless = f; tree-room = n; split-room = l; splits = refl })
+
+      full : (b : Bool) → eqb (length (h .trees)) (h .opening .numbers .treeRoom) ≡ b → Answers (roomFor h (splitsOf (h .opening .names) t))
+      full true e = let q = eqb-true _ _ e in subst Answers (sym (full-room h t q)) (no-tree-room f q)
+      full false e = let n = eqb-false _ _ e in subst Answers (sym (free-room h t n)) (free n (ltb (h .opening .numbers .splitRoom) (splitsWith h t)) refl)
+
+  judged-answers : length s ≤ mostText → (a : Answer (List ℕ)) → judged (h .opening .names) s ≡ a → Answers (withRoom h a)
+  unfolding withRoom
+  judged-answers l (refused k) e = go (judged-refuses (h .opening .names) s k .0 e)
+    where
+      go : Refusal (h .opening .names) s k → Refuses h s k
+      go (inl r) = subst (Refuses h s) (sym (r .0)) (no-form l (r .1))
+      go (inr r) = a-leaf l (r .1) (r .2)
+  judged-answers l (gives ms) e =
+      let r = judged-accepts (h .opening .names) s ms .0 e in
+      subst (λ (x : List ℕ). Answers (roomFor h x)) (sym (r .3)) (room-answers (r .0) (record { short = l; tree = r .1; leaves-fine = r .2 }))
+
+  text-answers : Answers (onText h s)
+  text-answers = go (ltb mostText (length s)) refl
+    where
+      go : (b : Bool) → ltb mostText (length s) ≡ b → Answers (onText h s)
+      go true e = let l = ltb-true mostText (length s) e in subst Answers (sym (long-text l)) (too-long l)
+      go false e = let l = ltb-false mostText (length s) e in subst Answers (sym (short-text l)) (judged-answers l (judged (h .opening .names) s) refl)
+
+  -- ---- exactly
+
+  pub refused-exactly : (k : ℕ) → (onText h s ≡ refused k) ↔ Refuses h s k
+  refused-exactly k = (λ e. subst Answers e text-answers, λ r. refuses-answer r)
+
+  pub accepted-exactly : (ms : List ℕ) → (onText h s ≡ gives ms) ↔ Accepts h s ms
+  accepted-exactly ms = (λ e. subst Answers e text-answers, λ a. accepts-answer a)
+
+  pub refused-or-accepted : ((k : ℕ) × Refuses h s k) ⊎ ((ms : List ℕ) × Accepts h s ms)
+  refused-or-accepted = go (onText h s) text-answers
+    where
+      go : (a : Answer (List ℕ)) → Answers a → ((k : ℕ) × Refuses h s k) ⊎ ((ms : List ℕ) × Accepts h s ms)
+      go (refused k) r = inl (k, r)
+      go (gives ms) a = inr (ms, a)
+
+  same-number : (j k : ℕ) → _≡_ {A = Answer (List ℕ)} (refused j) (refused k) → j ≡ k
+  same-number j k e = cc
+
+  pub refused-once : (j k : ℕ) → Refuses h s j → Refuses h s k → j ≡ k
+  refused-once j k p q = same-number j k (sym (refuses-answer p) ∙ refuses-answer q)
+
+  not-both : (k : ℕ) (ms : List ℕ) → Refuses h s k → Accepts h s ms → ⊥
+  not-both k ms r a = never-both (sym (refuses-answer r) ∙ accepts-answer a)
+
+  pub accepted-unless-refused : ((ms : List ℕ) × Accepts h s ms) ↔ ((k : ℕ) → Refuses h s k → ⊥)
+  accepted-unless-refused = (λ a k r. not-both k (a .0) r (a .1), λ f. go f refused-or-accepted)
+    where
+      go : ((k : ℕ) → Refuses h s k → ⊥) → ((k : ℕ) × Refuses h s k) ⊎ ((ms : List ℕ) × Accepts h s ms) → (ms : List ℕ) × Accepts h s ms
+      go f (inl r) = absurd (f (r .0) (r .1))
+      go f (inr a) = a
+
+  pub refused-numbers : {k : ℕ} → Refuses h s k → (6 ≤ k) × (k ≤ 12)
+  refused-numbers (too-long l) = (omega arith, omega arith)
+  refused-numbers (no-form l f) = (omega arith, omega arith)
+  refused-numbers (a-leaf l i f) = let n = fault-numbers-only (h .opening .names) f in (omega arith, omega arith)
+  refused-numbers (no-tree-room f e) = (omega arith, omega arith)
+  refused-numbers (no-split-room f e l) = (omega arith, omega arith)
+
+-- ---- the call: a text and its semicolon
+
+finished-refused : (h : Held) (v : Answer (List ℕ)) (k : ℕ) → (finished h v ≡ refused k) ↔ (v ≡ refused k)
+unfolding finished
+finished-refused h (refused j) k = (λ e. let q : j ≡ k = cc in ap refused q, λ e. ap (finished h) e)
+finished-refused h (gives ms) k = (λ e. cc, λ e. cc)
+
+module _ (h : Held) (l : ℕ) (lane : l < h .opening .numbers .lanes) (empty : laneOf h l ≡ holding []) (s : List ℕ) (one : Mem 59 s → ⊥) where
+  fed-finishes : feeding h l (s ++ 59 ∷ []) ≡ finishing h l (suc (length s)) (onText h s)
+  fed-finishes =
+      feeding-by h l (s ++ 59 ∷ [])
+      ∙ ap₂ (λ b c. feedingBy b c h l (s ++ 59 ∷ [])) (lt-ltb l (h .opening .numbers .lanes) lane) (mem-member 59 (s ++ 59 ∷ []) (mem-right 59 s (59 ∷ []) (inl refl)))
+      ∙ ap₂ (λ x w. finishing h l (suc (length w)) (verdict h (longer x w))) empty (before-semicolon s one)
+
+  pub fed-taken : feeding h l (s ++ 59 ∷ []) .taken ≡ suc (length s)
+  unfolding finishing
+  fed-taken = ap (λ f. f .taken) fed-finishes
+
+  fed-answer : feeding h l (s ++ 59 ∷ []) .answer ≡ finished h (onText h s)
+  unfolding finishing
+  fed-answer = ap (λ f. f .answer) fed-finishes
+
+  fed-after : feeding h l (s ++ 59 ∷ []) .after ≡ withLane (recording h (onText h s)) l (holding [])
+  unfolding finishing
+  fed-after = ap (λ f. f .after) fed-finishes
+
+  pub fed-refused-exactly : (k : ℕ) → (feeding h l (s ++ 59 ∷ []) .answer ≡ refused k) ↔ Refuses h s k
+  fed-refused-exactly k = (
+    λ e. refused-exactly h s k .0 (finished-refused h (onText h s) k .0 (sym fed-answer ∙ e)),
+    λ r. fed-answer ∙ finished-refused h (onText h s) k .1 (refused-exactly h s k .1 r),
+  )
+
+  accepted-answer : {ms : List ℕ} → Accepts h s ms → feeding h l (s ++ 59 ∷ []) .answer ≡ gives (accepted (length (h .trees)))
+  unfolding finished
+  accepted-answer a = fed-answer ∙ ap (finished h) (accepts-answer h s a)
+
+  pub fed-accepted-exactly : (i : ℕ) → (feeding h l (s ++ 59 ∷ []) .answer ≡ gives (accepted i)) ↔ ((i ≡ length (h .trees)) × ((k : ℕ) → Refuses h s k → ⊥))
+  fed-accepted-exactly i = (
+    λ e. (number e (refused-or-accepted h s), λ k r. never-both (sym (fed-refused-exactly k .1 r) ∙ e)),
+    λ p. accepted-answer (accepted-unless-refused h s .1 (p .1) .1) ∙ ap (λ (x : ℕ). gives (accepted x)) (sym (p .0)),
+  )
+    where
+      number : feeding h l (s ++ 59 ∷ []) .answer ≡ gives (accepted i) → ((k : ℕ) × Refuses h s k) ⊎ ((ms : List ℕ) × Accepts h s ms) → i ≡ length (h .trees)
+      number e (inl r) = absurd (never-both (sym (fed-refused-exactly (r .0) .1 (r .1)) ∙ e))
+      number e (inr a) = let q : _≡_ {A = Answer Progress} (gives (accepted i)) (gives (accepted (length (h .trees)))) = sym e ∙ accepted-answer (a .1) in cc
+
+  pub fed-refused-after : {k : ℕ} → Refuses h s k → feeding h l (s ++ 59 ∷ []) .after ≡ withLane h l (holding [])
+  unfolding recording
+  fed-refused-after r = fed-after ∙ ap (λ v. withLane (recording h v) l (holding [])) (refuses-answer h s r)
+
+  pub fed-accepted-after : {ms : List ℕ} → Accepts h s ms → feeding h l (s ++ 59 ∷ []) .after ≡ withLane (withTree h ms) l (holding [])
+  unfolding recording
+  fed-accepted-after a = fed-after ∙ ap (λ v. withLane (recording h v) l (holding [])) (accepts-answer h s a)

@@ -1,0 +1,260 @@
+-- Trees are unrooted: any root, any order of children, and the splits are the same.
+--
+--   Perm ws vs           the lists ws and vs are one but for their order
+--   perm-faultless       leaves without a fault have none in any order
+--   one-split            the two sides of an edge give one split
+--   counted-same         clusters that give the same sides count the same
+--   unrooted-leaves      trees that are one unrooted tree have the same leaves, but for their order
+--   unrooted-faultless   so either has a fault of its leaves or neither
+--   unrooted             and they have the same splits
+--   unrooted-texts       so two texts of one unrooted tree are judged with the same splits
+use Prim.Native.Nat.{ℕ, suc, _+_, _-_, _^_, _<_}
+use native.Mathlib.Omega.{arith}
+use mathlib.Core.Path.{_≡_, refl, ap, sym, _∙_, subst}
+use mathlib.Core.Logic.{_⊎_, inl, inr, ⊎-elim}
+use mathlib.Core.List.{List, [], _∷_, _++_, append-nil, append-assoc}
+use mathlib.Core.Option.{some}
+use lib.Bits.{bitOr, or-disjoint, or-zero-r}
+use lib.ListN.{length}
+use Rattle.trees.specs.Plain.{gives}
+use Rattle.trees.specs.Mask.{everyTaxon, side, proper}
+use Rattle.trees.specs.Tree.{Nodes, nil, leaf, inner, beside, width, leaves, children}
+use Rattle.trees.specs.Grammar.{IsTree}
+use Rattle.trees.specs.Names.{taxonOf}
+use Rattle.trees.specs.Splits.{taxon, taxa, clusters, counted, splitsOf}
+use Rattle.trees.specs.Verdict.{leafFault, judged}
+use Rattle.theorems.specs.ListLaws.{Mem, mem-cases, mem-left, mem-right}
+use Rattle.theorems.specs.RisingLaws.{rising-same}
+use Rattle.theorems.specs.BitLaws.{On, on?, Sub, Dis, ext, dis-and, on-or-l, on-or-r, or-on, only-on, self-on, sub-le}
+use Rattle.theorems.specs.MaskLaws.{every-on, side-even, side-odd, others-on, on-others}
+use Rattle.theorems.specs.SplitLaws.{counted-mem, mem-counted, counted-rising, taxa-sub}
+use Rattle.theorems.specs.VerdictLaws.{leaf-fine, leaf-new, leaves-distinct}
+use Rattle.theorems.specs.FewLaws.{none-missing, leaves-beside}
+use Rattle.theorems.specs.EdgeLaws.{a-leaf, a-node, taxa-at, at-taxa, hangs-cluster}
+use Rattle.theorems.specs.Unrooted.{Reordered, swapped, behind-leaf, behind-node, below, SameUnrooted, reordered, moved, dissolved, itself, back, onward}
+
+-- ---- lists in another order
+
+pub data Perm {A : Type 0} : List A → List A → Type 0 where
+  perm-same : {l : List A} → Perm l l
+  perm-swap : {x y : A} {l : List A} → Perm (x ∷ y ∷ l) (y ∷ x ∷ l)
+  perm-behind : {x : A} {l k : List A} → Perm l k → Perm (x ∷ l) (x ∷ k)
+  perm-onward : {l k j : List A} → Perm l k → Perm k j → Perm l j
+
+perm-back : {A : Type 0} {l k : List A} → Perm l k → Perm k l
+perm-back perm-same = perm-same
+perm-back perm-swap = perm-swap
+perm-back (perm-behind p) = perm-behind (perm-back p)
+perm-back (perm-onward p q) = perm-onward (perm-back q) (perm-back p)
+
+perm-equal : {A : Type 0} {l k : List A} → l ≡ k → Perm l k
+perm-equal {A} {l} e = subst (λ (z : List A). Perm l z) e perm-same
+
+perm-mem : {A : Type 0} {l k : List A} → Perm l k → (x : A) → Mem x l → Mem x k
+perm-mem perm-same x h = h
+perm-mem perm-swap x (inl e) = inr (inl e)
+perm-mem perm-swap x (inr (inl e)) = inl e
+perm-mem perm-swap x (inr (inr h)) = inr (inr h)
+perm-mem (perm-behind p) x (inl e) = inl e
+perm-mem (perm-behind p) x (inr h) = inr (perm-mem p x h)
+perm-mem (perm-onward p q) x h = perm-mem q x (perm-mem p x h)
+
+-- one element goes behind the elements b, and then all elements of a
+perm-past : {A : Type 0} (x : A) (b r : List A) → Perm (x ∷ (b ++ r)) (b ++ (x ∷ r))
+perm-past x [] r = perm-same
+perm-past x (y ∷ b) r = perm-onward perm-swap (perm-behind (perm-past x b r))
+
+perm-groups : {A : Type 0} (a b r : List A) → Perm (a ++ (b ++ r)) (b ++ (a ++ r))
+perm-groups [] b r = perm-same
+perm-groups (x ∷ a) b r = perm-onward (perm-behind (perm-groups a b r)) (perm-past x b (a ++ r))
+
+perm-front : {A : Type 0} (a : List A) {l k : List A} → Perm l k → Perm (a ++ l) (a ++ k)
+perm-front [] p = p
+perm-front (x ∷ a) p = perm-behind (perm-front a p)
+
+perm-end : {A : Type 0} {l k : List A} (a : List A) → Perm l k → Perm (l ++ a) (k ++ a)
+perm-end a perm-same = perm-same
+perm-end a perm-swap = perm-swap
+perm-end a (perm-behind p) = perm-behind (perm-end a p)
+perm-end a (perm-onward p q) = perm-onward (perm-end a p) (perm-end a q)
+
+-- ---- leaves in another order
+
+-- two leaves that are fine one after the other are fine the other way round
+swap-faultless : (ns : List (List ℕ)) (seen : ℕ) (v w : List ℕ) (ws : List (List ℕ)) → leafFault ns seen (v ∷ w ∷ ws) ≡ 0 → leafFault ns seen (w ∷ v ∷ ws) ≡ 0
+swap-faultless ns seen v w ws z =
+    let p = leaf-fine ns seen v (w ∷ ws) z in
+    let q = leaf-fine ns (seen + 2 ^ (p .0)) w ws (p .3) in
+    let i = p .0 in
+    let j = q .0 in
+    let u : bitOr seen (2 ^ i) ≡ seen + 2 ^ i = with-taxon seen i (p .2) in
+    let g : On seen j → ⊥ = λ o. q .2 (subst (λ (x : ℕ). On x j) u (on-or-l seen (2 ^ i) j o)) in
+    let d : i ≡ j → ⊥ = λ e. q .2 (subst (λ (x : ℕ). On x j) u (on-or-r seen (2 ^ i) j (subst (On (2 ^ i)) e (self-on i)))) in
+    leaf-new ns seen w (v ∷ ws) j (q .1) g
+    ∙ leaf-new ns (seen + 2 ^ j) v ws i (p .1) (λ o. d (sym (only-on j i (or-on seen (2 ^ j) i (subst (λ (x : ℕ). On x i) (sym (with-taxon seen j g)) o) (p .2)))))
+    ∙ ap (λ (x : ℕ). leafFault ns x ws) (omega arith) ∙ q .3
+  where
+    with-taxon : (seen i : ℕ) → (On seen i → ⊥) → bitOr seen (2 ^ i) ≡ seen + 2 ^ i
+    with-taxon seen i f = or-disjoint seen (2 ^ i) (dis-and seen (2 ^ i) (λ k a b. f (subst (On seen) (sym (only-on i k b)) a)))
+
+pub perm-faultless : (ns : List (List ℕ)) {ws vs : List (List ℕ)} → Perm ws vs → (seen : ℕ) → leafFault ns seen ws ≡ 0 → leafFault ns seen vs ≡ 0
+perm-faultless ns perm-same seen z = z
+perm-faultless ns (perm-swap {x = v} {y = w} {l = ws}) seen z = swap-faultless ns seen v w ws z
+perm-faultless ns (perm-behind {x = w} {l = ws} {k = vs} p) seen z =
+    let q = leaf-fine ns seen w ws z in
+    leaf-new ns seen w vs (q .0) (q .1) (q .2) ∙ perm-faultless ns p (seen + 2 ^ (q .0)) (q .3)
+perm-faultless ns (perm-onward p q) seen z = perm-faultless ns q seen (perm-faultless ns p seen z)
+
+-- ---- the two sides of an edge give one split
+
+pub one-split : (n x : ℕ) → 0 < n → Sub x (everyTaxon n) → side n (everyTaxon n - x) ≡ side n x
+one-split n x p s = go (on? x 0)
+  where
+    go : (On x 0 → ⊥) ⊎ On x 0 → side n (everyTaxon n - x) ≡ side n x
+    go (inl f) = side-odd n (everyTaxon n - x) (others-on (everyTaxon n) x s 0 (every-on n 0 p) f) ∙ omega (arith, sub-le x (everyTaxon n) s) ∙ sym (side-even n x f)
+    go (inr o) = side-even n (everyTaxon n - x) (λ h. on-others (everyTaxon n) x s 0 h .1 o) ∙ sym (side-odd n x o)
+
+-- every cluster of cs has the side of one of ds
+abbrev SidesIn : ℕ → List ℕ → List ℕ → Type 0
+SidesIn n cs ds = (c : ℕ) → Mem c cs → (d : ℕ) × Mem d ds × (side n c ≡ side n d)
+
+pub counted-same : (n : ℕ) (cs ds : List ℕ) → SidesIn n cs ds → SidesIn n ds cs → counted n cs ≡ counted n ds
+counted-same n cs ds f g = rising-same (counted n cs) (counted n ds) (counted-rising n cs) (counted-rising n ds) (into cs ds f) (into ds cs g)
+  where
+    into : (us vs : List ℕ) → SidesIn n us vs → (y : ℕ) → Mem y (counted n us) → Mem y (counted n vs)
+    into us vs k y h =
+        let p = counted-mem n us y h in
+        let q = k (p .0) (p .1) in
+        let e : y ≡ side n (q .0) = p .2 ∙ q .2 in
+        subst (λ (z : ℕ). Mem z (counted n vs)) (sym e) (mem-counted n vs (q .0) (q .1) (ap (proper n) (sym e) ∙ p .3))
+
+module _ (ns : List (List ℕ)) where
+  clusters-beside : (t k : Nodes) → clusters ns (beside t k) ≡ clusters ns t ++ clusters ns k
+  unfolding clusters beside
+  clusters-beside nil k = refl
+  clusters-beside (leaf w r) k = ap (λ (l : List ℕ). taxon ns w ∷ l) (clusters-beside r k)
+  clusters-beside (inner c r) k =
+      ap (λ (l : List ℕ). clusters ns c ++ (taxa ns c ∷ l)) (clusters-beside r k) ∙ sym (append-assoc (clusters ns c) (taxa ns c ∷ clusters ns r) (clusters ns k))
+
+  -- ---- any order of children
+
+  reordered-leaves : {t u : Nodes} → Reordered t u → Perm (leaves t) (leaves u)
+  unfolding leaves
+  reordered-leaves (swapped a b r) =
+      perm-onward (perm-equal (leaves-beside a (beside b r) ∙ ap (λ l. leaves a ++ l) (leaves-beside b r)))
+      (perm-onward (perm-groups (leaves a) (leaves b) (leaves r)) (perm-equal (sym (leaves-beside b (beside a r) ∙ ap (λ l. leaves b ++ l) (leaves-beside a r)))))
+  reordered-leaves (behind-leaf q) = perm-behind (reordered-leaves q)
+  reordered-leaves (behind-node {c} q) = perm-front (leaves c) (reordered-leaves q)
+  reordered-leaves (below {c} {d} {r} q) = perm-end (leaves r) (reordered-leaves q)
+
+  -- nodes with the same leaves have the same taxa
+  perm-taxa : (t u : Nodes) → Perm (leaves t) (leaves u) → taxa ns t ≡ taxa ns u
+  perm-taxa t u p = ext (taxa ns t) (taxa ns u) (into t u p) (into u t (perm-back p))
+    where
+      into : (t u : Nodes) → Perm (leaves t) (leaves u) → Sub (taxa ns t) (taxa ns u)
+      into t u p i h = let a = taxa-at ns t i h in at-taxa ns u i (a .0) (perm-mem p (a .0) (a .1)) (a .2)
+
+  -- three groups of clusters
+  groups : (a b r : Nodes) → clusters ns (beside a (beside b r)) ≡ clusters ns a ++ (clusters ns b ++ clusters ns r)
+  groups a b r = clusters-beside a (beside b r) ∙ ap (λ (l : List ℕ). clusters ns a ++ l) (clusters-beside b r)
+
+  reordered-clusters : {t u : Nodes} → Reordered t u → Perm (clusters ns t) (clusters ns u)
+  unfolding clusters
+  reordered-clusters (swapped a b r) =
+      perm-onward (perm-equal (groups a b r)) (perm-onward (perm-groups (clusters ns a) (clusters ns b) (clusters ns r)) (perm-equal (sym (groups b a r))))
+  reordered-clusters (behind-leaf q) = perm-behind (reordered-clusters q)
+  reordered-clusters (behind-node {c} q) = perm-front (clusters ns c) (perm-behind (reordered-clusters q))
+  reordered-clusters (below {c} {d} {r} q) =
+      perm-onward (perm-end (taxa ns c ∷ clusters ns r) (reordered-clusters q))
+      (perm-equal (ap (λ (m : ℕ). clusters ns d ++ (m ∷ clusters ns r)) (perm-taxa c d (reordered-leaves q))))
+
+  reordered-splits : {c d : Nodes} → Reordered c d → splitsOf ns (inner c nil) ≡ splitsOf ns (inner d nil)
+  unfolding splitsOf children
+  reordered-splits {c} {d} q =
+      counted-same (length ns) (clusters ns c) (clusters ns d) (λ x h. (x, perm-mem (reordered-clusters q) x h, refl))
+      (λ x h. (x, perm-mem (perm-back (reordered-clusters q)) x h, refl))
+
+  -- ---- any root
+
+  -- the children c of an inner node beside the other children r of the root, of a tree whose leaves have no fault
+  module _ (c r : Nodes) (few : 0 < length ns) (z : leafFault ns 0 (leaves (inner (inner c r) nil)) ≡ 0) where
+    all-there : taxa ns c + taxa ns r ≡ everyTaxon (length ns)
+    unfolding leafFault taxa
+    all-there =
+        let d = leaves-distinct ns (inner (inner c r) nil) 0 [] (ap (leafFault ns 0) (append-nil (leaves (inner (inner c r) nil))) ∙ z) in
+        let e : 0 + bitOr (bitOr (taxa ns c) (taxa ns r)) 0 ≡ everyTaxon (length ns) = none-missing _ (length ns) (d .2) in
+        let f : bitOr (taxa ns c) (taxa ns r) ≡ taxa ns c + taxa ns r = or-disjoint (taxa ns c) (taxa ns r) (dis-and (taxa ns c) (taxa ns r) (d .1 .1 .0)) in
+        sym f ∙ sym (or-zero-r (bitOr (taxa ns c) (taxa ns r))) ∙ omega (arith, e)
+
+    other-side : side (length ns) (taxa ns c) ≡ side (length ns) (taxa ns r)
+    other-side = sym (ap (side (length ns)) (omega (arith, all-there)) ∙ one-split (length ns) (taxa ns c) few (taxa-sub ns c))
+
+    -- where the taxa of r are a cluster behind those of c, those of c need not be one
+    merged : (ks : List ℕ) → ((x : ℕ) → Mem x (clusters ns r) → Mem x ks) → Mem (taxa ns r) ks → SidesIn (length ns) (clusters ns c ++ (taxa ns c ∷ clusters ns r)) (clusters ns c ++ ks)
+    merged ks f m x h = go (mem-cases x (clusters ns c) (taxa ns c ∷ clusters ns r) h)
+      where
+        go : Mem x (clusters ns c) ⊎ ((x ≡ taxa ns c) ⊎ Mem x (clusters ns r)) → (d : ℕ) × Mem d (clusters ns c ++ ks) × (side (length ns) x ≡ side (length ns) d)
+        go (inl k) = (x, mem-left x (clusters ns c) ks k, refl)
+        go (inr (inl e)) = (taxa ns r, mem-right (taxa ns r) (clusters ns c) ks m, ap (side (length ns)) e ∙ other-side)
+        go (inr (inr k)) = (x, mem-right x (clusters ns c) ks (f x k), refl)
+
+    parted : (ks : List ℕ) → ((x : ℕ) → Mem x ks → Mem x (clusters ns r) ⊎ (x ≡ taxa ns r)) → SidesIn (length ns) (clusters ns c ++ ks) (clusters ns c ++ (taxa ns c ∷ clusters ns r))
+    parted ks f x h = ⊎-elim (λ k. (x, mem-left x (clusters ns c) (taxa ns c ∷ clusters ns r) k, refl)) (λ k. go (f x k)) (mem-cases x (clusters ns c) ks h)
+      where
+        go : Mem x (clusters ns r) ⊎ (x ≡ taxa ns r) → (d : ℕ) × Mem d (clusters ns c ++ (taxa ns c ∷ clusters ns r)) × (side (length ns) x ≡ side (length ns) d)
+        go (inl k) = (x, mem-right x (clusters ns c) (taxa ns c ∷ clusters ns r) (inr k), refl)
+        go (inr e) = (taxa ns c, mem-right (taxa ns c) (clusters ns c) (taxa ns c ∷ clusters ns r) (inl refl), ap (side (length ns)) e ∙ sym other-side)
+
+    -- the children c, and behind them nodes k with the clusters of r and the taxa of r
+    rooted-there : (k : Nodes) → ((x : ℕ) → Mem x (clusters ns r) → Mem x (clusters ns k)) → Mem (taxa ns r) (clusters ns k)
+        → ((x : ℕ) → Mem x (clusters ns k) → Mem x (clusters ns r) ⊎ (x ≡ taxa ns r)) → splitsOf ns (inner (inner c r) nil) ≡ splitsOf ns (inner (beside c k) nil)
+    unfolding splitsOf children clusters
+    rooted-there k f m g =
+        counted-same (length ns) (clusters ns c ++ (taxa ns c ∷ clusters ns r)) (clusters ns c ++ clusters ns k) (merged (clusters ns k) f m) (parted (clusters ns k) g)
+        ∙ ap (counted (length ns)) (sym (clusters-beside c k))
+
+    moved-splits : splitsOf ns (inner (inner c r) nil) ≡ splitsOf ns (inner (beside c (inner r nil)) nil)
+    unfolding clusters
+    moved-splits =
+        rooted-there (inner r nil) (λ x h. mem-left x (clusters ns r) (taxa ns r ∷ []) h) (mem-right (taxa ns r) (clusters ns r) (taxa ns r ∷ []) (inl refl))
+        (λ x h. ⊎-elim (λ k. inl k) (λ k. inr (only x k)) (mem-cases x (clusters ns r) (taxa ns r ∷ []) h))
+      where
+        only : (x : ℕ) → (x ≡ taxa ns r) ⊎ ⊥ → x ≡ taxa ns r
+        only x (inl e) = e
+
+    -- the taxa of one node are a cluster
+    one-cluster : (k : Nodes) → width k ≡ 1 → Mem (taxa ns k) (clusters ns k)
+    unfolding width
+    one-cluster nil e = absurd (omega arith)
+    one-cluster (leaf w nil) e = hangs-cluster ns a-leaf
+    one-cluster (leaf w (leaf v k)) e = absurd (omega arith)
+    one-cluster (leaf w (inner d k)) e = absurd (omega arith)
+    one-cluster (inner d nil) e = hangs-cluster ns a-node
+    one-cluster (inner d (leaf v k)) e = absurd (omega arith)
+    one-cluster (inner d (inner b k)) e = absurd (omega arith)
+
+    dissolved-splits : width r ≡ 1 → splitsOf ns (inner (inner c r) nil) ≡ splitsOf ns (inner (beside c r) nil)
+    dissolved-splits e = rooted-there r (λ x h. h) (one-cluster r e) (λ x h. inl h)
+
+  -- ---- both
+
+  pub unrooted-leaves : {t u : Nodes} → SameUnrooted t u → Perm (leaves t) (leaves u)
+  unfolding leaves
+  unrooted-leaves (reordered q) = perm-end [] (reordered-leaves q)
+  unrooted-leaves (moved c r) =
+      perm-equal (ap (λ l. l ++ []) (sym (leaves-beside c (inner r nil) ∙ ap (λ l. leaves c ++ l) (append-nil (leaves r)))))
+  unrooted-leaves (dissolved c r e) = perm-equal (ap (λ l. l ++ []) (sym (leaves-beside c r)))
+  unrooted-leaves (itself t) = perm-same
+  unrooted-leaves (back s) = perm-back (unrooted-leaves s)
+  unrooted-leaves (onward s s′) = perm-onward (unrooted-leaves s) (unrooted-leaves s′)
+
+  pub unrooted-faultless : {t u : Nodes} → SameUnrooted t u → leafFault ns 0 (leaves t) ≡ 0 → leafFault ns 0 (leaves u) ≡ 0
+  unrooted-faultless s z = perm-faultless ns (unrooted-leaves s) 0 z
+
+  pub unrooted : {t u : Nodes} → 0 < length ns → SameUnrooted t u → leafFault ns 0 (leaves t) ≡ 0 → splitsOf ns t ≡ splitsOf ns u
+  unrooted p (reordered q) z = reordered-splits q
+  unrooted p (moved c r) z = moved-splits c r p z
+  unrooted p (dissolved c r e) z = dissolved-splits c r p z e
+  unrooted p (itself t) z = refl
+  unrooted p (back s) z = sym (unrooted p s (unrooted-faultless (back s) z))
+  unrooted p (onward s s′) z = unrooted p s z ∙ unrooted p s′ (unrooted-faultless s z)
