@@ -4,9 +4,14 @@ pub mod Steps
 pub mod StepLaws
 pub mod RunLaws
 pub mod BatchLaws
+pub mod Once
 pub mod Outcomes
-pub mod InnerOutcomes
+pub mod EntryOutcomes
+pub mod BatchOutcomes
 pub mod SheetOutcomes
+pub mod TextsOutcomes
+pub mod EqualOutcomes
+pub mod InnerOutcomes
 pub mod SeamLaws
 pub mod CutLaws
 pub mod SummarySteps

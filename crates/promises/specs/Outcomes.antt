@@ -1,27 +1,27 @@
--- Each promise leaves one outcome: two that it allows on the same input are equal in the answer, in what the store holds, and in the
--- lent bytes outside the store. Assumes nothing.
+-- What two outcomes of a promise have in common, by what it says: the laws from which each promise's own theorem is a line or two.
+-- Assumes nothing.
 --
 --   refusal-one, finish-one, number-one, split-one, progress-one     answers that mean the same are the same
 --   refusalIn, valueOr, gives≢refused     the parts of an answer
---   answered-once          a promise that is an equation: every question's, for its answer and for its buffers
---   SameStore n t u        what two lent bytes hold, how many they are, and those past the size n, are the same
---   holds-once             two lent bytes that a promise lets hold the same
---   opened-refused-once, opened-once, fed-once, closed-once, batched-refused-once, batched-once     the calls that change a store
+--   both                                  two that are equal to a third
+--   finish-both, number-both              two answers that mean the same third
+--   holds-both                            two lent bytes that a promise lets hold the same
+--   outside-both                          two lent bytes that a promise lets differ from a third in one lane alone
+--   filled-both                           two outcomes of a call that fills a buffer
 use Prim.Native.Nat.{ℕ, suc, _≤_}
 use native.Mathlib.Omega.{arith}
-use mathlib.Core.Path.{_≡_, refl, sym, ap, _∙_}
+use mathlib.Core.Path.{_≡_, refl, sym, ap, subst, _∙_}
 use mathlib.Core.Bool.{Bool, true, false, true≢false}
 use mathlib.Core.List.{List}
 use lib.Dec.{eqb}
-use lib.ListN.{length, getD}
 use Rattle.trees.specs.Plain.{if_then_else_, Answer, refused, gives}
-use Rattle.trees.specs.Opening.{Opening, storeSize}
-use Rattle.trees.specs.Held.{Held, moreWanted, accepted, opened}
+use Rattle.trees.specs.Opening.{storeSize}
+use Rattle.trees.specs.Held.{Held, moreWanted, accepted}
 use Rattle.trees.specs.Held as held
-use Rattle.trees.specs.Batch.{Batched}
-use Rattle.layout.specs.Store.{heldAt}
+use Rattle.head.specs.Head.{openingAt}
+use Rattle.layout.specs.Store.{sizeAt, heldAt}
 use Rattle.table.specs.Answers.{refusalNumber, finishGiven, numberGiven, splitGiven, progressGiven}
-use Rattle.table.specs.Promises.{Holds, OpenedAs}
+use Rattle.table.specs.Promises.{Holds}
 use Rattle.table.specs.declared.Refusal.{Refusal}
 use Rattle.table.specs.declared.Refusal.the-variants as why
 use Rattle.table.specs.declared.Finish.{Finish}
@@ -32,8 +32,8 @@ use Rattle.table.specs.declared.Recorded.{Recorded}
 use Rattle.table.specs.declared.Recorded.the-variants as recorded
 use Rattle.table.specs.declared.Progress.{Progress}
 use Rattle.table.specs.declared.Progress.the-variants as progress
-use Rattle.table.specs.declared.Fed.{Fed}
-use Rattle.feeding.specs.Feeding.{reached, fedOf, closedOf, isAccepted, SameOutside, FedAs, ClosedAs, BatchedAs}
+use Rattle.feeding.specs.Feeding.{SameOutside}
+use Rattle.promises.specs.Once.{SameStore}
 
 -- ---- answers
 
@@ -131,70 +131,33 @@ progress-one (progress.Accepted t) (progress.Accepted u) e =
     let d : t .0 ≡ u .0 = omega (arith, ap (λ (x : Answer held.Progress). treeOr0 (valueOr moreWanted x)) e) in
     ap (λ (n : ℕ). progress.Accepted (record { 0 = n })) d
 
--- ---- a promise that is an equation: the questions
+-- ---- two outcomes
 
-pub answered-once : {A : Type 0} (x a b : A) → a ≡ x → b ≡ x → a ≡ b
-answered-once x a b p q = p ∙ sym q
+pub both : {A : Type 0} {x a b : A} → a ≡ x → b ≡ x → a ≡ b
+both p q = p ∙ sym q
 
--- ---- the calls that change a store
+pub finish-both : {x : Answer (Unit {0})} (q r : Finish) → finishGiven q ≡ x → finishGiven r ≡ x → q ≡ r
+finish-both q r a b = finish-one q r (both a b)
 
--- two lent bytes, made from s: what they hold, how many they are, and the bytes past the size n
-pub record SameStore (n : ℕ) (t u : List ℕ) : Type 0 where
-  pub holding : heldAt t ≡ heldAt u
-  pub size : length t ≡ length u
-  pub behind : (i : ℕ) → n ≤ i → getD t i 0 ≡ getD u i 0
+pub number-both : {x : Answer ℕ} (q r : Number) → numberGiven q ≡ x → numberGiven r ≡ x → q ≡ r
+number-both q r a b = number-one q r (both a b)
 
-pub holds-once : (h : Held) (s t u : List ℕ) → Holds h s t → Holds h s u → SameStore (storeSize (h .opening .numbers)) t u
-holds-once h s t u a b = record {
-  holding = a .held ∙ sym (b .held);
-  size = a .size ∙ sym (b .size);
-  behind = λ i l. a .behind i l ∙ sym (b .behind i l);
+pub filled-both : {x : Answer ℕ} {m t u : List ℕ} (q r : Number) → (numberGiven q ≡ x) × (t ≡ m) → (numberGiven r ≡ x) × (u ≡ m) → (q ≡ r) × (t ≡ u)
+filled-both q r a b = (number-both q r (a .0) (b .0), both (a .1) (b .1))
+
+-- ---- lent bytes
+
+pub size-holds : (t : List ℕ) {h : Held} → heldAt t ≡ h → sizeAt t ≡ storeSize (h .opening .numbers)
+unfolding sizeAt heldAt openingAt
+size-holds t e = ap (λ (h : Held). storeSize (h .opening .numbers)) e
+
+pub holds-both : (h : Held) (s t u : List ℕ) → Holds h s t → Holds h s u → SameStore t u
+holds-both h s t u a b = record {
+  whole = both (a .whole) (b .whole);
+  holding = both (a .held) (b .held);
+  size = both (a .size) (b .size);
+  behind = λ i l. let m = subst (λ (n : ℕ). n ≤ i) (size-holds t (a .held)) l in both (a .behind i m) (b .behind i m);
 }
 
--- where opening refuses, every byte is as before; where it does not, what is held is the opening's
-pub opened-refused-once : (k : ℕ) (q r : Finish) (s t u : List ℕ) → OpenedAs (refused k) q s t → OpenedAs (refused k) r s u → (q ≡ r) × (t ≡ u)
-unfolding OpenedAs
-opened-refused-once k q r s t u a b = (finish-one q r (a .0 ∙ sym (b .0)), a .1 ∙ sym (b .1))
-
-pub opened-once : (o : Opening) (q r : Finish) (s t u : List ℕ) → OpenedAs (gives o) q s t → OpenedAs (gives o) r s u
-    → (q ≡ r) × SameStore (storeSize (o .numbers)) t u
-unfolding OpenedAs opened
-opened-once o q r s t u a b = (finish-one q r (a .0 ∙ sym (b .0)), holds-once (opened o) s t u (a .1) (b .1))
-
-module _ (s : List ℕ) (l : ℕ) where
-  -- two outcomes of feeding: every byte where no lane is reached; what is held where one is; every byte outside the lane where no tree
-  -- is accepted
-  pub fed-once : (p : List ℕ) (q r : Fed) (t u : List ℕ) → FedAs s l p q t → FedAs s l p r u
-      → (q ≡ r)
-      × (reached s l ≡ false → t ≡ u)
-      × (reached s l ≡ true → SameStore (storeSize (fedOf s l p .after .opening .numbers)) t u)
-      × (isAccepted (fedOf s l p .answer) ≡ false → SameOutside t l u)
-  fed-once p q r t u a b = (
-    λ i. record { taken = (a .taken ∙ sym (b .taken)) i; progress = progress-one (q .progress) (r .progress) (a .answer ∙ sym (b .answer)) i },
-    λ e. a .found e ∙ sym (b .found e),
-    λ e. holds-once (fedOf s l p .after) s t u (a .holds e) (b .holds e),
-    λ e i m. b .outside e i m ∙ sym (a .outside e i m),
-  )
-
-  pub closed-once : (q r : Finish) (t u : List ℕ) → ClosedAs s l q t → ClosedAs s l r u
-      → (q ≡ r)
-      × (reached s l ≡ false → t ≡ u)
-      × (reached s l ≡ true → SameStore (storeSize (closedOf s l .after .opening .numbers)) t u)
-      × SameOutside t l u
-  closed-once q r t u a b = (
-    finish-one q r (a .answer ∙ sym (b .answer)),
-    λ e. a .found e ∙ sym (b .found e),
-    λ e. holds-once (closedOf s l .after) s t u (a .holds e) (b .holds e),
-    λ i m. b .outside i m ∙ sym (a .outside i m),
-  )
-
--- a batch that refuses leaves every byte; one that does not leaves what feeding again and again holds, and its verdicts
-pub batched-refused-once : (k : ℕ) (q r : Number) (s v t w u x : List ℕ) → BatchedAs (refused k) q s v t w → BatchedAs (refused k) r s v u x
-    → (q ≡ r) × (t ≡ u) × (w ≡ x)
-unfolding BatchedAs
-batched-refused-once k q r s v t w u x a b = (number-one q r (a .0 ∙ sym (b .0)), a .1 ∙ sym (b .1), a .2 ∙ sym (b .2))
-
-pub batched-once : (y : Batched) (q r : Number) (s v t w u x : List ℕ) → BatchedAs (gives y) q s v t w → BatchedAs (gives y) r s v u x
-    → (q ≡ r) × SameStore (storeSize (y .after .opening .numbers)) t u × (w ≡ x)
-unfolding BatchedAs
-batched-once y q r s v t w u x a b = (number-one q r (a .0 ∙ sym (b .0)), holds-once (y .after) s t u (a .1) (b .1), a .2 ∙ sym (b .2))
+pub outside-both : (s : List ℕ) (l : ℕ) (t u : List ℕ) → SameOutside s l t → SameOutside s l u → SameOutside t l u
+outside-both s l t u a b i h = both (b i h) (a i h)

@@ -1,82 +1,68 @@
--- The promises of the summary's calls leave one outcome each: what two of them allow on the same input is equal in the answer, in what the
--- store holds, and in every lent byte outside it. Assumes nothing.
+-- The promises of the summary's calls leave one outcome each; that of the texts stands in TextsOutcomes. Assumes nothing.
 --
---   line-taken-once        taking a piece of the first line
---   SameOpened o t u       two lent bytes, after an opening that is o or its refusal, are the same
---   line-opened-once       opening what the first line asks for
---   texts-refused-once, texts-once     feeding a piece
---   texts-closed-once      closing
---   filled-once            giving a line of the sheet, or that of a refusal
+--   take-line-once                    the answer, what is kept of the line, and every byte of the buffer
+--   open-line-once                    opening what the first line asks for
+--   closedTextsFree, close-texts-once     closing
+--   line-once, refusal-line-once      giving a line of the sheet, or that of a refusal: the answer, and every byte of the buffer
 use Prim.Native.Nat.{ℕ}
-use mathlib.Core.Path.{_≡_, sym, ap, _∙_}
-use mathlib.Core.Bool.{true, false}
+use mathlib.Core.Path.{_≡_, refl, ap}
+use mathlib.Core.Bool.{Bool, true, false}
 use mathlib.Core.List.{List}
 use lib.ListN.{length}
-use Rattle.trees.specs.Plain.{Answer, refused, gives}
-use Rattle.trees.specs.Opening.{Opening, storeSize}
+use denote.Ref.{now}
+use Rattle.trees.specs.Plain.{if_then_else_}
 use Rattle.trees.specs.Held.{closing}
-use Rattle.trees.specs.Batch.{Batched}
 use Rattle.layout.specs.Store.{heldAt}
 use Rattle.store.specs.WholeStore.{wholeAt}
-use Rattle.table.specs.Promises.{OpenedAs}
-use Rattle.table.specs.Filled.{FilledAs}
-use Rattle.table.specs.declared.Finish.{Finish}
 use Rattle.table.specs.declared.Number.{Number}
 use Rattle.sheet.specs.declared.Taken.{Taken}
-use Rattle.sheet.specs.FirstLine.{Kept, TakenAs, keptOpening}
-use Rattle.feeding.specs.Feeding.{SameOutside}
-use Rattle.sheet.specs.Texts.{TextsAs, ClosedAs}
-use Rattle.promises.specs.Outcomes.{SameStore, holds-once, number-one, opened-refused-once, opened-once}
+use Rattle.sheet.specs.FirstLine.{Kept, keptOf, TakenAs, keptOpening}
+use Rattle.sheet.specs.Texts.{ClosedAs}
+use Rattle.sheet.proofs.take_line.Reads as take-line
+use Rattle.sheet.proofs.open_line.Reads as open-line
+use Rattle.sheet.proofs.close_texts.Reads as close-texts
+use Rattle.sheet.proofs.line.Reads as line
+use Rattle.sheet.proofs.refusal_line.Reads as refusal-line
+use Rattle.promises.specs.Once.{Once, arg1, arg2, arg3, arg4, Free, nothing, lane, SameBut}
+use Rattle.promises.specs.Outcomes.{both, number-both, filled-both, holds-both, outside-both}
+use Rattle.promises.specs.EntryOutcomes.{openedFree, opened-both}
 
 -- ---- the first line
 
--- what is answered, what is kept, and the buffer of the names
-pub line-taken-once : (k : Kept) (p : List ℕ) (q r : Taken) (t u : List ℕ) → TakenAs k p q t → TakenAs k p r u → (q ≡ r) × (t ≡ u)
-line-taken-once k p q r t u a b =
-    let e = a .line ∙ sym (b .line) in (
-      λ i. record { taken = (a .taken ∙ sym (b .taken)) i; ended = (a .ended ∙ sym (b .ended)) i; line = record { used = e i .used; spaces = e i .spaces } },
+taken-both : (k : Kept) (p : List ℕ) (q r : Taken) (t u : List ℕ) → TakenAs k p q t → TakenAs k p r u → (q ≡ r) × (t ≡ u)
+taken-both k p q r t u a b =
+    let e = both (a .line) (b .line) in (
+      λ i. record { taken = both (a .taken) (b .taken) i; ended = both (a .ended) (b .ended) i; line = record { used = e i .used; spaces = e i .spaces } },
       ap (λ (x : Kept). x .bytes) e,
     )
 
--- a refused opening leaves every byte
-unfoldable pub SameOpened : Answer Opening → List ℕ → List ℕ → Type 0
-SameOpened (refused k) t u = t ≡ u
-SameOpened (gives o) t u = SameStore (storeSize (o .numbers)) t u
+pub take-line-once : Once take-line.Post (λ x q r y z. (q ≡ r) × (now (arg2 y) ≡ now (arg2 z)))
+take-line-once k x q r y z a b = taken-both _ _ q r _ _ a b
 
-pub line-opened-once : (k : Kept) (q r : Finish) (s t u : List ℕ) → OpenedAs (keptOpening k (length s)) q s t → OpenedAs (keptOpening k (length s)) r s u
-    → (q ≡ r) × SameOpened (keptOpening k (length s)) t u
-unfolding SameOpened
-line-opened-once k q r s t u a b = go (keptOpening k (length s)) a b
+pub open-line-once : Once open-line.Post
+    (λ x q r y z. (q ≡ r) × SameBut (openedFree (keptOpening (keptOf (arg2 x) (now (arg3 x))) (length (now (arg1 x))))) (now (arg1 y)) (now (arg1 z)))
+open-line-once k x q r y z a b = opened-both _ q r _ _ _ a b
+
+-- ---- closing
+
+unfoldable pub closedTextsFree : List ℕ → Free
+closedTextsFree s = if wholeAt s then lane 0 else nothing
+
+closed-texts-both : (s : List ℕ) (n : ℕ) (q r : Number) (t u : List ℕ) → ClosedAs s n q t → ClosedAs s n r u → (q ≡ r) × SameBut (closedTextsFree s) t u
+unfolding closedTextsFree SameBut
+closed-texts-both s n q r t u a b = (number-both q r (a .answer) (b .answer), go (wholeAt s) refl)
   where
-    go : (x : Answer Opening) → OpenedAs x q s t → OpenedAs x r s u → (q ≡ r) × SameOpened x t u
-    go (refused n) c d = opened-refused-once n q r s t u c d
-    go (gives o) c d = opened-once o q r s t u c d
+    go : (m : Bool) → wholeAt s ≡ m → SameBut (if m then lane 0 else nothing) t u
+    go false e = both (a .found e) (b .found e)
+    go true e = (holds-both (closing (heldAt s) 0 .after) s t u (a .holds e) (b .holds e), outside-both s 0 t u (a .outside) (b .outside))
 
--- ---- the texts
-
-pub texts-refused-once : (k n : ℕ) (q r : Number) (s t u : List ℕ) → TextsAs (refused k) n q s t → TextsAs (refused k) n r s u → (q ≡ r) × (t ≡ u)
-unfolding TextsAs
-texts-refused-once k n q r s t u a b = (number-one q r (a .0 ∙ sym (b .0)), a .1 ∙ sym (b .1))
-
-pub texts-once : (y : Batched) (n : ℕ) (q r : Number) (s t u : List ℕ) → TextsAs (gives y) n q s t → TextsAs (gives y) n r s u
-    → (q ≡ r) × SameStore (storeSize (y .after .opening .numbers)) t u
-unfolding TextsAs
-texts-once y n q r s t u a b = (number-one q r (a .0 ∙ sym (b .0)), holds-once (y .after) s t u (a .1) (b .1))
-
-pub texts-closed-once : (s : List ℕ) (n : ℕ) (q r : Number) (t u : List ℕ) → ClosedAs s n q t → ClosedAs s n r u
-    → (q ≡ r)
-    × (wholeAt s ≡ false → t ≡ u)
-    × (wholeAt s ≡ true → SameStore (storeSize (closing (heldAt s) 0 .after .opening .numbers)) t u)
-    × SameOutside t 0 u
-texts-closed-once s n q r t u a b = (
-  number-one q r (a .answer ∙ sym (b .answer)),
-  λ e. a .found e ∙ sym (b .found e),
-  λ e. holds-once (closing (heldAt s) 0 .after) s t u (a .holds e) (b .holds e),
-  λ i m. b .outside i m ∙ sym (a .outside i m),
-)
+pub close-texts-once : Once close-texts.Post (λ x q r y z. (q ≡ r) × SameBut (closedTextsFree (now (arg1 x))) (now (arg1 y)) (now (arg1 z)))
+close-texts-once k x q r y z a b = closed-texts-both _ _ q r _ _ a b
 
 -- ---- the lines
 
--- `lineAsked` and `refusalAsked` are such answers: the buffer too has one outcome
-pub filled-once : (x : Answer (List ℕ)) (q r : Number) (out t u : List ℕ) → FilledAs x q out t → FilledAs x r out u → (q ≡ r) × (t ≡ u)
-filled-once x q r out t u a b = (number-one q r (a .0 ∙ sym (b .0)), a .1 ∙ sym (b .1))
+pub line-once : Once line.Post (λ x q r y z. (q ≡ r) × (now (arg4 y) ≡ now (arg4 z)))
+line-once k x q r y z a b = filled-both q r a b
+
+pub refusal-line-once : Once refusal-line.Post (λ x q r y z. (q ≡ r) × (now (arg2 y) ≡ now (arg2 z)))
+refusal-line-once k x q r y z a b = filled-both q r a b

@@ -1,0 +1,276 @@
+-- The promises of inner functions that say what the answer is equal to, or a buffer, leave one outcome. Each theorem is over the function's
+-- own `Post`. Assumes nothing.
+--
+--   fields      get16-once, get32-once, get64-once, put16-once, put32-once, put64-once, copy-within-once, copy-from-once, clear-run-
+--               once
+--   masks       is-within-once, are-apart-once, is-proper-once, count-taxa-once, lowest-taxon-once, comes-before-once, every-taxon-
+--               once, side-once, union-of-once, taxa-without-once, has-taxon-once, only-taxon-once
+--   words       decimal-once
+--   rising      insert-at-once
+--   head        taxa-once, lanes-once, tree-room-once, split-room-once, places-once, first-constant-once, second-constant-once, find-
+--               taxon-once
+--   opening     numbers-in-range-once, constants-good-once, names-good-once, is-name-once, same-names-once, store-size-once, write-
+--               head-once
+--   layout      trees-held-once, splits-held-once, tree-from-once, masks-from-once, identifiers-from-once, counts-from-once, links-
+--               from-once, order-from-once, places-from-once, number16-once
+--   rows        row-of-once, mask-at-once, count-at-once, splits-in-once
+--   finding     find-rows-once
+--   lanes       lane-length-once, closing-number-once
+--   distances   distances-one-sided-once, distances-doubled-once, write-matrix-once
+--   colliding   collision-number-once
+use mathlib.Core.Path.{_≡_}
+use denote.Ref.{now}
+use Rattle.fields.proofs.get16.Reads as get16
+use Rattle.fields.proofs.get32.Reads as get32
+use Rattle.fields.proofs.get64.Reads as get64
+use Rattle.fields.proofs.put16.Reads as put16
+use Rattle.fields.proofs.put32.Reads as put32
+use Rattle.fields.proofs.put64.Reads as put64
+use Rattle.fields.proofs.copy_within.Reads as copy-within
+use Rattle.fields.proofs.copy_from.Reads as copy-from
+use Rattle.fields.proofs.clear_run.Reads as clear-run
+use Rattle.masks.proofs.is_within.Reads as is-within
+use Rattle.masks.proofs.are_apart.Reads as are-apart
+use Rattle.masks.proofs.is_proper.Reads as is-proper
+use Rattle.masks.proofs.count_taxa.Reads as count-taxa
+use Rattle.masks.proofs.lowest_taxon.Reads as lowest-taxon
+use Rattle.masks.proofs.comes_before.Reads as comes-before
+use Rattle.masks.proofs.every_taxon.Reads as every-taxon
+use Rattle.masks.proofs.side.Reads as side
+use Rattle.masks.proofs.union_of.Reads as union-of
+use Rattle.masks.proofs.taxa_without.Reads as taxa-without
+use Rattle.masks.proofs.has_taxon.Reads as has-taxon
+use Rattle.masks.proofs.only_taxon.Reads as only-taxon
+use Rattle.words.proofs.decimal.Reads as decimal
+use Rattle.rising.proofs.insert_at.Reads as insert-at
+use Rattle.head.proofs.taxa.Reads as taxa
+use Rattle.head.proofs.lanes.Reads as lanes
+use Rattle.head.proofs.tree_room.Reads as tree-room
+use Rattle.head.proofs.split_room.Reads as split-room
+use Rattle.head.proofs.places.Reads as places
+use Rattle.head.proofs.first_constant.Reads as first-constant
+use Rattle.head.proofs.second_constant.Reads as second-constant
+use Rattle.head.proofs.find_taxon.Reads as find-taxon
+use Rattle.opening.proofs.numbers_in_range.Reads as numbers-in-range
+use Rattle.opening.proofs.constants_good.Reads as constants-good
+use Rattle.opening.proofs.names_good.Reads as names-good
+use Rattle.opening.proofs.is_name.Reads as is-name
+use Rattle.opening.proofs.same_names.Reads as same-names
+use Rattle.opening.proofs.store_size.Reads as store-size
+use Rattle.opening.proofs.write_head.Reads as write-head
+use Rattle.layout.proofs.trees_held.Reads as trees-held
+use Rattle.layout.proofs.splits_held.Reads as splits-held
+use Rattle.layout.proofs.tree_from.Reads as tree-from
+use Rattle.layout.proofs.masks_from.Reads as masks-from
+use Rattle.layout.proofs.identifiers_from.Reads as identifiers-from
+use Rattle.layout.proofs.counts_from.Reads as counts-from
+use Rattle.layout.proofs.links_from.Reads as links-from
+use Rattle.layout.proofs.order_from.Reads as order-from
+use Rattle.layout.proofs.places_from.Reads as places-from
+use Rattle.layout.proofs.number16.Reads as number16
+use Rattle.rows.proofs.row_of.Reads as row-of
+use Rattle.rows.proofs.mask_at.Reads as mask-at
+use Rattle.rows.proofs.count_at.Reads as count-at
+use Rattle.rows.proofs.splits_in.Reads as splits-in
+use Rattle.finding.proofs.find_rows.Reads as find-rows
+use Rattle.lanes.proofs.lane_length.Reads as lane-length
+use Rattle.lanes.proofs.closing_number.Reads as closing-number
+use Rattle.distances.proofs.one_sided.Reads as distances-one-sided
+use Rattle.distances.proofs.doubled.Reads as distances-doubled
+use Rattle.distances.proofs.write_matrix.Reads as write-matrix
+use Rattle.colliding.proofs.collision_number.Reads as collision-number
+use Rattle.promises.specs.Once.{Once, AnswerOnce, arg1, arg2, arg5}
+use Rattle.promises.specs.Outcomes.{both}
+
+-- ---- numbers in bytes, runs of bytes
+
+pub get16-once : AnswerOnce get16.Post
+get16-once k x q r y z a b = both a b
+
+pub get32-once : AnswerOnce get32.Post
+get32-once k x q r y z a b = both a b
+
+pub get64-once : AnswerOnce get64.Post
+get64-once k x q r y z a b = both a b
+
+pub put16-once : Once put16.Post (λ x q r y z. now (arg1 y) ≡ now (arg1 z))
+put16-once k x q r y z a b = both a b
+
+pub put32-once : Once put32.Post (λ x q r y z. now (arg1 y) ≡ now (arg1 z))
+put32-once k x q r y z a b = both a b
+
+pub put64-once : Once put64.Post (λ x q r y z. now (arg1 y) ≡ now (arg1 z))
+put64-once k x q r y z a b = both a b
+
+pub copy-within-once : Once copy-within.Post (λ x q r y z. now (arg1 y) ≡ now (arg1 z))
+copy-within-once k x q r y z a b = both a b
+
+pub copy-from-once : Once copy-from.Post (λ x q r y z. now (arg1 y) ≡ now (arg1 z))
+copy-from-once k x q r y z a b = both a b
+
+pub clear-run-once : Once clear-run.Post (λ x q r y z. now (arg1 y) ≡ now (arg1 z))
+clear-run-once k x q r y z a b = both a b
+
+-- ---- masks
+
+pub is-within-once : AnswerOnce is-within.Post
+is-within-once k x q r y z a b = both a b
+
+pub are-apart-once : AnswerOnce are-apart.Post
+are-apart-once k x q r y z a b = both a b
+
+pub is-proper-once : AnswerOnce is-proper.Post
+is-proper-once k x q r y z a b = both a b
+
+pub count-taxa-once : AnswerOnce count-taxa.Post
+count-taxa-once k x q r y z a b = both (a .0) (b .0)
+
+pub lowest-taxon-once : AnswerOnce lowest-taxon.Post
+lowest-taxon-once k x q r y z a b = λ i. record { 0 = both (a .0) (b .0) i }
+
+pub comes-before-once : AnswerOnce comes-before.Post
+comes-before-once k x q r y z a b = both a b
+
+pub every-taxon-once : AnswerOnce every-taxon.Post
+every-taxon-once k x q r y z a b = both a b
+
+pub side-once : AnswerOnce side.Post
+side-once k x q r y z a b = both a b
+
+pub union-of-once : AnswerOnce union-of.Post
+union-of-once k x q r y z a b = both a b
+
+pub taxa-without-once : AnswerOnce taxa-without.Post
+taxa-without-once k x q r y z a b = both a b
+
+pub has-taxon-once : AnswerOnce has-taxon.Post
+has-taxon-once k x q r y z a b = both a b
+
+pub only-taxon-once : AnswerOnce only-taxon.Post
+only-taxon-once k x q r y z a b = both a b
+
+-- ---- words, rising lists
+
+pub decimal-once : AnswerOnce decimal.Post
+decimal-once k x q r y z a b = both a b
+
+pub insert-at-once : Once insert-at.Post (λ x q r y z. now (arg1 y) ≡ now (arg1 z))
+insert-at-once k x q r y z a b = both a b
+
+-- ---- the head of a store
+
+pub taxa-once : AnswerOnce taxa.Post
+taxa-once k x q r y z a b = both (a .0) (b .0)
+
+pub lanes-once : AnswerOnce lanes.Post
+lanes-once k x q r y z a b = both (a .0) (b .0)
+
+pub tree-room-once : AnswerOnce tree-room.Post
+tree-room-once k x q r y z a b = both (a .0) (b .0)
+
+pub split-room-once : AnswerOnce split-room.Post
+split-room-once k x q r y z a b = both (a .0) (b .0)
+
+pub places-once : AnswerOnce places.Post
+places-once k x q r y z a b = both (a .0) (b .0)
+
+pub first-constant-once : AnswerOnce first-constant.Post
+first-constant-once k x q r y z a b = both (a .0) (b .0)
+
+pub second-constant-once : AnswerOnce second-constant.Post
+second-constant-once k x q r y z a b = both a b
+
+pub find-taxon-once : AnswerOnce find-taxon.Post
+find-taxon-once k x q r y z a b = both (a .0) (b .0)
+
+-- ---- opening
+
+pub numbers-in-range-once : AnswerOnce numbers-in-range.Post
+numbers-in-range-once k x q r y z a b = both a b
+
+pub constants-good-once : AnswerOnce constants-good.Post
+constants-good-once k x q r y z a b = both (a 0 0 0) (b 0 0 0)
+
+pub names-good-once : AnswerOnce names-good.Post
+names-good-once k x q r y z a b = both a b
+
+pub is-name-once : AnswerOnce is-name.Post
+is-name-once k x q r y z a b = both a b
+
+pub same-names-once : AnswerOnce same-names.Post
+same-names-once k x q r y z a b = both a b
+
+pub store-size-once : AnswerOnce store-size.Post
+store-size-once k x q r y z a b = both a b
+
+pub write-head-once : Once write-head.Post (λ x q r y z. now (arg1 y) ≡ now (arg1 z))
+write-head-once k x q r y z a b = both (a .0) (b .0)
+
+-- ---- where things stand
+
+pub trees-held-once : AnswerOnce trees-held.Post
+trees-held-once k x q r y z a b = both a b
+
+pub splits-held-once : AnswerOnce splits-held.Post
+splits-held-once k x q r y z a b = both (a .0) (b .0)
+
+pub tree-from-once : AnswerOnce tree-from.Post
+tree-from-once k x q r y z a b = both (a .0) (b .0)
+
+pub masks-from-once : AnswerOnce masks-from.Post
+masks-from-once k x q r y z a b = both (a .0) (b .0)
+
+pub identifiers-from-once : AnswerOnce identifiers-from.Post
+identifiers-from-once k x q r y z a b = both (a .0) (b .0)
+
+pub counts-from-once : AnswerOnce counts-from.Post
+counts-from-once k x q r y z a b = both (a .0) (b .0)
+
+pub links-from-once : AnswerOnce links-from.Post
+links-from-once k x q r y z a b = both (a .0) (b .0)
+
+pub order-from-once : AnswerOnce order-from.Post
+order-from-once k x q r y z a b = both (a .0) (b .0)
+
+pub places-from-once : AnswerOnce places-from.Post
+places-from-once k x q r y z a b = both (a .0) (b .0)
+
+pub number16-once : AnswerOnce number16.Post
+number16-once k x q r y z a b = both (a .0) (b .0)
+
+-- ---- rows, lanes
+
+pub row-of-once : AnswerOnce row-of.Post
+row-of-once k x q r y z a b = both (a .0) (b .0)
+
+pub mask-at-once : AnswerOnce mask-at.Post
+mask-at-once k x q r y z a b = both a b
+
+pub count-at-once : AnswerOnce count-at.Post
+count-at-once k x q r y z a b = both a b
+
+pub splits-in-once : AnswerOnce splits-in.Post
+splits-in-once k x q r y z a b = both a b
+
+pub find-rows-once : Once find-rows.Post (λ x q r y z. (q ≡ r) × (now (arg5 y) ≡ now (arg5 z)))
+find-rows-once k x q r y z a b = (both (a .1) (b .1), both (a .0) (b .0))
+
+pub lane-length-once : AnswerOnce lane-length.Post
+lane-length-once k x q r y z a b = both (a .0) (b .0)
+
+pub closing-number-once : AnswerOnce closing-number.Post
+closing-number-once k x q r y z a b = both a b
+
+-- ---- distances, collisions
+
+pub distances-one-sided-once : AnswerOnce distances-one-sided.Post
+distances-one-sided-once k x q r y z a b = both a b
+
+pub distances-doubled-once : AnswerOnce distances-doubled.Post
+distances-doubled-once k x q r y z a b = both a b
+
+pub write-matrix-once : Once write-matrix.Post (λ x q r y z. now (arg2 y) ≡ now (arg2 z))
+write-matrix-once k x q r y z a b = both a b
+
+pub collision-number-once : AnswerOnce collision-number.Post
+collision-number-once k x q r y z a b = both a b
