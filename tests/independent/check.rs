@@ -9,11 +9,11 @@ const MOST_PRINTED: usize = 50;
 /// The most bytes of a call or an answer that are printed.
 const MOST_SHOWN: usize = 200;
 
-/// Prints the differences and the counts; answers whether there are none.
+/// Prints the differences and the counts; answers whether there are calls and no differences.
 pub fn check(script: &[u8], answers: &[u8]) -> bool {
     let report = Report::of(script, answers);
     report.print();
-    report.differences == 0
+    report.differences == 0 && !report.calls.is_empty()
 }
 
 #[derive(Default)]

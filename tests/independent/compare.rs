@@ -11,18 +11,26 @@ pub struct Run<'a> {
 type Pair<'a> = (&'a [u8], &'a [u8]);
 
 impl<'a> Run<'a> {
-    /// Each call with its answer.
+    /// Each call with its answer; none if there are not as many answers as calls.
     fn pairs(&self) -> Vec<Pair<'a>> {
-        lines(self.script).into_iter().zip(lines(self.answers)).collect()
+        let (calls, answers) = (lines(self.script), lines(self.answers));
+        if calls.len() != answers.len() {
+            return Vec::new();
+        }
+        calls.into_iter().zip(answers).collect()
     }
 
-    /// The verdicts and closings in their order, and all answers behind the last `room`.
+    /// The verdicts and closings in their order, and all answers behind the last `room`; none if there is none of either.
     fn outcome(&self) -> Vec<String> {
         let pairs = self.pairs();
         let last = pairs.iter().rposition(|(call, _)| kind(call) == b"room");
-        let behind = last.map_or(pairs.len(), |at| at + 1);
-        let verdicts = pairs.iter().flat_map(verdicts_of);
-        verdicts.chain(pairs[behind..].iter().map(|(_, answer)| text(answer))).collect()
+        let behind: Vec<String> =
+            last.map_or(&[][..], |at| &pairs[at + 1..]).iter().map(|(_, answer)| text(answer)).collect();
+        let verdicts: Vec<String> = pairs.iter().flat_map(verdicts_of).collect();
+        if verdicts.is_empty() || behind.is_empty() {
+            return Vec::new();
+        }
+        [verdicts, behind].concat()
     }
 }
 
@@ -65,7 +73,7 @@ pub fn same_answers(a: &Run, b: &Run) -> bool {
     same_lines(&kept(a), &kept(b))
 }
 
-/// Prints the first difference, if there is one.
+/// Prints the first difference, if there is one. Two runs of nothing are not the same.
 fn same_lines(a: &[String], b: &[String]) -> bool {
     let alike = a.iter().zip(b).take_while(|(x, y)| x == y).count();
     let line = |of: &[String]| of.get(alike).map_or("nothing".to_string(), |line| line.chars().take(200).collect());

@@ -158,18 +158,28 @@ fn longest_written() -> usize {
 /// What must hold of every tree and every set of trees, on generated ones.
 fn properties() -> Vec<Check> {
     let (mut read_back, mut in_pairs, mut nested) = (true, true, true);
+    let (mut accepted, mut kept) = (0, [0, 0]);
     for seed in 0..200 {
         let mut random = Random::new(seed);
         let n = random.between(4, 20);
         let names = grow::names(&mut random, n);
-        let trees: Vec<Masks> = (0..4).filter_map(|_| judge(&names, &grow::text(&mut random, &names)).ok()).collect();
+        let shapes = [3, 3].map(|most_children| grow::shape(&mut random, &names, most_children));
+        let texts = [(); 4].map(|_| {
+            let shape = random.pick(&shapes);
+            grow::text_of(&mut random, shape)
+        });
+        let trees: Vec<Masks> = texts.iter().filter_map(|text| judge(&names, text).ok()).collect();
         let counts = counted(&trees);
         let (strict, majority) = (strict(&counts, trees.len() as u64), majority(&counts, trees.len() as u64));
         read_back &= trees.iter().chain([&strict, &majority]).all(|splits| reads_back(&names, splits));
         in_pairs &= trees.iter().chain([&majority]).all(agree_in_pairs);
         nested &= strict.is_subset(&majority);
+        accepted += trees.len();
+        kept = [kept[0] + strict.len(), kept[1] + majority.len()];
     }
     vec![
+        check("generated texts are trees", accepted == 4 * 200),
+        check("some of their splits are strict, more are majority splits", kept[0] > 100 && kept[1] > 2 * kept[0]),
         check("written trees read back", read_back),
         check("splits of a tree and majority splits agree in pairs", in_pairs),
         check("strict splits are majority splits", nested),

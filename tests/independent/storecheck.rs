@@ -150,7 +150,9 @@ fn checker_checks(store: &[u8]) -> Vec<Check> {
         ("checker, lane not emptied".to_string(), with(4, peeked(store)) > 0),
         ("checker, byte outside the lane".to_string(), with(4, peeked(&with_byte(&empty, 14, 0))) > 0),
         ("checker, byte changed by a refusal".to_string(), with(6, peeked(&with_byte(&empty, 5000, 0))) == 1),
-        ("checker, answer missing".to_string(), differences(&right[..right.len() - 1]) == 1),
+        ("checker, line end missing".to_string(), differences(&right[..right.len() - 1]) == 1),
+        ("checker, answer missing".to_string(), differences(&right[..right.rfind("bytes").unwrap_or(0)]) == 1),
+        ("checker, no answers".to_string(), differences("") == 1),
         ("checker, answers too many".to_string(), differences(&format!("{right}done\n")) == 1),
     ]
 }

@@ -2,7 +2,7 @@
 use crate::State;
 ghost use Prim.Native.Nat.{_<_};
 
-// Writes what waits. Nothing is written any more once a write has failed.
+// Writes what waits. A write that fails is told once, and nothing is written any more.
 pub(crate) fn flush(out: &[u8], state: State) -> State {
     let waiting = state.waiting;
     let mut next = state;
@@ -11,10 +11,18 @@ pub(crate) fn flush(out: &[u8], state: State) -> State {
         return next;
     }
     if state.is_good {
-        let is_written = io::write_all(libc::STDOUT_FILENO, &out[..waiting]);
-        next.is_good = is_written;
+        next.is_good = write(&out[..waiting]);
     }
     next
+}
+
+// Whether the bytes went to standard output; if not, standard error has a line on it, so that answers cut short do not pass for whole.
+fn write(s: &[u8]) -> bool {
+    if io::write_all(libc::STDOUT_FILENO, s) {
+        return true;
+    }
+    io::write_all(libc::STDERR_FILENO, b"treecalls: writing failed\n");
+    false
 }
 
 // A byte.
