@@ -4,13 +4,12 @@
 --   common-tree          splits whose counts together exceed the trees have a tree in common
 --   strict-majority      a strict split is a majority split, when there is a tree
 --   majority-good, strict-good     the majority (strict) splits of trees are proper, rising, and agree in pairs
-use Prim.Native.Nat.{ℕ, zero, suc, _+_, _*_, _≤_, _<_}
+use Prim.Native.Nat.{ℕ, suc, _+_, _*_, _≤_, _<_}
 use native.Mathlib.Omega.{arith}
-use mathlib.Core.Path.{_≡_, refl, ap, sym, _∙_, subst}
+use mathlib.Core.Path.{_≡_, refl, _∙_}
 use mathlib.Core.Logic.{_⊎_, inl, inr}
 use mathlib.Core.Bool.{Bool, true, false}
 use mathlib.Core.List.{List, [], _∷_}
-use lib.Dec.{ltb, eqb}
 use lib.ListN.{length}
 use borrow.Author.Tests.{ltb-true, lt-ltb, eqb-true}
 use Rattle.trees.specs.Plain.{if_then_else_, every, keep, member}
@@ -18,8 +17,7 @@ use Rattle.trees.specs.Mask.{proper}
 use Rattle.trees.specs.Consensus.{recorded, count, isStrict, isMajority, strict, majority}
 use Rattle.trees.specs.Whole.{rising, agreeInPairs, goodTree}
 use Rattle.theorems.specs.ListLaws.{if-true, if-false, and-left, and-right, and-true, Mem, member-mem, every-at, every-intro, keep-mem, mem-keep, keep-step, keep-most}
-use Rattle.theorems.specs.RisingLaws.{recorded-rising, recorded-mem, keep-rising, true-rising, rising-true}
-use Rattle.theorems.specs.MaskLaws.{Ag}
+use Rattle.theorems.specs.RisingLaws.{recorded-rising, recorded-mem, keep-rising, true-rising}
 use Rattle.theorems.specs.SplitLaws.{pairs-at, pairs-intro}
 
 -- ---- counts

@@ -5,7 +5,7 @@
 --   doubled-self         it is 0 for a tree and itself
 --   doubled-zero         it is 0 exactly for equal split sets
 --   doubled-triangle     the way over a third tree is no shorter
-use Prim.Native.Nat.{ℕ, zero, suc, _+_, _≤_, _<_}
+use Prim.Native.Nat.{ℕ, suc, _+_, _≤_}
 use native.Mathlib.Omega.{arith}
 use native.Mathlib.Nat.{add-comm}
 use mathlib.Core.Path.{_≡_, refl, ap, ap₂, sym, _∙_, subst}
@@ -13,10 +13,10 @@ use mathlib.Core.Logic.{_⊎_, inl, inr, _↔_}
 use mathlib.Core.Bool.{Bool, true, false, _||_, not, true≢false}
 use mathlib.Core.List.{List, [], _∷_}
 use lib.Dec.{eqb}
-use borrow.Author.Tests.{eqb-true, eqb-false, ne-eqb}
+use borrow.Author.Tests.{eqb-true, ne-eqb}
 use Rattle.trees.specs.Plain.{if_then_else_, member}
 use Rattle.trees.specs.Distance.{oneSided, doubled}
-use Rattle.theorems.specs.ListLaws.{if-true, if-false, Mem, member-mem, mem-member, not-member, keep-step}
+use Rattle.theorems.specs.ListLaws.{if-true, if-false, Mem, member-mem, mem-member, keep-step}
 use Rattle.theorems.specs.RisingLaws.{Rising, rising-same}
 
 pub doubled-sym : (a b : List ℕ) → doubled a b ≡ doubled b a

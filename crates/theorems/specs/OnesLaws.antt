@@ -9,7 +9,6 @@ use native.Mathlib.Omega.{arith}
 use native.Mathlib.Nat.{pow-suc}
 use mathlib.Core.Path.{_≡_, refl, ap, ap₂, sym, _∙_}
 use mathlib.Core.Logic.{_⊎_, inl, inr}
-use lib.Dec.{eqb}
 use lib.Arith.{bin-ind}
 use lib.Bits.{bitXor, xor-shr, xor-zero-r, differ}
 use lib.Count.{ones, onesIn, ones-step}

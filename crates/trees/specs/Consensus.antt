@@ -24,6 +24,7 @@ unfolding insertAll
 recorded [] = []
 recorded (t ∷ ts) = insertAll t (recorded ts)
 
+-- "its count": the number of trees that have it
 unfoldable pub count : List (List ℕ) → ℕ → ℕ
 unfolding keep member
 count ts m = length (keep (member m) ts)

@@ -1,6 +1,6 @@
 -- Distances between trees, each given by its splits.
 --
---   oneSided a b      how many splits of a b lacks
+--   oneSided a b      how many splits of a are lacking in b
 --   doubled a b       the doubled Robinson-Foulds distance
 --   matrix ts         the doubled distances of all pairs, row by row
 use Prim.Native.Nat.{ℕ, _+_}

@@ -6,7 +6,6 @@
 --   batches      batches, with the verdicts and what stands behind the last semicolon
 --   runs-hold    final answers, whole texts, what is pending, other lanes for the same calls
 use Prim.Native.Nat.{ℕ}
-use Prim.Native.String.{String}
 use mathlib.Core.Bool.{Bool, true, false}
 use mathlib.Core.List.{List, [], _∷_, _++_, map}
 use mathlib.Core.Path.{_≡_, refl}

@@ -2,7 +2,7 @@
 --
 --   questions-hold     every question, with its answer, its refusal, and the shortest buffer that is long enough
 --   hash-holds         places, identifiers and collisions with constants that are not 0
-use mathlib.Core.List.{List, [], _∷_}
+use mathlib.Core.List.{[], _∷_}
 use mathlib.Core.Path.{_≡_, refl}
 use Rattle.trees.specs.Plain.{bytes, refused, gives}
 use Rattle.trees.specs.Names.{namesIn}

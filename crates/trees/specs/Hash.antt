@@ -1,5 +1,5 @@
--- Places, identifiers and collisions. The constants and the number of places are checked by opening, and the store's size counts the
--- places; of what is answered afterwards only the collision number depends on them.
+-- Places, identifiers and collisions. The constants and the number of places are checked by Opening and Whole too, and the places count in
+-- the size of the store; of what an opened collection answers, only the collision number depends on them.
 --
 --   sumOver cs m          the sum of the constants cs over the taxa of the mask m
 --   place cs p m          the place of the split m among p places

@@ -34,6 +34,7 @@ unfoldable pub member : ℕ → List ℕ → Bool
 member m [] = false
 member m (x ∷ xs) = eqb m x || member m xs
 
+-- as in "the splits of i that j lacks"
 unfoldable pub lacking : List ℕ → List ℕ → List ℕ
 unfolding keep member
 lacking a b = keep (λ m. not (member m b)) a

@@ -1,5 +1,5 @@
 -- What "whole" asks of a tree's splits, of a lane and of an opening. What it asks of the lent bytes (counts, hash places, identifiers,
--- rooms, size) is said where the bytes are: in crate `store`, by `wholeAt`, which cites these.
+-- rooms, size) is said where the bytes are: `wholeAt` of crate `store`.
 --
 --   rising l           each mask is greater than the one before
 --   agreeInPairs l     every two masks of l agree
