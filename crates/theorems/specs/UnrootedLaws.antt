@@ -7,29 +7,30 @@
 --   unrooted-leaves      trees that are one unrooted tree have the same leaves, but for their order
 --   unrooted-faultless   so either has a fault of its leaves or neither
 --   unrooted             and they have the same splits
---   unrooted-texts       so two texts of one unrooted tree are judged with the same splits
-use Prim.Native.Nat.{ℕ, suc, _+_, _-_, _^_, _<_}
+--   unrooted-accepts     so a collection that accepts a text of it accepts any other, with the same splits
+use Prim.Native.Nat.{ℕ, zero, suc, _+_, _-_, _^_, _≤_, _<_}
 use native.Mathlib.Omega.{arith}
 use mathlib.Core.Path.{_≡_, refl, ap, sym, _∙_, subst}
 use mathlib.Core.Logic.{_⊎_, inl, inr, ⊎-elim}
 use mathlib.Core.List.{List, [], _∷_, _++_, append-nil, append-assoc}
-use mathlib.Core.Option.{some}
 use lib.Bits.{bitOr, or-disjoint, or-zero-r}
 use lib.ListN.{length}
-use Rattle.trees.specs.Plain.{gives}
 use Rattle.trees.specs.Mask.{everyTaxon, side, proper}
 use Rattle.trees.specs.Tree.{Nodes, nil, leaf, inner, beside, width, leaves, children}
 use Rattle.trees.specs.Grammar.{IsTree}
-use Rattle.trees.specs.Names.{taxonOf}
 use Rattle.trees.specs.Splits.{taxon, taxa, clusters, counted, splitsOf}
-use Rattle.trees.specs.Verdict.{leafFault, judged}
+use Rattle.trees.specs.Verdict.{leafFault}
+use Rattle.trees.specs.Consensus.{recorded}
+use Rattle.trees.specs.Held.{Held, mostText}
 use Rattle.theorems.specs.ListLaws.{Mem, mem-cases, mem-left, mem-right}
 use Rattle.theorems.specs.RisingLaws.{rising-same}
-use Rattle.theorems.specs.BitLaws.{On, on?, Sub, Dis, ext, dis-and, on-or-l, on-or-r, or-on, only-on, self-on, sub-le}
+use Rattle.theorems.specs.BitLaws.{On, on?, Sub, ext, dis-and, on-or-l, on-or-r, or-on, only-on, self-on, sub-le}
 use Rattle.theorems.specs.MaskLaws.{every-on, side-even, side-odd, others-on, on-others}
 use Rattle.theorems.specs.SplitLaws.{counted-mem, mem-counted, counted-rising, taxa-sub}
 use Rattle.theorems.specs.VerdictLaws.{leaf-fine, leaf-new, leaves-distinct}
 use Rattle.theorems.specs.FewLaws.{none-missing, leaves-beside}
+use Rattle.theorems.specs.FaultLaws.{fault-numbers-only, faultless-exactly}
+use Rattle.theorems.specs.Refusing.{Fault, Accepts}
 use Rattle.theorems.specs.EdgeLaws.{a-leaf, a-node, taxa-at, at-taxa, hangs-cluster}
 use Rattle.theorems.specs.Unrooted.{Reordered, swapped, behind-leaf, behind-node, below, SameUnrooted, reordered, moved, dissolved, itself, back, onward}
 
@@ -258,3 +259,27 @@ module _ (ns : List (List ℕ)) where
   unrooted p (itself t) z = refl
   unrooted p (back s) z = sym (unrooted p s (unrooted-faultless (back s) z))
   unrooted p (onward s s′) z = unrooted p s z ∙ unrooted p s′ (unrooted-faultless s z)
+
+-- ---- texts of one unrooted tree
+
+module _ (h : Held) (s v ms : List ℕ) (u : Nodes) (a : Accepts h s ms) (one : SameUnrooted (a .tree) u) where
+  was-faultless : leafFault (h .opening .names) 0 (leaves (a .tree)) ≡ 0
+  was-faultless = faultless-exactly (h .opening .names) (leaves (a .tree)) .1 (λ k q. a .faultless .leaves-fine (suc k) q)
+
+  still-faultless : (k : ℕ) → Fault (h .opening .names) [] (leaves u) k → ⊥
+  still-faultless k q = go k (fault-numbers-only (h .opening .names) q .0) q
+    where
+      go : (k : ℕ) → 8 ≤ k → Fault (h .opening .names) [] (leaves u) k → ⊥
+      go zero l q = absurd (omega arith)
+      go (suc k) l q = faultless-exactly (h .opening .names) (leaves u) .0 (unrooted-faultless (h .opening .names) one was-faultless) k q
+
+  pub unrooted-accepts : 0 < length (h .opening .names) → IsTree v u → length v ≤ mostText → Accepts h v ms
+  unrooted-accepts p i l =
+      let e : splitsOf (h .opening .names) (a .tree) ≡ splitsOf (h .opening .names) u = unrooted (h .opening .names) p one was-faultless in
+      record {
+        tree = u;
+        faultless = record { short = l; tree = i; leaves-fine = still-faultless };
+        tree-room = a .tree-room;
+        split-room = subst (λ (x : List ℕ). length (recorded (h .trees ++ x ∷ [])) ≤ h .opening .numbers .splitRoom) e (a .split-room);
+        splits = a .splits ∙ e;
+      }
