@@ -5,7 +5,7 @@
 --   mem-strict         a split that all trees have is strict, where there is a tree
 --   strict-exactly     and no other is
 --   majority-exactly   a split is a majority split exactly when twice its count is more than the number of trees
-use Prim.Native.Nat.{ℕ, suc, _+_, _*_, _≤_, _<_}
+use Prim.Native.Nat.{ℕ, suc, _*_, _≤_, _<_}
 use native.Mathlib.Omega.{arith}
 use mathlib.Core.Path.{_≡_, refl, ap, sym, _∙_, subst}
 use mathlib.Core.Logic.{_⊎_, inl, inr, _↔_}
@@ -75,7 +75,8 @@ recorded-exactly ts m = (recorded-mem ts m, λ r. mem-recorded ts (r .0) m (r .1
 pub mem-strict : (ts : List (List ℕ)) (m : ℕ) → 0 < length ts → ((t : List ℕ) → Mem t ts → Mem m t) → Mem m (strict ts)
 unfolding strict isStrict
 mem-strict [] m h f = absurd (omega arith)
-mem-strict (t ∷ ts) m h f = mem-keep (isStrict (t ∷ ts)) (recorded (t ∷ ts)) m (mem-recorded (t ∷ ts) t m (inl refl) (f t (inl refl))) (eq-eqb (count (t ∷ ts) m) (suc (length ts)) (all-count (t ∷ ts) m f))
+mem-strict (t ∷ ts) m h f =
+    mem-keep (isStrict (t ∷ ts)) (recorded (t ∷ ts)) m (mem-recorded (t ∷ ts) t m (inl refl) (f t (inl refl))) (eq-eqb (count (t ∷ ts) m) (suc (length ts)) (all-count (t ∷ ts) m f))
 
 pub strict-exactly : (ts : List (List ℕ)) (m : ℕ) → 0 < length ts → Mem m (strict ts) ↔ ((t : List ℕ) → Mem t ts → Mem m t)
 strict-exactly ts m p = (λ h. count-all ts m (strict-mem ts m h .1), mem-strict ts m p)

@@ -41,3 +41,5 @@ pub mod RefusalNumberLaws
 pub mod EdgeLaws
 pub mod Unrooted
 pub mod UnrootedLaws
+pub mod Longest
+pub mod LongestLaws

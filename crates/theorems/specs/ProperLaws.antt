@@ -2,19 +2,20 @@
 --
 --   proper-ones        proper, with the library's count of set bits
 --   proper-even, proper-two, proper-most, proper-sub   what it says of a mask that it is proper
+--   true-proper        and what makes it proper
 --   every-ones         all n taxa are n
 --   one-taxon          the cluster of one taxon is never a split
-use Prim.Native.Nat.{ℕ, _-_, _^_, _%_, _≤_}
+use Prim.Native.Nat.{ℕ, _-_, _^_, _%_, _≤_, _<_}
 use native.Mathlib.Omega.{arith}
 use mathlib.Core.Path.{_≡_, refl, ap, sym, _∙_}
 use mathlib.Core.Logic.{_⊎_, inl, inr}
 use mathlib.Core.Bool.{Bool, true, false, _&&_, and-false}
 use lib.Count.{ones, ones-ones}
 use lib.Dec.{leb, ltb, eqb}
-use borrow.Author.Tests.{ltb-true, leb-true, eqb-true}
+use borrow.Author.Tests.{ltb-true, lt-ltb, leb-true, le-leb, eqb-true, eq-eqb}
 use Rattle.trees.specs.Mask.{onesBelow, everyTaxon, proper, side}
-use Rattle.theorems.specs.ListLaws.{and-left, and-right}
-use Rattle.theorems.specs.BitLaws.{On, Sub, first-on, on?}
+use Rattle.theorems.specs.ListLaws.{and-left, and-right, and-true}
+use Rattle.theorems.specs.BitLaws.{On, Sub, on-first, first-on, on?}
 use Rattle.theorems.specs.OnesLaws.{below-ones, ones-part}
 use Rattle.theorems.specs.MaskLaws.{below-sub, others-xor, side-even, side-odd}
 
@@ -50,6 +51,11 @@ module _ (n m : ℕ) (h : proper n m ≡ true) where
 
   pub proper-sub : Sub m (everyTaxon n)
   proper-sub = below-sub n m (ltb-true m (2 ^ n) (and-right (leb (ones m) (n - 2)) _ (and-right (leb 2 (ones m)) _ proper-rest)))
+
+pub true-proper : (n m : ℕ) → (On m 0 → ⊥) → 2 ≤ ones m → ones m ≤ n - 2 → m < 2 ^ n → proper n m ≡ true
+true-proper n m f a b c =
+    let even : m % 2 ≡ 1 → ⊥ = λ e. f (on-first m e) in
+    proper-ones n m ∙ and-true (eq-eqb (m % 2) 0 (omega (arith, even))) (and-true (le-leb 2 (ones m) a) (and-true (le-leb (ones m) (n - 2) b) (lt-ltb m (2 ^ n) c)))
 
 -- ---- the cluster of one taxon is never a split
 

@@ -18,7 +18,7 @@ use Rattle.trees.specs.Grammar.{IsTree}
 use Rattle.trees.specs.Held.{Held, holding, mostText, laneOf, feeding}
 use Rattle.theorems.specs.ListLaws.{Mem}
 use Rattle.theorems.specs.FaultLaws.{fault-numbers-only}
-use Rattle.theorems.specs.Refusing.{Fault, Faultless, TreesFull, splitsWith, Refuses, too-long, no-form, a-leaf, no-tree-room, no-split-room}
+use Rattle.theorems.specs.Refusing.{Fault, Faultless, TreesFull, splitsWith, Refuses, too-long, no-form, leaf-fault, no-tree-room, no-split-room}
 use Rattle.theorems.specs.RefusingLaws.{fed-refused-exactly}
 
 -- ---- what a fault of each number is
@@ -36,35 +36,35 @@ module _ (h : Held) (s : List ℕ) where
   from-six : {k : ℕ} → k ≡ 6 → Refuses h s k → mostText < length s
   from-six e (too-long l) = l
   from-six e (no-form l f) = absurd (omega arith)
-  from-six e (a-leaf l i f) = absurd (omega (arith, fault-numbers-only (h .opening .names) f))
+  from-six e (leaf-fault l i f) = absurd (omega (arith, fault-numbers-only (h .opening .names) f))
   from-six e (no-tree-room f q) = absurd (omega arith)
   from-six e (no-split-room f q l) = absurd (omega arith)
 
   from-seven : {k : ℕ} → k ≡ 7 → Refuses h s k → (length s ≤ mostText) × ((t : Nodes) → IsTree s t → ⊥)
   from-seven e (too-long l) = absurd (omega arith)
   from-seven e (no-form l f) = (l, f)
-  from-seven e (a-leaf l i f) = absurd (omega (arith, fault-numbers-only (h .opening .names) f))
+  from-seven e (leaf-fault l i f) = absurd (omega (arith, fault-numbers-only (h .opening .names) f))
   from-seven e (no-tree-room f q) = absurd (omega arith)
   from-seven e (no-split-room f q l) = absurd (omega arith)
 
   from-leaf : {k : ℕ} → 8 ≤ k → k ≤ 10 → Refuses h s k → LeafFault k
   from-leaf a b (too-long l) = absurd (omega arith)
   from-leaf a b (no-form l f) = absurd (omega arith)
-  from-leaf a b (a-leaf {t} l i f) = (t, l, i, f)
+  from-leaf a b (leaf-fault {t} l i f) = (t, l, i, f)
   from-leaf a b (no-tree-room f q) = absurd (omega arith)
   from-leaf a b (no-split-room f q l) = absurd (omega arith)
 
   from-eleven : {k : ℕ} → k ≡ 11 → Refuses h s k → NoTreeRoom
   from-eleven e (too-long l) = absurd (omega arith)
   from-eleven e (no-form l f) = absurd (omega arith)
-  from-eleven e (a-leaf l i f) = absurd (omega (arith, fault-numbers-only (h .opening .names) f))
+  from-eleven e (leaf-fault l i f) = absurd (omega (arith, fault-numbers-only (h .opening .names) f))
   from-eleven e (no-tree-room {t} f q) = (t, f, q)
   from-eleven e (no-split-room f q l) = absurd (omega arith)
 
   from-twelve : {k : ℕ} → k ≡ 12 → Refuses h s k → NoSplitRoom
   from-twelve e (too-long l) = absurd (omega arith)
   from-twelve e (no-form l f) = absurd (omega arith)
-  from-twelve e (a-leaf l i f) = absurd (omega (arith, fault-numbers-only (h .opening .names) f))
+  from-twelve e (leaf-fault l i f) = absurd (omega (arith, fault-numbers-only (h .opening .names) f))
   from-twelve e (no-tree-room f q) = absurd (omega arith)
   from-twelve e (no-split-room {t} f q l) = (t, f, q, l)
 
@@ -84,7 +84,7 @@ module _ (h : Held) (l : ℕ) (lane : l < h .opening .numbers .lanes) (empty : l
   fed-seven-exactly = (λ e. from-seven h s refl (exactly 7 .0 e), λ p. exactly 7 .1 (no-form (p .0) (p .1)))
 
   pub fed-leaf-exactly : (k : ℕ) → 8 ≤ k → k ≤ 10 → Refused k ↔ LeafFault h s k
-  fed-leaf-exactly k a b = (λ e. from-leaf h s a b (exactly k .0 e), λ p. exactly k .1 (a-leaf (p .1) (p .2) (p .3)))
+  fed-leaf-exactly k a b = (λ e. from-leaf h s a b (exactly k .0 e), λ p. exactly k .1 (leaf-fault (p .1) (p .2) (p .3)))
 
   pub fed-eleven-exactly : Refused 11 ↔ NoTreeRoom h s
   fed-eleven-exactly = (λ e. from-eleven h s refl (exactly 11 .0 e), λ p. exactly 11 .1 (no-tree-room (p .1) (p .2)))

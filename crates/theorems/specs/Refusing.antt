@@ -43,7 +43,7 @@ splitsWith h t = length (recorded (h .trees ++ splitsOf (h .opening .names) t �
 pub data Refuses (h : Held) (s : List ℕ) : ℕ → Type 0 where
   too-long : mostText < length s → Refuses h s 6
   no-form : length s ≤ mostText → ((t : Nodes) → IsTree s t → ⊥) → Refuses h s 7
-  a-leaf : {t : Nodes} {k : ℕ} → length s ≤ mostText → IsTree s t → Fault (h .opening .names) [] (leaves t) k → Refuses h s k
+  leaf-fault : {t : Nodes} {k : ℕ} → length s ≤ mostText → IsTree s t → Fault (h .opening .names) [] (leaves t) k → Refuses h s k
   no-tree-room : {t : Nodes} → Faultless h s t → TreesFull h → Refuses h s 11
   no-split-room : {t : Nodes} → Faultless h s t → (TreesFull h → ⊥) → h .opening .numbers .splitRoom < splitsWith h t → Refuses h s 12
 

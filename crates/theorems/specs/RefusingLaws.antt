@@ -34,7 +34,7 @@ use Rattle.theorems.specs.RecordedLaws.{recorded-more}
 use Rattle.theorems.specs.FaultLaws.{fault-numbers-only, Refusal, judged-refuses, judged-accepts}
 use Rattle.theorems.specs.WrittenLaws.{before-semicolon}
 use Rattle.theorems.specs.WrittenFedLaws.{feedingBy, feeding-by}
-use Rattle.theorems.specs.Refusing.{Faultless, TreesFull, splitsWith, Refuses, too-long, no-form, a-leaf, no-tree-room, no-split-room, Accepts}
+use Rattle.theorems.specs.Refusing.{Faultless, TreesFull, splitsWith, Refuses, too-long, no-form, leaf-fault, no-tree-room, no-split-room, Accepts}
 
 abbrev pub onText : Held → List ℕ → Answer (List ℕ)
 onText h s = verdict h (longer (holding []) s)
@@ -99,7 +99,7 @@ module _ (h : Held) (s : List ℕ) where
   refuses-answer : {k : ℕ} → Refuses h s k → onText h s ≡ refused k
   refuses-answer (too-long l) = long-text l
   refuses-answer (no-form l f) = refused-text l 7 (inl (refl, f))
-  refuses-answer (a-leaf {t} {k} l i f) = refused-text l k (inr (t, i, f))
+  refuses-answer (leaf-fault {t} {k} l i f) = refused-text l k (inr (t, i, f))
   refuses-answer (no-tree-room {t} f e) = faultless-text t f ∙ full-room h t e
   refuses-answer (no-split-room {t} f e l) = faultless-text t f ∙ free-room h t e ∙ over-room h t l
 
@@ -129,7 +129,7 @@ module _ (h : Held) (s : List ℕ) where
     where
       go : Refusal (h .opening .names) s k → Refuses h s k
       go (inl r) = subst (Refuses h s) (sym (r .0)) (no-form l (r .1))
-      go (inr r) = a-leaf l (r .1) (r .2)
+      go (inr r) = leaf-fault l (r .1) (r .2)
   judged-answers l (gives ms) e =
       let r = judged-accepts (h .opening .names) s ms .0 e in
       subst (λ (x : List ℕ). Answers (roomFor h x)) (sym (r .3)) (room-answers (r .0) (record { short = l; tree = r .1; leaves-fine = r .2 }))
@@ -175,7 +175,7 @@ module _ (h : Held) (s : List ℕ) where
   pub refused-numbers : {k : ℕ} → Refuses h s k → (6 ≤ k) × (k ≤ 12)
   refused-numbers (too-long l) = (omega arith, omega arith)
   refused-numbers (no-form l f) = (omega arith, omega arith)
-  refused-numbers (a-leaf l i f) = let n = fault-numbers-only (h .opening .names) f in (omega arith, omega arith)
+  refused-numbers (leaf-fault l i f) = let n = fault-numbers-only (h .opening .names) f in (omega arith, omega arith)
   refused-numbers (no-tree-room f e) = (omega arith, omega arith)
   refused-numbers (no-split-room f e l) = (omega arith, omega arith)
 

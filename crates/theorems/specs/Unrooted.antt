@@ -9,9 +9,9 @@ use Rattle.trees.specs.Tree.{Nodes, nil, leaf, inner, beside, width}
 
 pub data Reordered : Nodes → Nodes → Type 0 where
   swapped : (a b r : Nodes) → Reordered (beside a (beside b r)) (beside b (beside a r))
-  behind-leaf : {w : List ℕ} {t u : Nodes} → Reordered t u → Reordered (leaf w t) (leaf w u)
-  behind-node : {c t u : Nodes} → Reordered t u → Reordered (inner c t) (inner c u)
-  below : {c d r : Nodes} → Reordered c d → Reordered (inner c r) (inner d r)
+  past-leaf : {w : List ℕ} {t u : Nodes} → Reordered t u → Reordered (leaf w t) (leaf w u)
+  past-node : {c t u : Nodes} → Reordered t u → Reordered (inner c t) (inner c u)
+  at-depth : {c d r : Nodes} → Reordered c d → Reordered (inner c r) (inner d r)
 
 -- moved: the root goes over an edge, to the child with the children c; the root's other children r are a child of it.
 -- dissolved: a root with two children stands within an edge; without it, the other child hangs on the first.

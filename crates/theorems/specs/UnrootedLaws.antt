@@ -7,31 +7,33 @@
 --   unrooted-leaves      trees that are one unrooted tree have the same leaves, but for their order
 --   unrooted-faultless   so either has a fault of its leaves or neither
 --   unrooted             and they have the same splits
---   unrooted-texts       so two texts of one unrooted tree are judged with the same splits
-use Prim.Native.Nat.{ℕ, suc, _+_, _-_, _^_, _<_}
+--   any-root             every inner node of a tree can be its root
+--   unrooted-accepts     so a collection that accepts a text of it accepts any other, with the same splits
+use Prim.Native.Nat.{ℕ, zero, suc, _+_, _-_, _^_, _≤_, _<_}
 use native.Mathlib.Omega.{arith}
 use mathlib.Core.Path.{_≡_, refl, ap, sym, _∙_, subst}
 use mathlib.Core.Logic.{_⊎_, inl, inr, ⊎-elim}
 use mathlib.Core.List.{List, [], _∷_, _++_, append-nil, append-assoc}
-use mathlib.Core.Option.{some}
 use lib.Bits.{bitOr, or-disjoint, or-zero-r}
 use lib.ListN.{length}
-use Rattle.trees.specs.Plain.{gives}
 use Rattle.trees.specs.Mask.{everyTaxon, side, proper}
 use Rattle.trees.specs.Tree.{Nodes, nil, leaf, inner, beside, width, leaves, children}
 use Rattle.trees.specs.Grammar.{IsTree}
-use Rattle.trees.specs.Names.{taxonOf}
 use Rattle.trees.specs.Splits.{taxon, taxa, clusters, counted, splitsOf}
-use Rattle.trees.specs.Verdict.{leafFault, judged}
+use Rattle.trees.specs.Verdict.{leafFault}
+use Rattle.trees.specs.Consensus.{recorded}
+use Rattle.trees.specs.Held.{Held, mostText}
 use Rattle.theorems.specs.ListLaws.{Mem, mem-cases, mem-left, mem-right}
 use Rattle.theorems.specs.RisingLaws.{rising-same}
-use Rattle.theorems.specs.BitLaws.{On, on?, Sub, Dis, ext, dis-and, on-or-l, on-or-r, or-on, only-on, self-on, sub-le}
+use Rattle.theorems.specs.BitLaws.{On, on?, Sub, ext, dis-and, on-or-l, on-or-r, or-on, only-on, self-on, sub-le}
 use Rattle.theorems.specs.MaskLaws.{every-on, side-even, side-odd, others-on, on-others}
 use Rattle.theorems.specs.SplitLaws.{counted-mem, mem-counted, counted-rising, taxa-sub}
 use Rattle.theorems.specs.VerdictLaws.{leaf-fine, leaf-new, leaves-distinct}
 use Rattle.theorems.specs.FewLaws.{none-missing, leaves-beside}
-use Rattle.theorems.specs.EdgeLaws.{a-leaf, a-node, taxa-at, at-taxa, hangs-cluster}
-use Rattle.theorems.specs.Unrooted.{Reordered, swapped, behind-leaf, behind-node, below, SameUnrooted, reordered, moved, dissolved, itself, back, onward}
+use Rattle.theorems.specs.FaultLaws.{fault-numbers-only, faultless-exactly}
+use Rattle.theorems.specs.Refusing.{Fault, Accepts}
+use Rattle.theorems.specs.EdgeLaws.{Hangs, a-leaf, a-node, below, behind-leaf, behind-node, taxa-at, at-taxa, hangs-cluster}
+use Rattle.theorems.specs.Unrooted.{Reordered, swapped, past-leaf, past-node, at-depth, SameUnrooted, reordered, moved, dissolved, itself, back, onward}
 
 -- ---- lists in another order
 
@@ -143,9 +145,9 @@ module _ (ns : List (List ℕ)) where
   reordered-leaves (swapped a b r) =
       perm-onward (perm-equal (leaves-beside a (beside b r) ∙ ap (λ l. leaves a ++ l) (leaves-beside b r)))
       (perm-onward (perm-groups (leaves a) (leaves b) (leaves r)) (perm-equal (sym (leaves-beside b (beside a r) ∙ ap (λ l. leaves b ++ l) (leaves-beside a r)))))
-  reordered-leaves (behind-leaf q) = perm-behind (reordered-leaves q)
-  reordered-leaves (behind-node {c} q) = perm-front (leaves c) (reordered-leaves q)
-  reordered-leaves (below {c} {d} {r} q) = perm-end (leaves r) (reordered-leaves q)
+  reordered-leaves (past-leaf q) = perm-behind (reordered-leaves q)
+  reordered-leaves (past-node {c} q) = perm-front (leaves c) (reordered-leaves q)
+  reordered-leaves (at-depth {c} {d} {r} q) = perm-end (leaves r) (reordered-leaves q)
 
   -- nodes with the same leaves have the same taxa
   perm-taxa : (t u : Nodes) → Perm (leaves t) (leaves u) → taxa ns t ≡ taxa ns u
@@ -162,9 +164,9 @@ module _ (ns : List (List ℕ)) where
   unfolding clusters
   reordered-clusters (swapped a b r) =
       perm-onward (perm-equal (groups a b r)) (perm-onward (perm-groups (clusters ns a) (clusters ns b) (clusters ns r)) (perm-equal (sym (groups b a r))))
-  reordered-clusters (behind-leaf q) = perm-behind (reordered-clusters q)
-  reordered-clusters (behind-node {c} q) = perm-front (clusters ns c) (perm-behind (reordered-clusters q))
-  reordered-clusters (below {c} {d} {r} q) =
+  reordered-clusters (past-leaf q) = perm-behind (reordered-clusters q)
+  reordered-clusters (past-node {c} q) = perm-front (clusters ns c) (perm-behind (reordered-clusters q))
+  reordered-clusters (at-depth {c} {d} {r} q) =
       perm-onward (perm-end (taxa ns c ∷ clusters ns r) (reordered-clusters q))
       (perm-equal (ap (λ (m : ℕ). clusters ns d ++ (m ∷ clusters ns r)) (perm-taxa c d (reordered-leaves q))))
 
@@ -198,8 +200,8 @@ module _ (ns : List (List ℕ)) where
         go (inr (inl e)) = (taxa ns r, mem-right (taxa ns r) (clusters ns c) ks m, ap (side (length ns)) e ∙ other-side)
         go (inr (inr k)) = (x, mem-right x (clusters ns c) ks (f x k), refl)
 
-    parted : (ks : List ℕ) → ((x : ℕ) → Mem x ks → Mem x (clusters ns r) ⊎ (x ≡ taxa ns r)) → SidesIn (length ns) (clusters ns c ++ ks) (clusters ns c ++ (taxa ns c ∷ clusters ns r))
-    parted ks f x h = ⊎-elim (λ k. (x, mem-left x (clusters ns c) (taxa ns c ∷ clusters ns r) k, refl)) (λ k. go (f x k)) (mem-cases x (clusters ns c) ks h)
+    unmerged : (ks : List ℕ) → ((x : ℕ) → Mem x ks → Mem x (clusters ns r) ⊎ (x ≡ taxa ns r)) → SidesIn (length ns) (clusters ns c ++ ks) (clusters ns c ++ (taxa ns c ∷ clusters ns r))
+    unmerged ks f x h = ⊎-elim (λ k. (x, mem-left x (clusters ns c) (taxa ns c ∷ clusters ns r) k, refl)) (λ k. go (f x k)) (mem-cases x (clusters ns c) ks h)
       where
         go : Mem x (clusters ns r) ⊎ (x ≡ taxa ns r) → (d : ℕ) × Mem d (clusters ns c ++ (taxa ns c ∷ clusters ns r)) × (side (length ns) x ≡ side (length ns) d)
         go (inl k) = (x, mem-right x (clusters ns c) (taxa ns c ∷ clusters ns r) (inr k), refl)
@@ -210,7 +212,7 @@ module _ (ns : List (List ℕ)) where
         → ((x : ℕ) → Mem x (clusters ns k) → Mem x (clusters ns r) ⊎ (x ≡ taxa ns r)) → splitsOf ns (inner (inner c r) nil) ≡ splitsOf ns (inner (beside c k) nil)
     unfolding splitsOf children clusters
     rooted-there k f m g =
-        counted-same (length ns) (clusters ns c ++ (taxa ns c ∷ clusters ns r)) (clusters ns c ++ clusters ns k) (merged (clusters ns k) f m) (parted (clusters ns k) g)
+        counted-same (length ns) (clusters ns c ++ (taxa ns c ∷ clusters ns r)) (clusters ns c ++ clusters ns k) (merged (clusters ns k) f m) (unmerged (clusters ns k) g)
         ∙ ap (counted (length ns)) (sym (clusters-beside c k))
 
     moved-splits : splitsOf ns (inner (inner c r) nil) ≡ splitsOf ns (inner (beside c (inner r nil)) nil)
@@ -258,3 +260,54 @@ module _ (ns : List (List ℕ)) where
   unrooted p (itself t) z = refl
   unrooted p (back s) z = sym (unrooted p s (unrooted-faultless (back s) z))
   unrooted p (onward s s′) z = unrooted p s z ∙ unrooted p s′ (unrooted-faultless s z)
+
+-- ---- every inner node can be the root
+
+beside-nil : (t : Nodes) → beside t nil ≡ t
+unfolding beside
+beside-nil nil = refl
+beside-nil (leaf w r) = ap (leaf w) (beside-nil r)
+beside-nil (inner c r) = ap (inner c) (beside-nil r)
+
+leaf-inner : {w : List ℕ} {c : Nodes} → leaf w nil ≡ inner c nil → ⊥
+leaf-inner e = let z : _≡_ {A = ℕ} 0 1 = cc in omega arith
+
+same-children : {b c : Nodes} → inner b nil ≡ inner c nil → b ≡ c
+same-children e = cc
+
+-- the node with the children c hangs at d, beside which the nodes k are children of the root
+root-at : (c : Nodes) {x d : Nodes} → Hangs x d → x ≡ inner c nil → (k : Nodes) → (r : Nodes) × SameUnrooted (inner (beside d k) nil) (inner (beside c r) nil)
+unfolding beside
+root-at c a-leaf e k = absurd (leaf-inner e)
+root-at c (a-node {c = b} {r = r}) e k =
+    (inner (beside r k) nil, subst (λ (z : Nodes). SameUnrooted (inner (inner b (beside r k)) nil) (inner (beside z (inner (beside r k) nil)) nil)) (same-children e) (moved b (beside r k)))
+root-at c (below {c = b} {r = r} h) e k = let p = root-at c h e (inner (beside r k) nil) in (p .0, onward (moved b (beside r k)) (p .1))
+root-at c (behind-leaf {w = w} {r = r} h) e k = let p = root-at c h e (leaf w k) in (p .0, onward (reordered (swapped (leaf w nil) r k)) (p .1))
+root-at c (behind-node {c = b} {r = r} h) e k = let p = root-at c h e (inner b k) in (p .0, onward (reordered (swapped (inner b nil) r k)) (p .1))
+
+pub any-root : (c d : Nodes) → Hangs (inner c nil) d → (r : Nodes) × SameUnrooted (inner d nil) (inner (beside c r) nil)
+any-root c d h = let p = root-at c h refl nil in (p .0, subst (λ (z : Nodes). SameUnrooted (inner z nil) (inner (beside c (p .0)) nil)) (beside-nil d) (p .1))
+
+-- ---- texts of one unrooted tree
+
+module _ (h : Held) (s v ms : List ℕ) (u : Nodes) (a : Accepts h s ms) (one : SameUnrooted (a .tree) u) where
+  was-faultless : leafFault (h .opening .names) 0 (leaves (a .tree)) ≡ 0
+  was-faultless = faultless-exactly (h .opening .names) (leaves (a .tree)) .1 (λ k q. a .faultless .leaves-fine (suc k) q)
+
+  still-faultless : (k : ℕ) → Fault (h .opening .names) [] (leaves u) k → ⊥
+  still-faultless k q = go k (fault-numbers-only (h .opening .names) q .0) q
+    where
+      go : (k : ℕ) → 8 ≤ k → Fault (h .opening .names) [] (leaves u) k → ⊥
+      go zero l q = absurd (omega arith)
+      go (suc k) l q = faultless-exactly (h .opening .names) (leaves u) .0 (unrooted-faultless (h .opening .names) one was-faultless) k q
+
+  pub unrooted-accepts : 0 < length (h .opening .names) → IsTree v u → length v ≤ mostText → Accepts h v ms
+  unrooted-accepts p i l =
+      let e : splitsOf (h .opening .names) (a .tree) ≡ splitsOf (h .opening .names) u = unrooted (h .opening .names) p one was-faultless in
+      record {
+        tree = u;
+        faultless = record { short = l; tree = i; leaves-fine = still-faultless };
+        tree-room = a .tree-room;
+        split-room = subst (λ (x : List ℕ). length (recorded (h .trees ++ x ∷ [])) ≤ h .opening .numbers .splitRoom) e (a .split-room);
+        splits = a .splits ∙ e;
+      }
