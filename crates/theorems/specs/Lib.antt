@@ -26,6 +26,8 @@ pub mod Alike
 pub mod AlikeLaws
 pub mod OwnLaneLaws
 pub mod PieceLaws
+pub mod Quiet
+pub mod QuietLaws
 pub mod RunLaws
 pub mod OutcomeLaws
 pub mod LaneLaws
