@@ -22,6 +22,7 @@ pub mod WrittenLaws
 pub mod WrittenFedLaws
 pub mod RecordedLaws
 pub mod HeldLaws
+pub mod ReadBackLaws
 pub mod Alike
 pub mod AlikeLaws
 pub mod OwnLaneLaws
