@@ -46,7 +46,8 @@ room-small false false t = tt
 held-room-small : (h : Held) (t : List ℕ) → Small (roomFor h t)
 unfolding roomFor
 held-room-small h t =
-    room-small (eqb (length (h .trees)) (h .opening .numbers .treeRoom)) (ltb (h .opening .numbers .splitRoom) (length (recorded (h .trees)) + length (newSplits h t))) t
+    room-small (eqb (length (h .trees)) (h .opening .numbers .treeRoom))
+    (ltb (h .opening .numbers .splitRoom) (length (recorded (h .trees)) + length (newSplits h t))) t
 
 verdict-small : (h : Held) (x : Lane) → Small (verdict h x)
 unfolding verdict withRoom
@@ -154,7 +155,8 @@ module _ (n : ℕ) (h : Held) (l : ℕ) (p : List ℕ) (lane : ltb l (h .opening
         ap (λ (b : Batched). b .verdicts) batch-now ∙ ap (λ (vs : List ℕ). verdictNumber (feeding h l p .answer) ∷ vs) (rest .hears)
         ∙ ap (λ (f : Fed). take (suc n) (map heardNumber (heardThen f (feedings l n behind)))) (fed-first h l p lane m);
     judges =
-        ap (λ (b : Batched). map verdictOf (b .verdicts)) batch-now ∙ ap (λ (vs : List Verdict). verdictOf (verdictNumber (feeding h l p .answer)) ∷ vs) (rest .judges)
+        ap (λ (b : Batched). map verdictOf (b .verdicts)) batch-now
+        ∙ ap (λ (vs : List Verdict). verdictOf (verdictNumber (feeding h l p .answer)) ∷ vs) (rest .judges)
         ∙ sym (settled-read (feeding h l p .taken) (feeding h l p .answer) (fed-settled h l p lane m) (answers (feeding h l p .after) (feedings l n behind)))
         ∙ ap (λ (f : Fed). verdicts (heardThen f (feedings l n behind))) (fed-first h l p lane m);
   }
@@ -205,7 +207,8 @@ module _ (lent : ℕ) (h : Held) where
       given : Answer Batched → Told
       given x = batched (lengthGiven (numbersIn x)) (front (numbersIn x) v)
 
-      go : (b c : Bool) → given (if b then if c then refused 4 else gives (batching (semicolons p) h l p) else refused 5) ≡ batchTold b c (batching (semicolons p) h l p .verdicts) v
+      go : (b c : Bool) → given (if b then if c then refused 4 else gives (batching (semicolons p) h l p) else refused 5)
+          ≡ batchTold b c (batching (semicolons p) h l p .verdicts) v
       go true true = unfold numbersIn lengthGiven front in refl
       go true false = unfold numbersIn lengthGiven front in refl
       go false c = unfold numbersIn lengthGiven front in refl
@@ -235,7 +238,8 @@ headOr a (b ∷ bs) = b
 module _ (lent : ℕ) (h k : Held) (lanes : h .opening .numbers .lanes ≡ k .opening .numbers .lanes) where
   -- a batch, from the answers to the feedings of its texts
   many-same : (l : ℕ) (p v : List ℕ) (b c : Bool) → ltb l (h .opening .numbers .lanes) ≡ b
-      → answers h (if b then if c then [] else feedings l (semicolons p) p else []) ≡ answers k (if b then if c then [] else feedings l (semicolons p) p else [])
+      → answers h (if b then if c then [] else feedings l (semicolons p) p else [])
+      ≡ answers k (if b then if c then [] else feedings l (semicolons p) p else [])
       → batchTold b c (batching (semicolons p) h l p .verdicts) v ≡ batchTold b c (batching (semicolons p) k l p .verdicts) v
   many-same l p v true true a e = refl
   many-same l p v true false a e =

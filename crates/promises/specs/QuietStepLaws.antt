@@ -7,6 +7,7 @@ use Prim.Native.Nat.{ℕ}
 use mathlib.Core.Path.{_≡_, refl, sym, ap, ap₂, subst, _∙_}
 use mathlib.Core.Bool.{true}
 use mathlib.Core.List.{List, [], _∷_}
+use lib.ListN.{length}
 use Rattle.trees.specs.Opening.{Opening}
 use Rattle.trees.specs.Held.{Held}
 use Rattle.trees.specs.Runs.{answers}
@@ -14,7 +15,6 @@ use Rattle.theorems.specs.Quiet.{Quiet, SaveLane}
 use Rattle.theorems.specs.QuietLaws.{quiet-append, quiet-run, save-questions, save-collisions}
 use Rattle.layout.specs.Store.{heldAt}
 use Rattle.store.specs.WholeStore.{wholeAt}
-use lib.ListN.{length}
 use Rattle.promises.specs.Calls.{Made, Told, told, after, handed, handedAll}
 use Rattle.promises.specs.Steps.{Steps}
 use Rattle.promises.specs.BatchLaws.{told-same}
@@ -30,7 +30,8 @@ module _ (j n : ℕ) (h k : Held) (s : SaveLane j h k) (e : h .opening .numbers 
 
   save-told : (lent : ℕ) → told lent h c ≡ told lent k c
   save-told lent =
-      told-same lent h k (ap (λ (o : Opening). o .numbers .lanes) (s .opening)) c (subst (λ (m : ℕ). answers h (handed m c) ≡ answers k (handed m c)) (sym e) (quiet-run j (handed n c) h k s q .0))
+      told-same lent h k (ap (λ (o : Opening). o .numbers .lanes) (s .opening)) c
+      (subst (λ (m : ℕ). answers h (handed m c) ≡ answers k (handed m c)) (sym e) (quiet-run j (handed n c) h k s q .0))
       (λ x _. reply-same h k (save-questions j h k s) x (λ _. save-collisions j h k s))
 
 pub quiet-steps : (j n : ℕ) (cs : List Made) (s s′ : List ℕ) (as′ bs : List Told) (t t′ : List ℕ) → wholeAt s ≡ true → wholeAt s′ ≡ true
@@ -43,8 +44,10 @@ quiet-steps j n (c ∷ cs) s s′ as′ bs t t′ w w′ r e f p q =
     let x = step-follows s w (p .2) c (p .0) (p .4) in
     let y = step-follows s′ w′ (q .2) c (q .0) (q .4) in
     let d : p .0 ≡ q .0 =
-    x .1 ∙ save-told j n (heldAt s) (heldAt s′) r e c (g .0) (length s) ∙ told-lent s s′ c (p .0) (q .0) (p .2) (q .2) (p .4) (q .4) (heldAt s′) ∙ sym (y .1) in
-    let z = quiet-steps j n cs (p .2) (q .2) (p .1) (q .1) t t′ (x .0 .whole) (y .0 .whole) (rw (x .0 .held, y .0 .held) (save-after j n (heldAt s) (heldAt s′) r e c (g .0)))
+    x .1 ∙ save-told j n (heldAt s) (heldAt s′) r e c (g .0) (length s)
+    ∙ told-lent s s′ c (p .0) (q .0) (p .2) (q .2) (p .4) (q .4) (heldAt s′) ∙ sym (y .1) in
+    let z = quiet-steps j n cs (p .2) (q .2) (p .1) (q .1) t t′ (x .0 .whole) (y .0 .whole)
+    (rw (x .0 .held, y .0 .held) (save-after j n (heldAt s) (heldAt s′) r e c (g .0)))
     (rw (x .0 .held) (after-lanes n (heldAt s) e c)) (g .1) (p .5) (q .5) in
     (p .3 ∙ ap₂ (λ (a : Told) (l : List Told). a ∷ l) d (z .0) ∙ sym (q .3), z .1)
 

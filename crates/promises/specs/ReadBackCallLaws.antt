@@ -167,18 +167,21 @@ module _ (s u : List ℕ) (w : wholeAt s ≡ true) (v : wholeAt u ≡ true) (nam
     strict-reads-back p =
         let c = of.strict (heldAt s .trees) in
         given-reads-back c (strict-whole (heldAt s) (held-whole s w)) a t (strictOf (heldAt s) (length out))
-        (only-trees (textOf c) (heldAt s) (ifRoom (length out) (textOf c)) (only-room (textOf c) (length out))) out n left (asked-follows s w (strict out) (filled (gives n) left) p) q
+        (only-trees (textOf c) (heldAt s) (ifRoom (length out) (textOf c)) (only-room (textOf c) (length out)))
+        out n left (asked-follows s w (strict out) (filled (gives n) left) p) q
 
     pub majority-reads-back : Asked s (majority out) (filled (gives n) left) → ReadBackAs u (of.majority (heldAt s .trees)) n a t
     unfolding reply majorityOf
     majority-reads-back p =
         let c = of.majority (heldAt s .trees) in
         given-reads-back c (majority-whole (heldAt s) (held-whole s w)) a t (majorityOf (heldAt s) (length out))
-        (only-trees (textOf c) (heldAt s) (ifRoom (length out) (textOf c)) (only-room (textOf c) (length out))) out n left (asked-follows s w (majority out) (filled (gives n) left) p) q
+        (only-trees (textOf c) (heldAt s) (ifRoom (length out) (textOf c)) (only-room (textOf c) (length out)))
+        out n left (asked-follows s w (majority out) (filled (gives n) left) p) q
 
     pub accepted-reads-back : (i : ℕ) → Asked s (write-accepted i out) (filled (gives n) left) → ReadBackAs u (tree (heldAt s) i) n a t
     unfolding reply writtenOf
     accepted-reads-back i p =
         let c = tree (heldAt s) i in
         given-reads-back c (tree-whole (heldAt s) (held-whole s w) i) a t (writtenOf (heldAt s) i (length out))
-        (only-tree (textOf c) (heldAt s) i (ifRoom (length out) (textOf c)) (only-room (textOf c) (length out))) out n left (asked-follows s w (write-accepted i out) (filled (gives n) left) p) q
+        (only-tree (textOf c) (heldAt s) i (ifRoom (length out) (textOf c)) (only-room (textOf c) (length out)))
+        out n left (asked-follows s w (write-accepted i out) (filled (gives n) left) p) q

@@ -6,6 +6,7 @@
 --   run-follows               the lent bytes are whole and hold what the definitions' run holds, those past the size stay, and every
 --                             answer is the definitions'
 --   same-verdicts             the verdicts, those of a batch in their places, are those of the whole texts, handed in one after another
+--   same-verdicts-so-far      and so they are at any point of the run
 --   same-trees                so are the trees
 --   same-questions            a question at any point of the run is answered as the whole texts before it give, handed in one after another
 --   constants-do-not-show     two runs of the same calls, whose openings differ in the number of places and the constants alone, have the
@@ -14,7 +15,7 @@ use Prim.Native.Nat.{ℕ}
 use mathlib.Core.Path.{_≡_, refl, sym, ap, ap₂, subst, _∙_}
 use mathlib.Core.Bool.{Bool, true, false, true≢false}
 use mathlib.Core.List.{List, [], _∷_, _++_}
-use lib.ListN.{length, getD}
+use lib.ListN.{length, getD, take}
 use Rattle.trees.specs.Plain.{if_then_else_, Answer, refused, gives}
 use Rattle.trees.specs.Opening.{Numbers, Opening}
 use Rattle.trees.specs.Held.{Held, moreWanted, accepted, opened}
@@ -71,8 +72,14 @@ verdicts-all n (c ∷ cs) lent h e =
     ∙ sym (verdicts-append (answers h (handed n c)) (answers (ending h (handed n c)) (handedAll n cs)))
     ∙ ap verdicts (sym (answers-append h (handed n c) (handedAll n cs)))
 
--- the answer behind the calls cs
-told-at : (lent : ℕ) (cs : List Made) (c : Made) (ds : List Made) (h : Held) (d : Told) → getD (toldAll lent h (cs ++ c ∷ ds)) (length cs) d ≡ told lent (afterAll h cs) c
+-- the answers to the calls cs, and the one behind them
+told-first : (lent : ℕ) (cs ds : List Made) (h : Held) → take (length cs) (toldAll lent h (cs ++ ds)) ≡ toldAll lent h cs
+unfolding toldAll
+told-first lent [] ds h = refl
+told-first lent (c ∷ cs) ds h = ap (λ (as′ : List Told). told lent h c ∷ as′) (told-first lent cs ds (after h c))
+
+told-at : (lent : ℕ) (cs : List Made) (c : Made) (ds : List Made) (h : Held) (d : Told)
+    → getD (toldAll lent h (cs ++ c ∷ ds)) (length cs) d ≡ told lent (afterAll h cs) c
 unfolding toldAll afterAll
 told-at lent [] c ds h d = refl
 told-at lent (b ∷ cs) c ds h d = told-at lent cs c ds (after h b) d
@@ -109,9 +116,11 @@ module _ (x : Numbers) (names first second before s : List ℕ) (o : Opens x nam
   unfolding opened
   begun-lanes = refl
 
-  begun-opening : begun .opening ≡ openingOf x names first second
-  unfolding opened
-  begun-opening = refl
+  -- the definitions' own run
+  verdicts-whole : (cs : List Made) → verdictsTold (toldAll (length before) begun cs) ≡ verdicts (answers begun (texts cs))
+  verdicts-whole cs =
+      verdicts-all (x .lanes) cs (length before) begun begun-lanes
+      ∙ lanes-make-no-difference (openingOf x names first second) (handedAll (x .lanes) cs) .0
 
   module _ (cs : List Made) (as′ : List Told) (t : List ℕ) (run : Steps s cs as′ t) where
     -- "Lent bytes past that size keep their values", those that were there before the opening
@@ -125,16 +134,23 @@ module _ (x : Numbers) (names first second before s : List ℕ) (o : Opens x nam
 
     -- "Every verdict .. is the one that whole texts give when handed in one after another"
     pub same-verdicts : verdictsTold as′ ≡ verdicts (answers begun (texts cs))
-    same-verdicts =
-        ap verdictsTold (run-follows .1) ∙ verdicts-all (x .lanes) cs (length before) begun begun-lanes
-        ∙ lanes-make-no-difference (openingOf x names first second) (handedAll (x .lanes) cs) .0
+    same-verdicts = ap verdictsTold (run-follows .1) ∙ verdicts-whole cs
 
+    -- the trees too
     pub same-trees : heldAt t .trees ≡ ending begun (texts cs) .trees
     same-trees =
         ap (λ (h : Held). h .trees) (run-follows .0 .held ∙ after-all (x .lanes) cs begun begun-lanes)
         ∙ lanes-make-no-difference (openingOf x names first second) (handedAll (x .lanes) cs) .1
 
-  -- ".. and so is every distance, count and consensus tree", and the collision number
+  -- and so at any point of a run, behind the calls cs
+  pub same-verdicts-so-far : (cs ds : List Made) (as′ : List Told) (t : List ℕ) → Steps s (cs ++ ds) as′ t
+      → verdictsTold (take (length cs) as′) ≡ verdicts (answers begun (texts cs))
+  same-verdicts-so-far cs ds as′ t run =
+      ap (λ (bs : List Told). verdictsTold (take (length cs) bs)) (run-follows (cs ++ ds) as′ t run .1)
+      ∙ ap verdictsTold (told-first (length before) cs ds begun)
+      ∙ verdicts-whole cs
+
+  -- every distance, count and consensus tree, and the collision number, at any point of a run
   pub same-questions : (cs ds : List Made) (q : Question) (as′ : List Told) (t : List ℕ) → Steps s (cs ++ ask q ∷ ds) as′ t
       → (d : Told) → getD as′ (length cs) d ≡ replied (reply (ending begun (texts cs)) q)
   unfolding told
@@ -154,7 +170,8 @@ record Twins (h k : Held) : Type 0 where
   unfinished : h .texts ≡ k .texts
 
 -- a part of the opening after the calls cs, of two collections
-part-stays : {A : Type 0} (f : Opening → A) (h k : Held) (cs : List Call) → f (h .opening) ≡ f (k .opening) → f (ending h cs .opening) ≡ f (ending k cs .opening)
+part-stays : {A : Type 0} (f : Opening → A) (h k : Held) (cs : List Call) → f (h .opening) ≡ f (k .opening)
+    → f (ending h cs .opening) ≡ f (ending k cs .opening)
 part-stays f h k cs e = ap f (ending-opening h cs) ∙ e ∙ sym (ap f (ending-opening k cs))
 
 module _ (h k : Held) (s : Twins h k) where
@@ -200,7 +217,8 @@ twins-steps (c ∷ cs) s s′ as′ bs t t′ w w′ r p q =
     ap (otherTold (c ∷ cs)) (p .3)
     ∙ other-same c cs (p .0) (q .0) (p .1) (q .1)
     (λ e. x .1 ∙ twins-told (heldAt s) (heldAt s′) r (length s) c e ∙ told-lent s s′ c (p .0) (q .0) (p .2) (q .2) (p .4) (q .4) (heldAt s′) ∙ sym (y .1))
-    (twins-steps cs (p .2) (q .2) (p .1) (q .1) t t′ (x .0 .whole) (y .0 .whole) (rw (x .0 .held, y .0 .held) (twins-after (heldAt s) (heldAt s′) r c)) (p .5) (q .5))
+    (twins-steps cs (p .2) (q .2) (p .1) (q .1) t t′ (x .0 .whole) (y .0 .whole)
+    (rw (x .0 .held, y .0 .held) (twins-after (heldAt s) (heldAt s′) r c)) (p .5) (q .5))
     ∙ sym (ap (otherTold (c ∷ cs)) (q .3))
 
 -- "it is the only answer that may depend on m or the constants"
@@ -210,7 +228,8 @@ module _ (x : Numbers) (m : ℕ) (names first second first′ second′ before b
   unfolding opened withPlaces
   twins-begun = record { alike = record { names = refl; lanes = refl; treeRoom = refl; splitRoom = refl; trees = refl }; unfinished = refl }
 
-  pub constants-do-not-show : (cs : List Made) (as′ bs : List Told) (t t′ : List ℕ) → Steps s cs as′ t → Steps s′ cs bs t′ → otherTold cs as′ ≡ otherTold cs bs
+  pub constants-do-not-show : (cs : List Made) (as′ bs : List Told) (t t′ : List ℕ) → Steps s cs as′ t → Steps s′ cs bs t′
+      → otherTold cs as′ ≡ otherTold cs bs
   constants-do-not-show cs as′ bs t t′ p q =
       let a = opening-follows x names first second before s o in
       let b = opening-follows (withPlaces x m) names first′ second′ before′ s′ o′ in

@@ -69,10 +69,16 @@ module _ (x : Numbers) (names first second : List ℕ) where
       (λ _. by-test AsGiven (goodNames (x .taxa) (namesIn names)) (λ _. by-test AsGiven (leb (storeSize x) n) (λ _. refl) (λ _. tt)) (λ _. tt)) (λ _. tt)
 
   -- the checks of 2 and 3 do not look at the lent bytes, and where they pass a refusal is 4
+  abbrev passes2 : Bool
+  passes2 = inRange x && goodConstants x first second
+
+  abbrev passes3 : Bool
+  passes3 = goodNames (x .taxa) (namesIn names)
+
   abbrev openedBy : Bool → Bool → Bool → Answer Opening
   openedBy a b c = if a then if b then if c then gives begun else refused 4 else refused 3 else refused 2
 
-  opened-by : (n : ℕ) → opening x names first second n ≡ openedBy (inRange x && goodConstants x first second) (goodNames (x .taxa) (namesIn names)) (leb (storeSize x) n)
+  opened-by : (n : ℕ) → opening x names first second n ≡ openedBy passes2 passes3 (leb (storeSize x) n)
   unfolding opening
   opened-by n = refl
 
@@ -88,7 +94,7 @@ module _ (x : Numbers) (names first second : List ℕ) where
       → refusalIn (opening x names first second n) ≡ refusalIn (opening x names first second m)
   refused-alike n m j k e f =
       ap (λ (y : Answer Opening). refusalIn y) (opened-by n)
-      ∙ refused-by (inRange x && goodConstants x first second) (goodNames (x .taxa) (namesIn names)) (leb (storeSize x) n) (leb (storeSize x) m) j k (sym (opened-by n) ∙ e) (sym (opened-by m) ∙ f)
+      ∙ refused-by passes2 passes3 (leb (storeSize x) n) (leb (storeSize x) m) j k (sym (opened-by n) ∙ e) (sym (opened-by m) ∙ f)
       ∙ sym (ap (λ (y : Answer Opening). refusalIn y) (opened-by m))
 
   module _ (s t : List ℕ) where
@@ -107,7 +113,8 @@ module _ (x : Numbers) (names first second : List ℕ) where
     unfolding Opens
     opening-follows q = accepted-opening (q .0) (opening x names first second (length s)) (as-given (length s)) (q .1) (q .2)
 
-    reopened : (a : Told) → Step s (reopen x names first second) a t → (k : ℕ) × (opening x names first second (length s) ≡ refused k) × (t ≡ s) × (a ≡ notOpened k)
+    reopened : (a : Told) → Step s (reopen x names first second) a t
+        → (k : ℕ) × (opening x names first second (length s) ≡ refused k) × (t ≡ s) × (a ≡ notOpened k)
     unfolding Step
     reopened a q = let r = refused-opening (q .0) (q .1) (opening x names first second (length s)) (q .2) (q .3) in (q .1, r .0, r .1, q .4)
 
@@ -134,7 +141,8 @@ module _ (s : List ℕ) (w : wholeAt s ≡ true) where
   asked-follows split-count a x = x .2 ∙ ap number (x .1 ∙ when-whole s splitsHeld w)
   asked-follows (one-split k) a x = x .2 ∙ ap split (x .1 ∙ when-whole s (λ h. splitNumber h k) w)
   asked-follows (split-list m c) a x =
-      x .4 ∙ (λ i. bothFilled (x .3 .0 i) (x .3 .1 .0 i) (x .3 .1 .1 i)) ∙ ap (λ (y : Answer (List ℕ × List ℕ)). fillBoth y m c) (when-whole s (λ h. splitList h (length m) (length c)) w)
+      x .4 ∙ (λ i. bothFilled (x .3 .0 i) (x .3 .1 .0 i) (x .3 .1 .1 i))
+      ∙ ap (λ (y : Answer (List ℕ × List ℕ)). fillBoth y m c) (when-whole s (λ h. splitList h (length m) (length c)) w)
   asked-follows (tree-splits i m) a x =
       x .3 ∙ filled-is _ _ (when-whole s (λ h. treeNumber h i (length m)) w) (x .0) m (x .1) (x .2 .0) (x .2 .1)
   asked-follows (one-sided i j) a x = x .2 ∙ ap number (x .1 ∙ when-whole s (λ h. oneSidedOf h i j) w)
@@ -175,6 +183,10 @@ module _ (s : List ℕ) (w : wholeAt s ≡ true) (t : List ℕ) where
   stays : t ≡ s → Holds (heldAt s) s t
   stays e = record { whole = rw e w; held = ap heldAt e; size = ap length e; behind = λ i _. ap (λ (b : List ℕ). getD b i 0) e }
 
+  batch-whole : (l : ℕ) (p v : List ℕ) → batchOf s l p (length v) ≡ batch (heldAt s) l p (length v)
+  unfolding batchOf
+  batch-whole l p v = when-whole s (λ h. batch h l p (length v)) w
+
   -- a batch that is x
   batch-follows : (x : Answer Batched) (r : Number) (v u : List ℕ) → BatchedAs x r s v t u
       → Holds (afterBatch (heldAt s) x) s t × (batched (numberGiven r) u ≡ batched (lengthGiven (numbersIn x)) (front (numbersIn x) v))
@@ -201,17 +213,10 @@ module _ (s : List ℕ) (w : wholeAt s ≡ true) (t : List ℕ) where
       go : (b : Bool) → reached s l ≡ b → Holds (closing (heldAt s) l .after) s t
       go true e = rw (closed-whole s w l) at (f .holds e)
       go false e = rw (closed-nowhere s w l e) (stays (f .found e))
-  step-follows (many l p v) a q = (r .0, q .3 ∙ r .1)
-    where
-      f : BatchedAs (batchOf s l p (length v)) (q .0) s v t (q .1)
-      f = q .2
-
-      this : batchOf s l p (length v) ≡ batch (heldAt s) l p (length v)
-      this = unfold batchOf in when-whole s (λ h. batch h l p (length v)) w
-
-      r : Holds (afterBatch (heldAt s) (batch (heldAt s) l p (length v))) s t
-          × (batched (numberGiven (q .0)) (q .1) ≡ batched (lengthGiven (numbersIn (batch (heldAt s) l p (length v)))) (front (numbersIn (batch (heldAt s) l p (length v))) v))
-      r = batch-follows (batch (heldAt s) l p (length v)) (q .0) v (q .1) (subst (λ (x : Answer Batched). BatchedAs x (q .0) s v t (q .1)) this f)
+  step-follows (many l p v) a q =
+      let f : BatchedAs (batchOf s l p (length v)) (q .0) s v t (q .1) = q .2 in
+      let r = batch-follows (batch (heldAt s) l p (length v)) (q .0) v (q .1) (subst (λ (x : Answer Batched). BatchedAs x (q .0) s v t (q .1)) (batch-whole l p v) f) in
+      (r .0, q .3 ∙ r .1)
   step-follows (ask x) a q = (stays (q .3), q .2 ∙ ap replied (asked-follows s w x (q .0) (q .1)))
   step-follows (reopen x names first second) a q =
       let r = reopened x names first second s t a q in
@@ -251,7 +256,8 @@ steps-follow (c ∷ cs) s as′ t w q =
 -- ---- two runs of the same calls
 
 -- what a call answers does not depend on how many bytes are lent, where it may be made in both
-pub told-lent : (s s′ : List ℕ) (c : Made) (a a′ : Told) (t t′ : List ℕ) → Step s c a t → Step s′ c a′ t′ → (h : Held) → told (length s) h c ≡ told (length s′) h c
+pub told-lent : (s s′ : List ℕ) (c : Made) (a a′ : Told) (t t′ : List ℕ) → Step s c a t → Step s′ c a′ t′ → (h : Held)
+    → told (length s) h c ≡ told (length s′) h c
 unfolding told
 told-lent s s′ (one c) a a′ t t′ p q h = refl
 told-lent s s′ (many l x v) a a′ t t′ p q h = refl

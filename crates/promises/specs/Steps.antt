@@ -1,5 +1,6 @@
 -- Runs of calls on lent bytes. Nothing here speaks of code, and no promise is written down a second time: a step is whatever the call's
--- contract allows, and its term is the contract's own (`Post`, of the call's arguments, its answer and its arguments afterwards).
+-- contract allows, and its term is the contract's own: `Post`, of the call's lifetimes, of which no contract speaks, its arguments, its
+-- answer and its arguments afterwards. A clause that is dropped from a contract is missed here.
 --
 --   lent s             a slice with the elements s; no contract depends on where it lies
 --   Asked s q a        the question q of the lent bytes s may be answered a
@@ -39,41 +40,38 @@ use Rattle.promises.specs.Calls.{Question, tree-count, split-count, one-
 abbrev pub lent : List ℕ → RefT (List ℕ)
 lent s = record { ptr = (0, 0); name = 0; now = s }
 
--- ---- questions: the store is lent to be read, the buffers to be written
+-- ---- questions
 
+-- a call may answer a number; or a number, and leave a buffer so
+abbrev Counts : (Number → Type 0) → Reply → Type 0
+Counts post a = (r : Number) × post r × (a ≡ number (numberGiven r))
+
+abbrev Fills : (Number → List ℕ → Type 0) → Reply → Type 0
+Fills post a = (r : Number) × (out : List ℕ) × post r out × (a ≡ filled (numberGiven r) out)
+
+-- the store is lent to be read, the buffers to be written
 unfoldable pub Asked : List ℕ → Question → Reply → Type 0
 unfolding numberGiven splitGiven
-Asked s tree-count a = (r : Number) × treeCount.Post ([], tt) (lent s, tt) r (lent s, tt) × (a ≡ number (numberGiven r))
-Asked s split-count a = (r : Number) × splitCount.Post ([], tt) (lent s, tt) r (lent s, tt) × (a ≡ number (numberGiven r))
-Asked s (one-split k) a =
+Asked s tree-count = Counts (λ r. treeCount.Post ([], tt) (lent s, tt) r (lent s, tt))
+Asked s split-count = Counts (λ r. splitCount.Post ([], tt) (lent s, tt) r (lent s, tt))
+Asked s (one-split k) = λ a.
     (r : Recorded) × oneSplit.Post ([], tt) (lent s, (record { 0 = k }, tt)) r (lent s, (record { 0 = k }, tt)) × (a ≡ split (splitGiven r))
-Asked s (split-list m c) a =
+Asked s (split-list m c) = λ a.
     (r : Number) × (m′ : List ℕ) × (c′ : List ℕ)
     × splitList.Post ([], ([], ([], tt))) (lent s, (lent m, (lent c, tt))) r (lent s, (lent m′, (lent c′, tt)))
     × (a ≡ bothFilled (numberGiven r) m′ c′)
-Asked s (tree-splits i m) a =
-    (r : Number) × (m′ : List ℕ)
-    × treeSplits.Post ([], ([], tt)) (lent s, (record { 0 = i }, (lent m, tt))) r (lent s, (record { 0 = i }, (lent m′, tt)))
-    × (a ≡ filled (numberGiven r) m′)
-Asked s (one-sided i j) a =
-    (r : Number)
-    × oneSided.Post ([], tt) (lent s, (record { 0 = i }, (record { 0 = j }, tt))) r (lent s, (record { 0 = i }, (record { 0 = j }, tt)))
-    × (a ≡ number (numberGiven r))
-Asked s (doubled i j) a =
-    (r : Number)
-    × doubles.Post ([], tt) (lent s, (record { 0 = i }, (record { 0 = j }, tt))) r (lent s, (record { 0 = i }, (record { 0 = j }, tt)))
-    × (a ≡ number (numberGiven r))
-Asked s (matrix o) a =
-    (r : Number) × (o′ : List ℕ) × matrices.Post ([], ([], tt)) (lent s, (lent o, tt)) r (lent s, (lent o′, tt)) × (a ≡ filled (numberGiven r) o′)
-Asked s collisions a = (r : Number) × colliding.Post ([], tt) (lent s, tt) r (lent s, tt) × (a ≡ number (numberGiven r))
-Asked s (strict o) a =
-    (r : Number) × (o′ : List ℕ) × stricts.Post ([], ([], tt)) (lent s, (lent o, tt)) r (lent s, (lent o′, tt)) × (a ≡ filled (numberGiven r) o′)
-Asked s (majority o) a =
-    (r : Number) × (o′ : List ℕ) × majorities.Post ([], ([], tt)) (lent s, (lent o, tt)) r (lent s, (lent o′, tt)) × (a ≡ filled (numberGiven r) o′)
-Asked s (write-accepted i o) a =
-    (r : Number) × (o′ : List ℕ)
-    × writes.Post ([], ([], tt)) (lent s, (record { 0 = i }, (lent o, tt))) r (lent s, (record { 0 = i }, (lent o′, tt)))
-    × (a ≡ filled (numberGiven r) o′)
+Asked s (tree-splits i m) =
+    Fills (λ r m′. treeSplits.Post ([], ([], tt)) (lent s, (record { 0 = i }, (lent m, tt))) r (lent s, (record { 0 = i }, (lent m′, tt))))
+Asked s (one-sided i j) =
+    Counts (λ r. oneSided.Post ([], tt) (lent s, (record { 0 = i }, (record { 0 = j }, tt))) r (lent s, (record { 0 = i }, (record { 0 = j }, tt))))
+Asked s (doubled i j) =
+    Counts (λ r. doubles.Post ([], tt) (lent s, (record { 0 = i }, (record { 0 = j }, tt))) r (lent s, (record { 0 = i }, (record { 0 = j }, tt))))
+Asked s (matrix o) = Fills (λ r o′. matrices.Post ([], ([], tt)) (lent s, (lent o, tt)) r (lent s, (lent o′, tt)))
+Asked s collisions = Counts (λ r. colliding.Post ([], tt) (lent s, tt) r (lent s, tt))
+Asked s (strict o) = Fills (λ r o′. stricts.Post ([], ([], tt)) (lent s, (lent o, tt)) r (lent s, (lent o′, tt)))
+Asked s (majority o) = Fills (λ r o′. majorities.Post ([], ([], tt)) (lent s, (lent o, tt)) r (lent s, (lent o′, tt)))
+Asked s (write-accepted i o) =
+    Fills (λ r o′. writes.Post ([], ([], tt)) (lent s, (record { 0 = i }, (lent o, tt))) r (lent s, (record { 0 = i }, (lent o′, tt))))
 
 -- ---- openings
 
@@ -102,7 +100,9 @@ Step s (many l p v) a t =
     (r : Number) × (w : List ℕ)
     × batches.Post ([], ([], ([], tt))) (lent s, (record { 0 = l }, (lent p, (lent v, tt)))) r (lent t, (record { 0 = l }, (lent p, (lent w, tt))))
     × (a ≡ batched (numberGiven r) w)
+-- a question has the store as a `&[u8]`, which stays
 Step s (ask q) a t = (x : Reply) × Asked s q x × (a ≡ replied x) × (t ≡ s)
+-- an opening that answers a refusal
 Step s (reopen x names first second) a t =
     (r : Finish) × (k : ℕ) × Opened x names first second s r t × (finishGiven r ≡ refused k) × (a ≡ notOpened k)
 
