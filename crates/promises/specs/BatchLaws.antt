@@ -1,45 +1,259 @@
--- A batch among the calls: it comes to what its feedings come to. Assumes nothing.
+-- A batch among the calls: it is its texts, fed one after another. Assumes nothing.
 --
---   feedings n h l p      the calls that feed the piece p to lane l again and again, each time the rest: n texts, and what is behind them
 --   heardNumber a         an answer's verdict as a number
---   batching-ends, batching-hears     a batch holds and answers what these calls do
---   batch-follows         so does a batch on whole bytes, as its promise allows
-use Prim.Native.Nat.{ℕ, zero, suc}
-use mathlib.Core.Path.{_≡_, refl, ap, _∙_}
-use mathlib.Core.Bool.{true}
-use mathlib.Core.List.{List, [], _∷_, map}
-use lib.ListN.{take, drop}
-use Rattle.trees.specs.Plain.{gives}
-use Rattle.trees.specs.Held.{Held, feeding}
-use Rattle.trees.specs.Batch.{verdictNumber, withVerdict, batching}
-use Rattle.trees.specs.Runs.{Call, feed, Heard, fed, closedLane, answer, next, answers, ending}
-use Rattle.layout.specs.Store.{heldAt}
-use Rattle.store.specs.WholeStore.{wholeAt}
-use Rattle.table.specs.declared.Number.{Number}
-use Rattle.feeding.specs.Feeding.{BatchedAs}
+--   BatchIs n h l p       a batch of n texts holds, answers and judges what the feedings of these texts do
+--   batch-is              so does each batch to a lane that is there
+--   after-handed          every call holds what the feedings and closings hold that it hands in
+--   verdicts-handed       its verdicts are theirs
+--   told-same             collections that answer these feedings alike, and questions, answer every call alike
+use Prim.Native.Nat.{ℕ, zero, suc, _+_, _-_, _≤_, _<_}
+use native.Mathlib.Omega.{arith}
+use mathlib.Core.Path.{_≡_, refl, sym, ap, ap₂, subst, _∙_}
+use mathlib.Core.Bool.{Bool, true, false}
+use mathlib.Core.List.{List, [], _∷_, _++_, map}
+use lib.Dec.{ltb, eqb}
+use lib.ListN.{length, take, drop}
+use lib.Seq.{take-append-seam}
+use borrow.Author.Tests.{lt-ltb, le-ltb}
+use Rattle.trees.specs.Plain.{if_then_else_, member, Answer, refused, gives}
+use Rattle.trees.specs.Verdict.{judged}
+use Rattle.trees.specs.Consensus.{recorded}
+use Rattle.trees.specs.Opening.{Opening}
+use Rattle.trees.specs.Held.{Held, Lane, holding, overrun, laneOf, longer, newSplits, roomFor, withRoom, verdict, Progress, moreWanted, accepted, beforeSemicolon, Fed, finished, finishing, feeding}
+use Rattle.trees.specs.Batch.{semicolons, verdictNumber, withVerdict, Batched, batching, batch}
+use Rattle.trees.specs.Runs.{Call, feed, Heard, fed, closedLane, answer, next, answers, ending, Final, finals}
+use Rattle.theorems.specs.VerdictLaws.{refusal-numbers}
+use Rattle.theorems.specs.WrittenFedLaws.{feedingBy, feeding-by}
+use Rattle.theorems.specs.OwnLaneLaws.{feeding-opening}
+use Rattle.theorems.specs.PieceLaws.{before-unended, before-end, has-end}
+use Rattle.theorems.specs.RunLaws.{more-exactly}
+use Rattle.table.specs.Promises.{lengthGiven, front}
+use Rattle.feeding.specs.EndLaws.{no-text, one-text}
+use Rattle.promises.specs.Calls.{Question, reply, Made, one, many, ask, reopen, Told, heard, batched, replied, numbersIn, afterBatch, told, after, cut, handed, verdictOf, verdictsTold}
 
-unfoldable pub feedings : ℕ → Held → ℕ → List ℕ → List Call
-feedings zero h l p = feed l p ∷ []
-feedings (suc n) h l p = feed l p ∷ feedings n (feeding h l p .after) l (drop (feeding h l p .taken) p)
+-- ---- verdicts as numbers
+
+-- a refusal by verdict has a number of the table
+abbrev Small : Answer (List ℕ) → Type 0
+Small (refused k) = k ≤ 12
+Small (gives t) = Unit {0}
+
+room-small : (b c : Bool) (t : List ℕ) → Small (if b then refused 11 else if c then refused 12 else gives t)
+room-small true c t = omega arith
+room-small false true t = omega arith
+room-small false false t = tt
+
+held-room-small : (h : Held) (t : List ℕ) → Small (roomFor h t)
+unfolding roomFor
+held-room-small h t =
+    room-small (eqb (length (h .trees)) (h .opening .numbers .treeRoom))
+    (ltb (h .opening .numbers .splitRoom) (length (recorded (h .trees)) + length (newSplits h t))) t
+
+verdict-small : (h : Held) (x : Lane) → Small (verdict h x)
+unfolding verdict withRoom
+verdict-small h overrun = omega arith
+verdict-small h (holding s) = go (judged (h .opening .names) s) refl
+  where
+    go : (a : Answer (List ℕ)) → judged (h .opening .names) s ≡ a → Small (withRoom h a)
+    go (refused k) e = let r = refusal-numbers (h .opening .names) s k e in omega (arith, r .1)
+    go (gives t) e = held-room-small h t
+
+-- an answer that is a verdict, and whose number says which
+abbrev Settled : Answer Progress → Type 0
+Settled (refused k) = k < 256
+Settled (gives moreWanted) = ⊥
+Settled (gives (accepted t)) = Unit {0}
+
+finished-settled : (h : Held) (v : Answer (List ℕ)) → Small v → Settled (finished h v)
+unfolding finished
+finished-settled h (refused k) s = omega arith
+finished-settled h (gives t) s = tt
+
+settled-read : (n : ℕ) (a : Answer Progress) → Settled a → (rest : List Heard) → finals (fed n a ∷ rest) ≡ verdictOf (verdictNumber a) ∷ finals rest
+unfolding finals verdictOf verdictNumber
+settled-read n (refused k) s rest = rw (lt-ltb k 256 s)
+settled-read n (gives moreWanted) s rest = absurd s
+settled-read n (gives (accepted t)) s rest =
+    let e : 256 + t - 256 ≡ t = omega arith in
+    let d : ltb (256 + t) 256 ≡ false = le-ltb (256 + t) 256 (omega arith) in
+    rw (d, e)
 
 unfoldable pub heardNumber : Heard → ℕ
 unfolding verdictNumber
 heardNumber (fed n a) = verdictNumber a
 heardNumber (closedLane a) = 0
 
-pub batching-ends : (n : ℕ) (h : Held) (l : ℕ) (p : List ℕ) → batching n h l p .after ≡ ending h (feedings n h l p)
-unfolding batching withVerdict feedings ending next
-batching-ends zero h l p = refl
-batching-ends (suc n) h l p = batching-ends n (feeding h l p .after) l (drop (feeding h l p .taken) p)
+-- ---- a text with its semicolon, alone
 
--- the last call only adds to the lane's text
-pub batching-hears : (n : ℕ) (h : Held) (l : ℕ) (p : List ℕ) → batching n h l p .verdicts ≡ take n (map heardNumber (answers h (feedings n h l p)))
-unfolding batching withVerdict feedings answers answer next heardNumber
-batching-hears zero h l p = refl
-batching-hears (suc n) h l p =
-    ap (λ (vs : List ℕ). verdictNumber (feeding h l p .answer) ∷ vs) (batching-hears n (feeding h l p .after) l (drop (feeding h l p .taken) p))
+module _ (h : Held) (l : ℕ) (p : List ℕ) (lane : ltb l (h .opening .numbers .lanes) ≡ true) (e : member 59 p ≡ true) where
+  abbrev first : List ℕ
+  first = beforeSemicolon p ++ 59 ∷ []
 
-pub batch-follows : (n : ℕ) (l : ℕ) (p : List ℕ) (r : Number) (s v t w : List ℕ) → BatchedAs (gives (batching n (heldAt s) l p)) r s v t w
-    → (wholeAt t ≡ true) × (heldAt t ≡ ending (heldAt s) (feedings n (heldAt s) l p))
-unfolding BatchedAs
-batch-follows n l p r s v t w q = (q .1 .whole, q .1 .held ∙ batching-ends n (heldAt s) l p)
+  fed-as : feeding h l p ≡ feedingBy true true h l p
+  fed-as = feeding-by h l p ∙ ap₂ (λ (x y : Bool). feedingBy x y h l p) lane e
+
+  first-as : feeding h l first ≡ feedingBy true true h l p
+  first-as =
+      feeding-by h l first ∙ ap₂ (λ (x y : Bool). feedingBy x y h l first) lane (has-end (beforeSemicolon p))
+      ∙ ap (λ (w : List ℕ). finishing h l (suc (length w)) (verdict h (longer (laneOf h l) w))) (before-end (beforeSemicolon p) (before-unended p))
+
+  fed-first : feeding h l p ≡ feeding h l first
+  fed-first = fed-as ∙ sym first-as
+
+  fed-taken : feeding h l p .taken ≡ suc (length (beforeSemicolon p))
+  unfolding finishing
+  fed-taken = ap (λ (f : Fed). f .taken) fed-as
+
+  fed-settled : Settled (feeding h l p .answer)
+  unfolding finishing
+  fed-settled =
+      let x = longer (laneOf h l) (beforeSemicolon p) in
+      subst (λ (f : Fed). Settled (f .answer)) (sym fed-as) (finished-settled h (verdict h x) (verdict-small h x))
+
+-- ---- a batch to a lane that is there
+
+abbrev feedings : ℕ → ℕ → List ℕ → List Call
+feedings l n p = map (feed l) (cut n p)
+
+pub record BatchIs (n : ℕ) (h : Held) (l : ℕ) (p : List ℕ) : Type 0 where
+  pub ends : batching n h l p .after ≡ ending h (feedings l n p)
+  pub hears : batching n h l p .verdicts ≡ take n (map heardNumber (answers h (feedings l n p)))
+  pub judges : map verdictOf (batching n h l p .verdicts) ≡ finals (answers h (feedings l n p))
+
+has-text : (p : List ℕ) (n : ℕ) → semicolons p ≡ suc n → member 59 p ≡ true
+has-text p n e = go (member 59 p) refl
+  where
+    go : (b : Bool) → member 59 p ≡ b → b ≡ true
+    go true d = refl
+    go false d = absurd (omega (arith, e, no-text p d))
+
+has-none : (p : List ℕ) → semicolons p ≡ 0 → member 59 p ≡ false
+has-none p e = go (member 59 p) refl
+  where
+    go : (b : Bool) → member 59 p ≡ b → b ≡ false
+    go true d = absurd (omega (arith, e, one-text p d))
+    go false d = refl
+
+-- what is heard of a feeding, and then of the calls cs on what it leaves
+abbrev heardThen : Fed → List Call → List Heard
+heardThen f cs = fed (f .taken) (f .answer) ∷ answers (f .after) cs
+
+module _ (n : ℕ) (h : Held) (l : ℕ) (p : List ℕ) (lane : ltb l (h .opening .numbers .lanes) ≡ true) (m : member 59 p ≡ true) where
+  -- what is behind the first text
+  abbrev behind : List ℕ
+  behind = drop (suc (length (beforeSemicolon p))) p
+
+  batch-now : batching (suc n) h l p ≡ withVerdict (verdictNumber (feeding h l p .answer)) (batching n (feeding h l p .after) l behind)
+  unfolding batching
+  batch-now = ap (λ (k : ℕ). withVerdict (verdictNumber (feeding h l p .answer)) (batching n (feeding h l p .after) l (drop k p))) (fed-taken h l p lane m)
+
+  batch-more : BatchIs n (feeding h l p .after) l behind → BatchIs (suc n) h l p
+  unfolding withVerdict cut ending next answers answer heardNumber
+  batch-more rest = record {
+    ends = ap (λ (b : Batched). b .after) batch-now ∙ rest .ends ∙ ap (λ (f : Fed). ending (f .after) (feedings l n behind)) (fed-first h l p lane m);
+    hears =
+        ap (λ (b : Batched). b .verdicts) batch-now ∙ ap (λ (vs : List ℕ). verdictNumber (feeding h l p .answer) ∷ vs) (rest .hears)
+        ∙ ap (λ (f : Fed). take (suc n) (map heardNumber (heardThen f (feedings l n behind)))) (fed-first h l p lane m);
+    judges =
+        ap (λ (b : Batched). map verdictOf (b .verdicts)) batch-now
+        ∙ ap (λ (vs : List Final). verdictOf (verdictNumber (feeding h l p .answer)) ∷ vs) (rest .judges)
+        ∙ sym (settled-read (feeding h l p .taken) (feeding h l p .answer) (fed-settled h l p lane m) (answers (feeding h l p .after) (feedings l n behind)))
+        ∙ ap (λ (f : Fed). finals (heardThen f (feedings l n behind))) (fed-first h l p lane m);
+  }
+
+  lane-stays : ltb l (feeding h l p .after .opening .numbers .lanes) ≡ true
+  lane-stays = ap (λ (o : Opening). ltb l (o .numbers .lanes)) (feeding-opening h l p) ∙ lane
+
+pub batch-is : (n : ℕ) (h : Held) (l : ℕ) (p : List ℕ) → ltb l (h .opening .numbers .lanes) ≡ true → semicolons p ≡ n → BatchIs n h l p
+unfolding batching cut ending next answers answer heardNumber finals
+batch-is zero h l p lane e = record {
+  ends = refl;
+  hears = refl;
+  judges = sym (ap (λ (a : Answer Progress). finals (fed (feeding h l p .taken) a ∷ [])) (more-exactly h l p lane .1 (has-none p e)));
+}
+batch-is (suc n) h l p lane e =
+    let m = has-text p n e in
+    batch-more n h l p lane m (batch-is n (feeding h l p .after) l (behind n h l p lane m) (lane-stays n h l p lane m) (omega (arith, e, one-text p m)))
+
+-- ---- every call, by what it hands in
+
+module _ (h : Held) where
+  pub after-handed : (c : Made) → after h c ≡ ending h (handed (h .opening .numbers .lanes) c)
+  unfolding after batch handed ending
+  after-handed (one c) = refl
+  after-handed (many l p v) = go (ltb l (h .opening .numbers .lanes)) (ltb (length v) (semicolons p)) refl
+    where
+      go : (b c : Bool) → ltb l (h .opening .numbers .lanes) ≡ b
+          → afterBatch h (if b then if c then refused 4 else gives (batching (semicolons p) h l p) else refused 5)
+          ≡ ending h (if b then if c then [] else feedings l (semicolons p) p else [])
+      go true true e = unfold afterBatch in refl
+      go true false e = unfold afterBatch in batch-is (semicolons p) h l p e refl .ends
+      go false c e = unfold afterBatch in refl
+  after-handed (ask q) = refl
+  after-handed (reopen x names first second) = refl
+
+-- what a batch answers, from its two tests, that there is such a lane and that the buffer is too short, and its verdicts
+abbrev batchTold : Bool → Bool → List ℕ → List ℕ → Told
+batchTold true true vs v = batched (refused 4) v
+batchTold true false vs v = batched (gives (length vs)) (vs ++ drop (length vs) v)
+batchTold false c vs v = batched (refused 5) v
+
+module _ (lent : ℕ) (h : Held) where
+  told-many : (l : ℕ) (p v : List ℕ)
+      → told lent h (many l p v) ≡ batchTold (ltb l (h .opening .numbers .lanes)) (ltb (length v) (semicolons p)) (batching (semicolons p) h l p .verdicts) v
+  unfolding told batch
+  told-many l p v = go (ltb l (h .opening .numbers .lanes)) (ltb (length v) (semicolons p))
+    where
+      given : Answer Batched → Told
+      given x = batched (lengthGiven (numbersIn x)) (front (numbersIn x) v)
+
+      go : (b c : Bool) → given (if b then if c then refused 4 else gives (batching (semicolons p) h l p) else refused 5)
+          ≡ batchTold b c (batching (semicolons p) h l p .verdicts) v
+      go true true = unfold numbersIn lengthGiven front in refl
+      go true false = unfold numbersIn lengthGiven front in refl
+      go false c = unfold numbersIn lengthGiven front in refl
+
+  pub verdicts-handed : (c : Made) (rest : List Told)
+      → verdictsTold (told lent h c ∷ rest) ≡ finals (answers h (handed (h .opening .numbers .lanes) c)) ++ verdictsTold rest
+  unfolding verdictsTold told handed answers finals
+  verdicts-handed (one c) rest = refl
+  verdicts-handed (many l p v) rest =
+      ap (λ (a : Told). verdictsTold (a ∷ rest)) (told-many l p v) ∙ go (ltb l (h .opening .numbers .lanes)) (ltb (length v) (semicolons p)) refl
+    where
+      go : (b c : Bool) → ltb l (h .opening .numbers .lanes) ≡ b
+          → verdictsTold (batchTold b c (batching (semicolons p) h l p .verdicts) v ∷ rest)
+          ≡ finals (answers h (if b then if c then [] else feedings l (semicolons p) p else [])) ++ verdictsTold rest
+      go true true e = refl
+      go true false e =
+          ap (λ (vs : List ℕ). map verdictOf vs ++ verdictsTold rest) (take-append-seam (batching (semicolons p) h l p .verdicts) _)
+          ∙ ap (λ (vs : List Final). vs ++ verdictsTold rest) (batch-is (semicolons p) h l p e refl .judges)
+      go false c e = refl
+  verdicts-handed (ask q) rest = refl
+  verdicts-handed (reopen x names first second) rest = refl
+
+headOr : Heard → List Heard → Heard
+headOr a [] = a
+headOr a (b ∷ bs) = b
+
+module _ (lent : ℕ) (h k : Held) (lanes : h .opening .numbers .lanes ≡ k .opening .numbers .lanes) where
+  -- a batch, from the answers to the feedings of its texts
+  many-same : (l : ℕ) (p v : List ℕ) (b c : Bool) → ltb l (h .opening .numbers .lanes) ≡ b
+      → answers h (if b then if c then [] else feedings l (semicolons p) p else [])
+      ≡ answers k (if b then if c then [] else feedings l (semicolons p) p else [])
+      → batchTold b c (batching (semicolons p) h l p .verdicts) v ≡ batchTold b c (batching (semicolons p) k l p .verdicts) v
+  many-same l p v true true a e = refl
+  many-same l p v true false a e =
+      ap (λ (vs : List ℕ). batched (gives (length vs)) (vs ++ drop (length vs) v))
+      (batch-is (semicolons p) h l p a refl .hears ∙ ap (λ (as′ : List Heard). take (semicolons p) (map heardNumber as′)) e
+      ∙ sym (batch-is (semicolons p) k l p (ap (ltb l) (sym lanes) ∙ a) refl .hears))
+  many-same l p v false c a e = refl
+
+  pub told-same : (c : Made) → answers h (handed (h .opening .numbers .lanes) c) ≡ answers k (handed (h .opening .numbers .lanes) c)
+      → ((q : Question) → c ≡ ask q → reply h q ≡ reply k q) → told lent h c ≡ told lent k c
+  unfolding told handed answers headOr
+  told-same (one c) e asked = ap (λ (as′ : List Heard). heard (headOr (answer h c) as′)) e
+  told-same (many l p v) e asked =
+      told-many lent h l p v ∙ many-same l p v (ltb l (h .opening .numbers .lanes)) (ltb (length v) (semicolons p)) refl e
+      ∙ ap (λ (n : ℕ). batchTold (ltb l n) (ltb (length v) (semicolons p)) (batching (semicolons p) k l p .verdicts) v) lanes ∙ sym (told-many lent k l p v)
+  told-same (ask q) e asked = ap replied (asked q refl)
+  told-same (reopen x names first second) e asked = refl

@@ -1,10 +1,13 @@
 -- Runs of calls on lent bytes, as the promises allow them, and what they come to; that each promise leaves one outcome; and that
 -- what is printed is the summary of the input.
+pub mod Calls
 pub mod Steps
+pub mod BatchLaws
 pub mod StepLaws
 pub mod RunLaws
-pub mod BatchLaws
 pub mod Once
+pub mod QuietStepLaws
+pub mod ReadBackCallLaws
 pub mod Outcomes
 pub mod EntryOutcomes
 pub mod BatchOutcomes

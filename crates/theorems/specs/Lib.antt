@@ -26,10 +26,13 @@ pub mod RecordedLaws
 pub mod WholeHeld
 pub mod HeldLaws
 pub mod MetricLaws
+pub mod ReadBackLaws
 pub mod Alike
 pub mod AlikeLaws
 pub mod OwnLaneLaws
 pub mod PieceLaws
+pub mod Quiet
+pub mod QuietLaws
 pub mod RunLaws
 pub mod OutcomeLaws
 pub mod LaneLaws

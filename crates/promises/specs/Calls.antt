@@ -1,0 +1,192 @@
+-- Every kind of call on a collection, what the definitions answer, and their run of many calls. No proof stands here.
+--
+--   Question             what may be asked of a collection; a list is a lent buffer, as it is before the call
+--   Reply                how it is answered: by a number or a split, and by the lent buffers as they are left
+--   reply h q            what the collection h answers to q
+--   Made                 a call: `one`, a feeding or a closing; `many`, a batch, with its lane, its piece and the lent buffer for its verdicts;
+--                        `ask`, a question; `reopen`, an opening that is refused, with its numbers, its name list and its constants
+--   Told                 what a call answers
+--   told lent h c        what the call c answers of the collection h in so many lent bytes
+--   after h c            what is held after it
+--   toldAll, afterAll    the same of the calls cs, one after another
+--   cut n p              the piece p in pieces: n texts, each with its semicolon, and what is behind them
+--   handed n c           the feedings and closings that the call c comes to, on n lanes: a batch feeds its texts one after another
+--   handedAll n cs       those of the calls cs, one after another
+--   verdictOf v          the verdict that a batch gives as the number v
+--   verdictsTold as      the verdicts among the answers as, in order, those of a batch in their places
+--   isCollisions c       the call c asks for the collision number
+--   otherTold cs as      the answers as to the calls cs, without the collision numbers
+use Prim.Native.Nat.{ℕ, zero, suc, _-_}
+use mathlib.Core.Bool.{Bool, true, false}
+use mathlib.Core.List.{List, [], _∷_, _++_, map}
+use lib.Dec.{ltb}
+use lib.ListN.{length, take, drop}
+use Rattle.trees.specs.Plain.{if_then_else_, Answer, refused, gives}
+use Rattle.trees.specs.Opening.{Numbers, opening}
+use Rattle.trees.specs.Held.{Held, beforeSemicolon}
+use Rattle.trees.specs.Batch.{semicolons, Batched, batch}
+use Rattle.trees.specs.Questions.{treesHeld, splitsHeld, splitList, splitNumber, treeNumber, oneSidedOf, doubledOf, matrixOf, collisionsOf, strictOf, majorityOf, writtenOf}
+use Rattle.trees.specs.Runs.{Call, feed, Heard, answer, next, Final, acceptedAs, refusedWith, finals}
+use Rattle.table.specs.Promises.{lengthGiven, front}
+use Rattle.table.specs.Asked.{masksOf, countsOf}
+
+-- ---- questions
+
+pub data Question : Type 0 where
+  tree-count : Question
+  split-count : Question
+  one-split : ℕ → Question
+  split-list : List ℕ → List ℕ → Question
+  tree-splits : ℕ → List ℕ → Question
+  one-sided : ℕ → ℕ → Question
+  doubled : ℕ → ℕ → Question
+  matrix : List ℕ → Question
+  collisions : Question
+  strict : List ℕ → Question
+  majority : List ℕ → Question
+  write-accepted : ℕ → List ℕ → Question
+
+pub data Reply : Type 0 where
+  number : Answer ℕ → Reply
+  split : Answer (ℕ × ℕ) → Reply
+  filled : Answer ℕ → List ℕ → Reply
+  bothFilled : Answer ℕ → List ℕ → List ℕ → Reply
+
+-- "Every written answer stands at its buffer's front; the rest of a longer buffer keeps its values"
+unfoldable pub fill : Answer (List ℕ) → List ℕ → Reply
+unfolding lengthGiven front
+fill x out = filled (lengthGiven x) (front x out)
+
+unfoldable pub fillBoth : Answer (List ℕ × List ℕ) → List ℕ → List ℕ → Reply
+unfolding lengthGiven front masksOf countsOf
+fillBoth x masks counts = bothFilled (lengthGiven (masksOf x)) (front (masksOf x) masks) (front (countsOf x) counts)
+
+unfoldable pub reply : Held → Question → Reply
+unfolding fill fillBoth treesHeld splitsHeld splitList splitNumber treeNumber oneSidedOf doubledOf matrixOf collisionsOf strictOf majorityOf writtenOf
+reply h tree-count = number (treesHeld h)
+reply h split-count = number (splitsHeld h)
+reply h (one-split k) = split (splitNumber h k)
+reply h (split-list masks counts) = fillBoth (splitList h (length masks) (length counts)) masks counts
+reply h (tree-splits i masks) = fill (treeNumber h i (length masks)) masks
+reply h (one-sided i j) = number (oneSidedOf h i j)
+reply h (doubled i j) = number (doubledOf h i j)
+reply h (matrix out) = fill (matrixOf h (length out)) out
+reply h collisions = number (collisionsOf h)
+reply h (strict out) = fill (strictOf h (length out)) out
+reply h (majority out) = fill (majorityOf h (length out)) out
+reply h (write-accepted i out) = fill (writtenOf h i (length out)) out
+
+-- ---- calls
+
+pub data Made : Type 0 where
+  one : Call → Made
+  many : ℕ → List ℕ → List ℕ → Made
+  ask : Question → Made
+  reopen : Numbers → List ℕ → List ℕ → List ℕ → Made
+
+-- a batch answers how many verdicts it wrote, and leaves their buffer
+pub data Told : Type 0 where
+  heard : Heard → Told
+  batched : Answer ℕ → List ℕ → Told
+  replied : Reply → Told
+  notOpened : ℕ → Told
+
+-- the verdicts that a batch gives, and what is held after it
+unfoldable pub numbersIn : Answer Batched → Answer (List ℕ)
+numbersIn (refused k) = refused k
+numbersIn (gives b) = gives (b .verdicts)
+
+unfoldable pub afterBatch : Held → Answer Batched → Held
+afterBatch h (refused k) = h
+afterBatch h (gives b) = b .after
+
+-- the number of a refusal, 0 where there is none
+unfoldable pub refusalIn : {A : Type 0} → Answer A → ℕ
+refusalIn (refused k) = k
+refusalIn (gives x) = 0
+
+unfoldable pub told : ℕ → Held → Made → Told
+unfolding answer batch numbersIn lengthGiven front reply opening refusalIn
+told lent h (one c) = heard (answer h c)
+told lent h (many l p v) = let x = numbersIn (batch h l p (length v)) in batched (lengthGiven x) (front x v)
+told lent h (ask q) = replied (reply h q)
+told lent h (reopen x names first second) = notOpened (refusalIn (opening x names first second lent))
+
+unfoldable pub after : Held → Made → Held
+unfolding next batch afterBatch
+after h (one c) = next h c
+after h (many l p v) = afterBatch h (batch h l p (length v))
+after h (ask q) = h
+after h (reopen x names first second) = h
+
+unfoldable pub toldAll : ℕ → Held → List Made → List Told
+unfolding told after
+toldAll lent h [] = []
+toldAll lent h (c ∷ cs) = told lent h c ∷ toldAll lent (after h c) cs
+
+unfoldable pub afterAll : Held → List Made → Held
+unfolding after
+afterAll h [] = h
+afterAll h (c ∷ cs) = afterAll (after h c) cs
+
+-- ---- the texts that are handed in
+
+-- "up to the first semicolon and that semicolon, or all if there is none"
+unfoldable pub cut : ℕ → List ℕ → List (List ℕ)
+unfolding beforeSemicolon
+cut zero p = p ∷ []
+cut (suc n) p = (beforeSemicolon p ++ 59 ∷ []) ∷ cut n (drop (suc (length (beforeSemicolon p))) p)
+
+-- a batch that is refused, for its lane or for its buffer, takes nothing
+unfoldable pub handed : ℕ → Made → List Call
+unfolding semicolons cut
+handed n (one c) = c ∷ []
+handed n (many l p v) = if ltb l n then if ltb (length v) (semicolons p) then [] else map (feed l) (cut (semicolons p) p) else []
+handed n (ask q) = []
+handed n (reopen x names first second) = []
+
+unfoldable pub handedAll : ℕ → List Made → List Call
+unfolding handed
+handedAll n [] = []
+handedAll n (c ∷ cs) = handed n c ++ handedAll n cs
+
+-- ---- verdicts
+
+-- a refusal's number, or 256 more than the tree's
+unfoldable pub verdictOf : ℕ → Final
+verdictOf v = if ltb v 256 then refusedWith v else acceptedAs (v - 256)
+
+unfoldable pub verdictsTold : List Told → List Final
+unfolding finals verdictOf
+verdictsTold [] = []
+verdictsTold (heard a ∷ as′) = finals (a ∷ []) ++ verdictsTold as′
+verdictsTold (batched (refused k) v ∷ as′) = verdictsTold as′
+verdictsTold (batched (gives n) v ∷ as′) = map verdictOf (take n v) ++ verdictsTold as′
+verdictsTold (replied a ∷ as′) = verdictsTold as′
+verdictsTold (notOpened k ∷ as′) = verdictsTold as′
+
+-- ---- the collision number
+
+unfoldable pub isCollisions : Made → Bool
+isCollisions (one c) = false
+isCollisions (many l p v) = false
+isCollisions (ask tree-count) = false
+isCollisions (ask split-count) = false
+isCollisions (ask (one-split k)) = false
+isCollisions (ask (split-list masks counts)) = false
+isCollisions (ask (tree-splits i masks)) = false
+isCollisions (ask (one-sided i j)) = false
+isCollisions (ask (doubled i j)) = false
+isCollisions (ask (matrix out)) = false
+isCollisions (ask collisions) = true
+isCollisions (ask (strict out)) = false
+isCollisions (ask (majority out)) = false
+isCollisions (ask (write-accepted i out)) = false
+isCollisions (reopen x names first second) = false
+
+-- an answer to no call is none
+unfoldable pub otherTold : List Made → List Told → List Told
+unfolding isCollisions
+otherTold [] as′ = []
+otherTold (c ∷ cs) [] = []
+otherTold (c ∷ cs) (a ∷ as′) = if isCollisions c then otherTold cs as′ else a ∷ otherTold cs as′

@@ -1,0 +1,153 @@
+-- Unfinished text touches only its own lane's next verdict or closing, over whole runs: two collections that differ in one lane's
+-- unfinished text cannot be told apart until that text is ended or closed.
+--
+--   quiet-append         a quiet run in two parts
+--   quiet-run            a run that does not end or close the text of lane j has the same answers on both, which differ afterwards only there
+--   quiet-questions      and then every question but that for the collision number has the same answer
+--   quiet-collisions     and that one too
+use Prim.Native.Nat.{ℕ}
+use mathlib.Core.Path.{_≡_, refl, ap, ap₂, sym, _∙_, subst}
+use mathlib.Core.Bool.{Bool, true, false}
+use mathlib.Core.List.{List, [], _∷_, _++_}
+use lib.Dec.{ltb, eqb}
+use lib.ListN.{length, length-set}
+use borrow.Author.Tests.{eqb-true, eqb-false}
+use Rattle.trees.specs.Plain.{member, Answer}
+use Rattle.trees.specs.Held.{Held, Progress, laneOf, Fed, feeding, closing}
+use Rattle.trees.specs.Questions.{collisionsOf}
+use Rattle.trees.specs.Runs.{Call, feed, close, Heard, fed, closedLane, answer, next, answers, ending}
+use Rattle.theorems.specs.Alike.{SaveOthers, SameAnswers}
+use Rattle.theorems.specs.AlikeLaws.{questions-alike}
+use Rattle.theorems.specs.WrittenFedLaws.{feedingBy, feeding-by}
+use Rattle.theorems.specs.OwnLaneLaws.{laneAfter, lanesAfter, feeding-opening, feeding-texts, unfinished-keeps-trees, other-lanes-kept, other-lanes-kept-closing, own-lane-only, own-lane-only-closing}
+use Rattle.theorems.specs.Quiet.{Quiet, SaveLane}
+
+-- two numbers are equal or they are not
+by-equal : (P : Type 0) (i j : ℕ) → (i ≡ j → P) → ((i ≡ j → ⊥) → P) → P
+by-equal P i j f g = go (eqb i j) refl
+  where
+    go : (t : Bool) → eqb i j ≡ t → P
+    go true e = f (eqb-true i j e)
+    go false e = g (eqb-false i j e)
+
+pub quiet-append : (j : ℕ) (cs ds : List Call) → Quiet j (cs ++ ds) → Quiet j cs × Quiet j ds
+unfolding Quiet
+quiet-append j [] ds q = (tt, q)
+quiet-append j (feed l p ∷ cs) ds q = let r = quiet-append j cs ds (q .1) in ((q .0, r .0), r .1)
+quiet-append j (close l ∷ cs) ds q = let r = quiet-append j cs ds (q .1) in ((q .0, r .0), r .1)
+
+-- the same answer, and afterwards the same but for the text of lane j
+abbrev Unseen : ℕ → Held → Held → Call → Type 0
+Unseen j h k c = (answer h c ≡ answer k c) × SaveLane j (next h c) (next k c)
+
+module _ (j : ℕ) (h k : Held) (s : SaveLane j h k) where
+  -- ---- a call to another lane
+
+  module _ (l : ℕ) (f : l ≡ j → ⊥) where
+    other : SaveOthers l h k
+    other = record { opening = s .opening; trees = s .trees; lane = s .others l f; lanes = s .lanes }
+
+    unseen-fed : (p : List ℕ) → Unseen j h k (feed l p)
+    unfolding answer next
+    unseen-fed p =
+        let o = own-lane-only l h k other p in (
+          ap₂ (λ (n : ℕ) (a : Answer Progress). fed n a) (o .0) (o .1),
+          record {
+            opening = o .2 .opening;
+            trees = o .2 .trees;
+            lanes = o .2 .lanes;
+            others = λ i g. by-equal (laneOf (feeding h l p .after) i ≡ laneOf (feeding k l p .after) i) i l
+                (λ e. subst (λ (x : ℕ). laneOf (feeding h l p .after) x ≡ laneOf (feeding k l p .after) x) (sym e) (o .2 .lane))
+                (λ d. other-lanes-kept h l p i d ∙ s .others i g ∙ sym (other-lanes-kept k l p i d));
+          },
+        )
+
+    unseen-closed : Unseen j h k (close l)
+    unfolding answer next
+    unseen-closed =
+        let o = own-lane-only-closing l h k other in (
+          ap closedLane (o .0),
+          record {
+            opening = o .1 .opening;
+            trees = o .1 .trees;
+            lanes = o .1 .lanes;
+            others = λ i g. by-equal (laneOf (closing h l .after) i ≡ laneOf (closing k l .after) i) i l
+                (λ e. subst (λ (x : ℕ). laneOf (closing h l .after) x ≡ laneOf (closing k l .after) x) (sym e) (o .1 .lane))
+                (λ d. other-lanes-kept-closing h l i d ∙ s .others i g ∙ sym (other-lanes-kept-closing k l i d));
+          },
+        )
+
+  -- ---- a piece without a semicolon to lane j itself
+
+  -- what is heard of it, from the test that there is such a lane
+  abbrev heardBy : Bool → Held → List ℕ → Heard
+  heardBy b x p = fed (feedingBy b false x j p .taken) (feedingBy b false x j p .answer)
+
+  unfinished : (x : Held) (p : List ℕ) → member 59 p ≡ false → answer x (feed j p) ≡ heardBy (ltb j (x .opening .numbers .lanes)) x p
+  unfolding answer
+  unfinished x p e = ap (λ (f : Fed). fed (f .taken) (f .answer)) (feeding-by x j p ∙ ap (λ (c : Bool). feedingBy (ltb j (x .opening .numbers .lanes)) c x j p) e)
+
+  heard-same : (b : Bool) (p : List ℕ) → heardBy b h p ≡ heardBy b k p
+  heard-same true p = refl
+  heard-same false p = refl
+
+  lanes-many : (x : Held) (p : List ℕ) → length (feeding x j p .after .texts) ≡ length (x .texts)
+  lanes-many x p = ap length (feeding-texts x j p) ∙ go (ltb j (x .opening .numbers .lanes))
+    where
+      go : (b : Bool) → length (lanesAfter b (x .texts) j (laneAfter (laneOf x j) p)) ≡ length (x .texts)
+      go true = length-set (x .texts) j (laneAfter (laneOf x j) p)
+      go false = refl
+
+  unseen-unfinished : (p : List ℕ) → member 59 p ≡ false → Unseen j h k (feed j p)
+  unfolding next
+  unseen-unfinished p e = (
+    unfinished h p e ∙ heard-same (ltb j (h .opening .numbers .lanes)) p ∙ (λ i. heardBy (ltb j (s .opening i .numbers .lanes)) k p) ∙ sym (unfinished k p e),
+    record {
+      opening = feeding-opening h j p ∙ s .opening ∙ sym (feeding-opening k j p);
+      trees = unfinished-keeps-trees h j p e ∙ s .trees ∙ sym (unfinished-keeps-trees k j p e);
+      lanes = lanes-many h p ∙ s .lanes ∙ sym (lanes-many k p);
+      others = λ i g. other-lanes-kept h j p i g ∙ s .others i g ∙ sym (other-lanes-kept k j p i g);
+    },
+  )
+
+-- ---- a run
+
+unseen : (j : ℕ) (h k : Held) → SaveLane j h k → (c : Call) → Quiet j (c ∷ []) → Unseen j h k c
+unfolding Quiet
+unseen j h k s (feed l p) q =
+    by-equal (Unseen j h k (feed l p)) l j
+    (λ e. subst (λ (x : ℕ). Unseen j h k (feed x p)) (sym e) (unseen-unfinished j h k s p (q .0 e)))
+    (λ f. unseen-fed j h k s l f p)
+unseen j h k s (close l) q = unseen-closed j h k s l (q .0)
+
+pub quiet-run : (j : ℕ) (cs : List Call) (h k : Held) → SaveLane j h k → Quiet j cs → (answers h cs ≡ answers k cs) × SaveLane j (ending h cs) (ending k cs)
+unfolding answers ending
+quiet-run j [] h k s q = (refl, s)
+quiet-run j (c ∷ cs) h k s q =
+    let r = quiet-append j (c ∷ []) cs q in
+    let u = unseen j h k s c (r .0) in
+    let t = quiet-run j cs (next h c) (next k c) (u .1) (r .1) in
+    (ap₂ (λ (a : Heard) (as′ : List Heard). a ∷ as′) (u .0) (t .0), t .1)
+
+-- ---- the questions
+
+pub save-questions : (j : ℕ) (h k : Held) → SaveLane j h k → SameAnswers h k
+save-questions j h k s =
+    questions-alike h k (record {
+      names = λ i. s .opening i .names;
+      lanes = λ i. s .opening i .numbers .lanes;
+      treeRoom = λ i. s .opening i .numbers .treeRoom;
+      splitRoom = λ i. s .opening i .numbers .splitRoom;
+      trees = s .trees;
+    })
+
+pub save-collisions : (j : ℕ) (h k : Held) → SaveLane j h k → collisionsOf h ≡ collisionsOf k
+unfolding collisionsOf
+save-collisions j h k s = λ i. collisionsOf (record { opening = s .opening i; trees = s .trees i; texts = [] })
+
+module _ (j : ℕ) (cs : List Call) (h k : Held) (s : SaveLane j h k) (q : Quiet j cs) where
+  pub quiet-questions : SameAnswers (ending h cs) (ending k cs)
+  quiet-questions = save-questions j (ending h cs) (ending k cs) (quiet-run j cs h k s q .1)
+
+  pub quiet-collisions : collisionsOf (ending h cs) ≡ collisionsOf (ending k cs)
+  quiet-collisions = save-collisions j (ending h cs) (ending k cs) (quiet-run j cs h k s q .1)
