@@ -37,7 +37,7 @@ calls =
     ∷ (feed 0 (bytes ",(D,E)); ignored"), fed 8 (gives (accepted 0)))
     ∷ (feed 1 (bytes ");"), fed 2 (refused 12))
     ∷ (feed 1 (bytes "(A,B);"), fed 6 (refused 10))
-    ∷ (feed 1 (bytes "(A,B,C,D,E);"), fed 12 (gives (accepted 1)))
+    ∷ (feed 1 (bytes "((D,E),(C,(A,B)));"), fed 18 (gives (accepted 1)))
     ∷ (feed 0 (bytes "((A,B),D,(C,E));"), fed 16 (refused 11))
     ∷ (feed 0 (bytes " x"), fed 2 (gives moreWanted))
     ∷ (close 0, closedLane (refused 7))
@@ -51,7 +51,7 @@ calls-hold = refl
 
 -- the accepted trees, in order of acceptance, and empty lanes; the opening stays
 pub calls-leave : ending shop (map (λ c. c .0) calls)
-    ≡ record { opening = shop .opening; trees = (24 ∷ 28 ∷ []) ∷ [] ∷ []; texts = holding [] ∷ holding [] ∷ [] }
+    ≡ record { opening = shop .opening; trees = (24 ∷ 28 ∷ []) ∷ (24 ∷ 28 ∷ []) ∷ []; texts = holding [] ∷ holding [] ∷ [] }
 unfolding ending calls opened namesIn bytes
 calls-leave = refl
 

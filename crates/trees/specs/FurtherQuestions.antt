@@ -70,9 +70,10 @@ pub hash-holds :
     × (place (1 ∷ 2 ∷ 4 ∷ 8 ∷ 16 ∷ []) 7 22 ≡ 1)
     × (identifier (1 ∷ 2 ∷ 4 ∷ 8 ∷ 16 ∷ []) 22 ≡ 22)
     × (identifier (0 ∷ 18446744073709551615 ∷ 3 ∷ []) 6 ≡ 2)
+    × (identifier (0 ∷ 18446744073709551614 ∷ 1 ∷ []) 6 ≡ 18446744073709551615)
     × (collisions (0 ∷ 0 ∷ 1 ∷ 1 ∷ 0 ∷ []) (0 ∷ 0 ∷ 5 ∷ 5 ∷ 9 ∷ []) 2 (20 ∷ 24 ∷ 28 ∷ []) ≡ 1)
     × (collisions (0 ∷ 0 ∷ 1 ∷ 1 ∷ 0 ∷ []) (0 ∷ 0 ∷ 5 ∷ 6 ∷ 9 ∷ []) 2 (20 ∷ 24 ∷ 28 ∷ []) ≡ 0)
     × (collisions (0 ∷ 0 ∷ 0 ∷ 1 ∷ 0 ∷ []) (0 ∷ 0 ∷ 5 ∷ 5 ∷ 9 ∷ []) 2 (20 ∷ 24 ∷ 28 ∷ []) ≡ 0)
     × (collisionsOf hashed ≡ gives 1)
 unfolding place identifier collisions collisionsOf fedWith opened namesIn bytes
-hash-holds = (refl, refl, refl, refl, refl, refl, refl, refl)
+hash-holds = (refl, refl, refl, refl, refl, refl, refl, refl, refl)

@@ -4,6 +4,7 @@
 --   blanks-are, label-bytes-are     every blank, and every label byte
 --   lengths      tokens that are lengths, and tokens that are not
 --   nestings     63 brackets open at once, and 64
+--   masks-hold   sets of taxa, as masks
 --   propers      masks that are splits of so many taxa, and masks that are not
 --   goodTrees    splits that are in order as those of a tree, and splits that are not
 use Prim.Native.Nat.{ℕ, zero, suc, _+_, _^_}
@@ -13,11 +14,12 @@ use mathlib.Core.List.{List, [], _∷_, _++_, map}
 use mathlib.Core.Option.{Option, none, some}
 use mathlib.Core.Path.{_≡_, refl}
 use Rattle.trees.specs.Plain.{keep, bytes}
-use Rattle.trees.specs.Mask.{proper}
+use Rattle.trees.specs.Mask.{has, onesBelow, everyTaxon, without, apart, within, side, proper, lowest}
 use Rattle.trees.specs.Text.{isBlank, isLabelByte}
 use Rattle.trees.specs.Length.{isLength}
 use Rattle.trees.specs.Tree.{Nodes, nesting}
 use Rattle.trees.specs.Reading.{reading}
+use Rattle.trees.specs.Written.{widest}
 use Rattle.trees.specs.Whole.{goodTree}
 use Rattle.trees.specs.Samples.{Sample, said, has-splits, is, agrees, reads, the-splits, the-verdict, the-agreement, the-written}
 
@@ -44,6 +46,7 @@ texts =
     ∷ record { name = "splits side by side"; asked = the-splits AtoF "(((F,E),D),((C,B),A));"; says = has-splits (6 ∷ 48 ∷ 56 ∷ []) }
     ∷ record { name = "64 taxa"; asked = the-splits taxa64 tree64; says = has-splits ((2 ^ 63 + 2 ^ 62) ∷ []) }
     ∷ record { name = "an unknown leaf before one that came before"; asked = the-verdict AtoE "(F,A,A,C,D);"; says = is 8 }
+    ∷ record { name = "leaves from left to right, through the brackets"; asked = the-verdict AtoE "((A,A),F,C,D);"; says = is 9 }
     ∷ record { name = "a fault of form behind an unknown leaf"; asked = the-verdict AtoE "(F,A,A,C,D;"; says = is 7 }
     ∷ record { name = "nothing"; asked = the-verdict AtoE " ;"; says = is 7 }
     ∷ record { name = "a leaf alone"; asked = the-verdict AtoE "A;"; says = is 10 }
@@ -118,6 +121,24 @@ unfolding nestings nestingRead reading nested
 nestings-hold = refl
 
 -- ---- splits
+
+pub masks-hold :
+    (has 24 3 ≡ true)
+    × (has 24 2 ≡ false)
+    × (onesBelow 5 25 ≡ 3)
+    × (onesBelow 4 25 ≡ 2)
+    × (everyTaxon 5 ≡ 31)
+    × (without 28 20 ≡ 8)
+    × (apart 6 24 ≡ true)
+    × (apart 6 28 ≡ false)
+    × (within 24 28 ≡ true)
+    × (within 28 24 ≡ false)
+    × (side 5 7 ≡ 24)
+    × (side 5 24 ≡ 24)
+    × (lowest 24 ≡ 3)
+    × (widest 31 4 (28 ∷ 24 ∷ 31 ∷ []) ≡ 28)
+unfolding has onesBelow everyTaxon without apart within side lowest widest
+masks-hold = (refl, refl, refl, refl, refl, refl, refl, refl, refl, refl, refl, refl, refl, refl)
 
 pub record Proper : Type 0 where
   pub name : String
