@@ -42,6 +42,7 @@ pub mod FaultLaws
 pub mod RefusingLaws
 pub mod RefusalNumberLaws
 pub mod EdgeLaws
+pub mod PermLaws
 pub mod Unrooted
 pub mod UnrootedLaws
 pub mod Longest
