@@ -11,6 +11,7 @@ pub mod BatchOutcomes
 pub mod SheetOutcomes
 pub mod TextsOutcomes
 pub mod EqualOutcomes
+pub mod ReadOutcomes
 pub mod InnerOutcomes
 pub mod SeamLaws
 pub mod CutLaws
