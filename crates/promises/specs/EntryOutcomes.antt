@@ -9,17 +9,19 @@
 --   openedFree, open-once                                         opening
 --   fedFree, feed-once                                            feeding
 --   closedFree, close-once                                        closing
+--   asked-same, fed-same, closed-same                             no call tells two lent bytes apart that are the same as stores
 use Prim.Native.Nat.{ℕ}
-use mathlib.Core.Path.{_≡_, refl}
+use mathlib.Core.Path.{_≡_, refl, ap₂}
 use mathlib.Core.Bool.{Bool, true, false}
 use mathlib.Core.List.{List}
 use lib.ListN.{length}
 use denote.Ref.{now}
 use Rattle.trees.specs.Plain.{if_then_else_, Answer, refused, gives}
 use Rattle.trees.specs.Opening.{Opening, opening}
-use Rattle.trees.specs.Held.{opened}
+use Rattle.trees.specs.Held.{Held, Closed, opened, feeding, closing}
+use Rattle.trees.specs.Held as held
 use Rattle.opening.specs.Given.{numbersOf}
-use Rattle.table.specs.Promises.{OpenedAs}
+use Rattle.table.specs.Promises.{ifWhole, OpenedAs}
 use Rattle.table.specs.declared.Finish.{Finish}
 use Rattle.table.specs.declared.Fed.{Fed}
 use Rattle.feeding.specs.Feeding.{reached, fedOf, closedOf, isAccepted, FedAs, ClosedAs}
@@ -43,7 +45,7 @@ use Rattle.consensus.proofs.majority.Reads as majority
 use Rattle.consensus.proofs.write_accepted.Reads as write-accepted
 use Rattle.feeding.proofs.feed.Reads as feed
 use Rattle.feeding.proofs.close.Reads as close
-use Rattle.promises.specs.Once.{Once, AnswerOnce, arg1, arg2, arg3, arg4, arg5, arg6, arg7, arg8, arg9, Free, nothing, lane, store, SameBut}
+use Rattle.promises.specs.Once.{Once, AnswerOnce, arg1, arg2, arg3, arg4, arg5, arg6, arg7, arg8, arg9, SameStore, Free, nothing, lane, store, SameBut}
 use Rattle.promises.specs.Outcomes.{both, split-one, progress-one, finish-both, number-both, filled-both, holds-both, outside-both}
 
 -- ---- tests
@@ -154,3 +156,20 @@ closed-both s l q r t u a b = (finish-both q r (a .answer) (b .answer), go (reac
 
 pub close-once : Once close.Post (λ x q r y z. (q ≡ r) × SameBut (closedFree (now (arg1 x)) (arg2 x .0)) (now (arg1 y)) (now (arg1 z)))
 close-once k x q r y z a b = closed-both _ _ q r _ _ a b
+
+-- ---- two lent bytes that are the same as stores
+
+module _ (t u : List ℕ) (e : SameStore t u) where
+  -- every question asks of what is held, and a batch does
+  pub asked-same : {A : Type 0} (f : Held → Answer A) → ifWhole t f ≡ ifWhole u f
+  unfolding ifWhole
+  asked-same {A} f = ap₂ {C = Answer A} (λ (b : Bool) (h : Held). if b then f h else refused 1) (e .whole) (e .holding)
+
+  pub fed-same : (l : ℕ) (p : List ℕ) → fedOf t l p ≡ fedOf u l p
+  unfolding fedOf
+  fed-same l p =
+      ap₂ {C = held.Fed} (λ (b : Bool) (h : Held). if b then feeding h l p else record { taken = 0; answer = refused 1; after = h }) (e .whole) (e .holding)
+
+  pub closed-same : (l : ℕ) → closedOf t l ≡ closedOf u l
+  unfolding closedOf
+  closed-same l = ap₂ {C = Closed} (λ (b : Bool) (h : Held). if b then closing h l else record { answer = refused 1; after = h }) (e .whole) (e .holding)

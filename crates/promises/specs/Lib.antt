@@ -14,7 +14,9 @@ pub mod BatchOutcomes
 pub mod SheetOutcomes
 pub mod TextsOutcomes
 pub mod EqualOutcomes
+pub mod ReadOutcomes
 pub mod InnerOutcomes
+pub mod StoreOutcomes
 pub mod SeamLaws
 pub mod CutLaws
 pub mod SummarySteps
