@@ -3,8 +3,8 @@
 --
 --   quiet-append         a quiet run in two parts
 --   quiet-run            a run that does not end or close the text of lane j has the same answers on both, which differ afterwards only there
---   quiet-questions      and then every question but that for the collision number has the same answer
---   quiet-collisions     and that one too
+--   save-questions, save-collisions      such collections answer every question alike, that for the collision number too
+--   quiet-questions, quiet-collisions    and so they do after the run
 use Prim.Native.Nat.{ℕ}
 use mathlib.Core.Path.{_≡_, refl, ap, ap₂, sym, _∙_, subst}
 use mathlib.Core.Bool.{Bool, true, false}

@@ -18,7 +18,7 @@ use Rattle.trees.specs.Names.{goodNames}
 use Rattle.trees.specs.Consensus.{recorded, majority, strict}
 use Rattle.trees.specs.Written.{written}
 use Rattle.trees.specs.Opening.{inRange, goodConstants}
-use Rattle.trees.specs.Held.{Held, holding, laneOf, withLane, withTree, newSplits, roomFor, Progress, moreWanted, accepted, Fed, finished, recording, finishing, feeding}
+use Rattle.trees.specs.Held.{Held, holding, laneOf, withLane, withTree, newSplits, roomFor, Progress, accepted, Fed, finished, recording, finishing, feeding}
 use Rattle.trees.specs.Questions.{tree}
 use Rattle.trees.specs.Whole.{goodTree, goodOpening}
 use Rattle.theorems.specs.ListLaws.{and-right, every-at}
@@ -51,14 +51,17 @@ module _ (h : Held) (w : whole h ≡ true) where
 
   names-good : goodNames taxa (h .opening .names) ≡ true
   unfolding goodOpening
-  names-good = and-right (goodConstants (h .opening .numbers) (h .opening .first) (h .opening .second)) _ (and-right (inRange (h .opening .numbers)) _ (facts .opening-good))
+  names-good =
+      and-right (goodConstants (h .opening .numbers) (h .opening .first) (h .opening .second)) _
+      (and-right (inRange (h .opening .numbers)) _ (facts .opening-good))
 
 -- ---- what feeding it comes to
 
--- the tree room is taken; else, the split room does not hold the recorded splits and this tree's new ones
+-- 11: "accepted trees equal the tree room"
 abbrev pub NoTreeRoom : Held → Type 0
 NoTreeRoom k = length (k .trees) ≡ k .opening .numbers .treeRoom
 
+-- else 12: "recorded splits and this tree's new ones together exceed the split room"; together they are what is recorded with this tree
 abbrev pub NoSplitRoom : Held → List ℕ → Type 0
 NoSplitRoom k s = (NoTreeRoom k → ⊥) × (k .opening .numbers .splitRoom < length (recorded (k .trees ++ s ∷ [])))
 
@@ -135,7 +138,9 @@ module _ (k : Held) (l n : ℕ) (s : List ℕ) (rises : goodTree (k .opening .nu
 module _ (h k : Held) (hw : whole h ≡ true) (kw : whole k ≡ true) (names : k .opening .names ≡ h .opening .names) (l : ℕ)
     (lane : l < k .opening .numbers .lanes) (empty : laneOf k l ≡ holding []) where
   same-taxa : h .opening .numbers .taxa ≡ k .opening .numbers .taxa
-  same-taxa = sym (good-opening (h .opening) (facts h hw .opening-good) .named .count) ∙ ap length (sym names) ∙ good-opening (k .opening) (facts k kw .opening-good) .named .count
+  same-taxa =
+      sym (good-opening (h .opening) (facts h hw .opening-good) .named .count) ∙ ap length (sym names)
+      ∙ good-opening (k .opening) (facts k kw .opening-good) .named .count
 
   pub reads-back : (s : List ℕ) → goodTree (h .opening .numbers .taxa) s ≡ true
       → ReadBack k s (length (written (h .opening .names) s)) (feeding k l (written (h .opening .names) s))
