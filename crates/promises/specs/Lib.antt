@@ -7,8 +7,6 @@ pub mod BatchLaws
 pub mod Outcomes
 pub mod InnerOutcomes
 pub mod SheetOutcomes
-pub mod SeamLaws
-pub mod CutLaws
 pub mod SummarySteps
 pub mod LineStepLaws
 pub mod TextStepLaws

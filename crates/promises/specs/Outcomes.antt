@@ -33,7 +33,7 @@ use Rattle.table.specs.declared.Recorded.the-variants as recorded
 use Rattle.table.specs.declared.Progress.{Progress}
 use Rattle.table.specs.declared.Progress.the-variants as progress
 use Rattle.table.specs.declared.Fed.{Fed}
-use Rattle.feeding.specs.Feeding.{reached, fedOf, closedOf, isAccepted, SameOutside, FedAs, ClosedAs, BatchedAs}
+use Rattle.feeding.specs.Feeding.{reached, fedOf, closedOf, isAccepted, SameOutside, FedAs, ClosedAs, noneAccepted, BatchedAs}
 
 -- ---- answers
 
@@ -188,13 +188,19 @@ module _ (s : List ℕ) (l : ℕ) where
     λ i m. b .outside i m ∙ sym (a .outside i m),
   )
 
--- a batch that refuses leaves every byte; one that does not leaves what feeding again and again holds, and its verdicts
-pub batched-refused-once : (k : ℕ) (q r : Number) (s v t w u x : List ℕ) → BatchedAs (refused k) q s v t w → BatchedAs (refused k) r s v u x
+-- a batch that refuses leaves every byte; one that does not leaves what feeding again and again holds, its verdicts, and, where no tree is
+-- accepted, every byte outside the lane
+pub batched-refused-once : (k l : ℕ) (q r : Number) (s v t w u x : List ℕ) → BatchedAs (refused k) l q s v t w → BatchedAs (refused k) l r s v u x
     → (q ≡ r) × (t ≡ u) × (w ≡ x)
 unfolding BatchedAs
-batched-refused-once k q r s v t w u x a b = (number-one q r (a .0 ∙ sym (b .0)), a .1 ∙ sym (b .1), a .2 ∙ sym (b .2))
+batched-refused-once k l q r s v t w u x a b = (number-one q r (a .0 ∙ sym (b .0)), a .1 ∙ sym (b .1), a .2 ∙ sym (b .2))
 
-pub batched-once : (y : Batched) (q r : Number) (s v t w u x : List ℕ) → BatchedAs (gives y) q s v t w → BatchedAs (gives y) r s v u x
-    → (q ≡ r) × SameStore (storeSize (y .after .opening .numbers)) t u × (w ≡ x)
+pub batched-once : (y : Batched) (l : ℕ) (q r : Number) (s v t w u x : List ℕ) → BatchedAs (gives y) l q s v t w → BatchedAs (gives y) l r s v u x
+    → (q ≡ r) × SameStore (storeSize (y .after .opening .numbers)) t u × (w ≡ x) × (noneAccepted (y .verdicts) ≡ true → SameOutside t l u)
 unfolding BatchedAs
-batched-once y q r s v t w u x a b = (number-one q r (a .0 ∙ sym (b .0)), holds-once (y .after) s t u (a .1) (b .1), a .2 ∙ sym (b .2))
+batched-once y l q r s v t w u x a b = (
+  number-one q r (a .0 ∙ sym (b .0)),
+  holds-once (y .after) s t u (a .1) (b .1),
+  a .2 ∙ sym (b .2),
+  λ e i m. b .3 e i m ∙ sym (a .3 e i m),
+)

@@ -4,7 +4,7 @@
 --   line-taken-once        taking a piece of the first line
 --   SameOpened o t u       two lent bytes, after an opening that is o or its refusal, are the same
 --   line-opened-once       opening what the first line asks for
---   texts-refused-once, texts-once     feeding a piece
+--   texts-once             feeding a piece
 --   texts-closed-once      closing
 --   filled-once            giving a line of the sheet, or that of a refusal
 use Prim.Native.Nat.{ℕ}
@@ -15,7 +15,6 @@ use lib.ListN.{length}
 use Rattle.trees.specs.Plain.{Answer, refused, gives}
 use Rattle.trees.specs.Opening.{Opening, storeSize}
 use Rattle.trees.specs.Held.{closing}
-use Rattle.trees.specs.Batch.{Batched}
 use Rattle.layout.specs.Store.{heldAt}
 use Rattle.store.specs.WholeStore.{wholeAt}
 use Rattle.table.specs.Promises.{OpenedAs}
@@ -24,8 +23,8 @@ use Rattle.table.specs.declared.Finish.{Finish}
 use Rattle.table.specs.declared.Number.{Number}
 use Rattle.sheet.specs.declared.Taken.{Taken}
 use Rattle.sheet.specs.FirstLine.{Kept, TakenAs, keptOpening}
-use Rattle.feeding.specs.Feeding.{SameOutside}
-use Rattle.sheet.specs.Texts.{TextsAs, ClosedAs}
+use Rattle.feeding.specs.Feeding.{SameOutside, noneAccepted}
+use Rattle.sheet.specs.Texts.{textsFed, TextsAs, ClosedAs}
 use Rattle.promises.specs.Outcomes.{SameStore, holds-once, number-one, opened-refused-once, opened-once}
 
 -- ---- the first line
@@ -54,14 +53,17 @@ line-opened-once k q r s t u a b = go (keptOpening k (length s)) a b
 
 -- ---- the texts
 
-pub texts-refused-once : (k n : ℕ) (q r : Number) (s t u : List ℕ) → TextsAs (refused k) n q s t → TextsAs (refused k) n r s u → (q ≡ r) × (t ≡ u)
-unfolding TextsAs
-texts-refused-once k n q r s t u a b = (number-one q r (a .0 ∙ sym (b .0)), a .1 ∙ sym (b .1))
-
-pub texts-once : (y : Batched) (n : ℕ) (q r : Number) (s t u : List ℕ) → TextsAs (gives y) n q s t → TextsAs (gives y) n r s u
-    → (q ≡ r) × SameStore (storeSize (y .after .opening .numbers)) t u
-unfolding TextsAs
-texts-once y n q r s t u a b = (number-one q r (a .0 ∙ sym (b .0)), holds-once (y .after) s t u (a .1) (b .1))
+pub texts-once : (s : List ℕ) (n : ℕ) (p : List ℕ) (q r : Number) (t u : List ℕ) → TextsAs s n p q t → TextsAs s n p r u
+    → (q ≡ r)
+    × (wholeAt s ≡ false → t ≡ u)
+    × (wholeAt s ≡ true → SameStore (storeSize (textsFed (heldAt s) p .after .opening .numbers)) t u)
+    × (noneAccepted (textsFed (heldAt s) p .verdicts) ≡ true → SameOutside t 0 u)
+texts-once s n p q r t u a b = (
+  number-one q r (a .answer ∙ sym (b .answer)),
+  λ e. a .found e ∙ sym (b .found e),
+  λ e. holds-once (textsFed (heldAt s) p .after) s t u (a .holds e) (b .holds e),
+  λ e i m. b .outside e i m ∙ sym (a .outside e i m),
+)
 
 pub texts-closed-once : (s : List ℕ) (n : ℕ) (q r : Number) (t u : List ℕ) → ClosedAs s n q t → ClosedAs s n r u
     → (q ≡ r)
