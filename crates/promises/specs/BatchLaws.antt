@@ -39,7 +39,7 @@ batching-hears zero h l p = refl
 batching-hears (suc n) h l p =
     ap (λ (vs : List ℕ). verdictNumber (feeding h l p .answer) ∷ vs) (batching-hears n (feeding h l p .after) l (drop (feeding h l p .taken) p))
 
-pub batch-follows : (n : ℕ) (l : ℕ) (p : List ℕ) (r : Number) (s v t w : List ℕ) → BatchedAs (gives (batching n (heldAt s) l p)) r s v t w
+pub batch-follows : (n : ℕ) (l : ℕ) (p : List ℕ) (r : Number) (s v t w : List ℕ) → BatchedAs (gives (batching n (heldAt s) l p)) l r s v t w
     → (wholeAt t ≡ true) × (heldAt t ≡ ending (heldAt s) (feedings n (heldAt s) l p))
 unfolding BatchedAs
 batch-follows n l p r s v t w q = (q .1 .whole, q .1 .held ∙ batching-ends n (heldAt s) l p)

@@ -13,8 +13,6 @@ pub mod TextsOutcomes
 pub mod EqualOutcomes
 pub mod ReadOutcomes
 pub mod InnerOutcomes
-pub mod SeamLaws
-pub mod CutLaws
 pub mod SummarySteps
 pub mod LineStepLaws
 pub mod TextStepLaws
