@@ -13,6 +13,7 @@ pub mod TextsOutcomes
 pub mod EqualOutcomes
 pub mod ReadOutcomes
 pub mod InnerOutcomes
+pub mod StoreOutcomes
 pub mod SummarySteps
 pub mod LineStepLaws
 pub mod TextStepLaws
