@@ -1,11 +1,13 @@
 -- Feeding text after text. Assumes nothing.
 --
+--   none-front, none-back     no tree is accepted in either of two runs of verdicts
 --   small-answer       the number of a tree that is accepted is at most 1,024
 --   Going ..           i texts are fed, up to the place `at` of the piece; what is left of it decides the rest
 --   going-none, going-more     no text yet, and one more
 --   going-lane, going-index, going-part     what feeding the rest asks
 --   taken-fits         a text that was taken ends in the piece
---   gone-holds, gone-verdicts     and behind the last text
+--   gone-holds, gone-verdicts, gone-outside     and behind the last text
+--   batching-length    there are as many verdicts as texts
 --   batched-length     the verdicts' buffer is as long as before
 --   batch-not-whole, batch-no-lane, batch-short, batch-done     what each return of the code promises
 use Prim.Native.Nat.{ℕ, zero, suc, _+_, _-_, _≤_, _<_}
@@ -17,10 +19,11 @@ use mathlib.Core.List.{List, [], _∷_, _++_, append-assoc, append-nil}
 use lib.Dec.{ltb}
 use lib.ListN.{length, getD, set, take, drop, length-append, length-set, length-drop, take-append-drop}
 use lib.Seq.{take-all, take-suc-set, drop-set-lt, drop-drop}
-use borrow.Author.Tests.{lt-ltb, le-ltb}
-use Rattle.trees.specs.Plain.{if_then_else_, member, Answer, refused, gives}
+use borrow.Author.Tests.{lt-ltb, le-ltb, ltb-true}
+use Rattle.theorems.specs.ListLaws.{and-left, and-right}
+use Rattle.trees.specs.Plain.{if_then_else_, every, member, Answer, refused, gives}
 use Rattle.trees.specs.Opening.{Opening, storeSize}
-use Rattle.trees.specs.Held.{Held, laneOf, longer, verdict, beforeSemicolon, finished, finishing, feeding}
+use Rattle.trees.specs.Held.{Held, moreWanted, accepted, laneOf, longer, verdict, beforeSemicolon, finished, finishing, feeding}
 use Rattle.trees.specs.Held as held
 use Rattle.trees.specs.Batch.{semicolons, verdictNumber, withVerdict, batching, batch}
 use Rattle.theorems.specs.WrittenFedLaws.{feedingBy, feeding-by}
@@ -37,9 +40,9 @@ use Rattle.table.specs.Promises.{ifWhole, Holds}
 use Rattle.table.specs.declared.Refusal.the-variants as why
 use Rattle.table.specs.declared.Number.the-variants as number
 use Rattle.table.specs.declared.Fed.{Fed}
-use Rattle.feeding.specs.Feeding.{batchOf, BatchedAs}
+use Rattle.feeding.specs.Feeding.{batchOf, isAccepted, SameOutside, isRefusal, noneAccepted, BatchedAs}
 use Rattle.feeding.specs.Texts.{FedWell, Small}
-use Rattle.feeding.specs.EndLaws.{end-inside, no-text, one-text}
+use Rattle.feeding.specs.EndLaws.{end-inside, one-text, has-text, lacks-text}
 use Rattle.feeding.specs.HoldLaws.{size-held}
 
 -- ---- the numbers of accepted trees
@@ -69,12 +72,32 @@ fed-taken : (h : Held) (l : ℕ) (p : List ℕ) → l < h .opening .numbers .lan
 unfolding finishing
 fed-taken h l p m e = ap (λ (f : held.Fed). f .taken) (feeding-by h l p) ∙ rw (lt-ltb l (h .opening .numbers .lanes) m, e) refl
 
-has-text : (p : List ℕ) → 0 < semicolons p → member 59 p ≡ true
-has-text p h = go (member 59 p) refl
-  where
-    go : (b : Bool) → member 59 p ≡ b → b ≡ true
-    go true e = refl
-    go false e = absurd (omega (arith, no-text p e))
+-- ---- texts of which none is accepted
+
+refusal-number : (a : Answer held.Progress) → isRefusal (verdictNumber a) ≡ true → isAccepted a ≡ false
+unfolding verdictNumber isAccepted
+refusal-number (refused k) e = refl
+refusal-number (gives moreWanted) e = refl
+refusal-number (gives (accepted t)) e = absurd (omega (arith, ltb-true (256 + t) 256 e))
+
+pub none-front : (x y : List ℕ) → noneAccepted (x ++ y) ≡ true → noneAccepted x ≡ true
+unfolding noneAccepted every
+none-front [] y e = refl
+none-front (b ∷ x) y e = rw (and-left (isRefusal b) _ e, none-front x y (and-right (isRefusal b) _ e)) refl
+
+pub none-back : (x y : List ℕ) → noneAccepted (x ++ y) ≡ true → noneAccepted y ≡ true
+unfolding noneAccepted every
+none-back [] y e = e
+none-back (b ∷ x) y e = none-back x y (and-right (isRefusal b) _ e)
+
+none-last : (x : List ℕ) (v : ℕ) → noneAccepted (x ++ v ∷ []) ≡ true → isRefusal v ≡ true
+unfolding noneAccepted every
+none-last x v e = and-left (isRefusal v) true (none-back x (v ∷ []) e)
+
+-- a piece without a semicolon finishes no text
+fed-more : (h : Held) (l : ℕ) (p : List ℕ) → l < h .opening .numbers .lanes → member 59 p ≡ false → isAccepted (feeding h l p .answer) ≡ false
+unfolding isAccepted
+fed-more h l p m e = ap (λ (f : held.Fed). isAccepted (f .answer)) (feeding-by h l p) ∙ rw (lt-ltb l (h .opening .numbers .lanes) m, e) refl
 
 -- ---- text after text
 
@@ -86,6 +109,7 @@ pub record Going (s₀ : List ℕ) (l : ℕ) (p : List ℕ) (n : ℕ) (v₀ s v 
   pub opening : heldAt s .opening ≡ heldAt s₀ .opening
   pub size : length s ≡ length s₀
   pub behind : (j : ℕ) → sizeAt s₀ ≤ j → getD s j 0 ≡ getD s₀ j 0
+  pub outside : noneAccepted (take i v) ≡ true → SameOutside s₀ l s
   pub room : length v ≡ length v₀
   pub kept : drop i v ≡ drop i v₀
   pub verdicts : batching n (heldAt s₀) l p .verdicts ≡ take i v ++ batching (semicolons (drop at p)) (heldAt s) l (drop at p) .verdicts
@@ -100,6 +124,7 @@ going-none s l p n v w e = record {
   opening = refl;
   size = refl;
   behind = λ j h. refl;
+  outside = λ e j h. refl;
   room = refl;
   kept = refl;
   verdicts = rw e refl;
@@ -170,6 +195,10 @@ module _ (s₀ : List ℕ) (l : ℕ) (p : List ℕ) (n : ℕ) (v₀ s v : List �
         opening = opening-on;
         size = f .left .holds .size ∙ g .size;
         behind = behind-on;
+        outside = λ q j h.
+            let z : noneAccepted (take i v ++ x ∷ []) ≡ true = rw (add-one i, take-suc-set v i x (omega (arith, g .room))) at q in
+            let u : isRefusal (verdictNumber (feeding (heldAt s) l (drop at p) .answer)) ≡ true = rw (e, f .answer) at (none-last (take i v) x z) in
+            f .left .outside (refusal-number _ u) j h ∙ g .outside (none-front (take i v) (x ∷ []) z) j h;
         room = length-set v i x ∙ g .room;
         kept = rw (add-one i) (drop-set-lt (suc i) v i x (omega arith) ∙ next-kept);
         verdicts =
@@ -205,12 +234,18 @@ module _ (s₀ : List ℕ) (l : ℕ) (p : List ℕ) (n : ℕ) (v₀ s v : List �
         behind = λ j b. behind-on j (omega (arith, ap (λ (o : Opening). storeSize (o .numbers)) opening-on, size-held s₀));
       })
 
+      pub gone-outside : noneAccepted (batching n (heldAt s₀) l p .verdicts) ≡ true → SameOutside s₀ l t
+      gone-outside q j h =
+          let c : l < heldAt s .opening .numbers .lanes = rw (held-numbers s) going-lane in
+          f .left .outside (fed-more (heldAt s) l (drop at p) c (lacks-text (drop at p) none-left)) j h
+          ∙ g .outside (rw (last-verdicts, ← d) at q) j h
+
       pub gone-verdicts : v ≡ batching n (heldAt s₀) l p .verdicts ++ drop n v₀
       gone-verdicts = sym (take-append-drop n v) ∙ rw (last-verdicts, ← d, g .kept) refl
 
 -- ---- the returns of a batch
 
-batching-length : (n : ℕ) (h : Held) (l : ℕ) (p : List ℕ) → length (batching n h l p .verdicts) ≡ n
+pub batching-length : (n : ℕ) (h : Held) (l : ℕ) (p : List ℕ) → length (batching n h l p .verdicts) ≡ n
 unfolding batching withVerdict
 batching-length zero h l p = refl
 batching-length (suc n) h l p = ap suc (batching-length n (feeding h l p .after) l (drop (feeding h l p .taken) p))
@@ -220,7 +255,7 @@ batched-length n h l p v x f e =
     rw e (omega (arith, length-append (batching n h l p .verdicts) (drop n v), batching-length n h l p, length-drop n v))
 
 module _ (s : List ℕ) (l : ℕ) (p v : List ℕ) where
-  pub batch-not-whole : wholeAt s ≡ false → BatchedAs (batchOf s l p (length v)) (number.Refused why.NotWhole) s v s v
+  pub batch-not-whole : wholeAt s ≡ false → BatchedAs (batchOf s l p (length v)) l (number.Refused why.NotWhole) s v s v
   unfolding batchOf ifWhole BatchedAs numberGiven refusalNumber
   batch-not-whole e = rw e (refl, refl, refl)
 
@@ -229,7 +264,7 @@ module _ (s : List ℕ) (l : ℕ) (p v : List ℕ) where
     unfolding batchOf ifWhole
     batch-whole = rw w
 
-    pub batch-no-lane : numbersAt s .lanes ≤ l → BatchedAs (batchOf s l p (length v)) (number.Refused why.NoLane) s v s v
+    pub batch-no-lane : numbersAt s .lanes ≤ l → BatchedAs (batchOf s l p (length v)) l (number.Refused why.NoLane) s v s v
     batch-no-lane h = rw (batch-whole, nowhere) (unfold BatchedAs numberGiven refusalNumber in (refl, refl, refl))
       where
         nowhere : batch (heldAt s) l p (length v) ≡ refused 5
@@ -240,10 +275,12 @@ module _ (s : List ℕ) (l : ℕ) (p v : List ℕ) where
       unfolding batch
       batch-here = rw (held-numbers s, lt-ltb l (numbersAt s .lanes) m, e)
 
-      pub batch-short : length v < n → BatchedAs (batchOf s l p (length v)) (number.Refused why.TooShort) s v s v
+      pub batch-short : length v < n → BatchedAs (batchOf s l p (length v)) l (number.Refused why.TooShort) s v s v
       batch-short h = rw (batch-whole, batch-here, lt-ltb (length v) n h) (unfold BatchedAs numberGiven refusalNumber in (refl, refl, refl))
 
       pub batch-done : n ≤ length v → (t x : List ℕ) → Holds (batching n (heldAt s) l p .after) s t → x ≡ batching n (heldAt s) l p .verdicts ++ drop n v
-          → BatchedAs (batchOf s l p (length v)) (number.Gives n) s v t x
-      batch-done h t x a q =
-          rw (batch-whole, batch-here, le-ltb (length v) n h) (unfold BatchedAs numberGiven in (ap gives (sym (batching-length n (heldAt s) l p)), a, rw (batching-length n (heldAt s) l p) q))
+          → (noneAccepted (batching n (heldAt s) l p .verdicts) ≡ true → SameOutside s l t)
+          → BatchedAs (batchOf s l p (length v)) l (number.Gives n) s v t x
+      batch-done h t x a q f =
+          rw (batch-whole, batch-here, le-ltb (length v) n h)
+          (unfold BatchedAs numberGiven in (ap gives (sym (batching-length n (heldAt s) l p)), a, rw (batching-length n (heldAt s) l p) q, f))

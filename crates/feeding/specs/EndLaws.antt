@@ -9,6 +9,8 @@
 --   texts-skip         those of a block, and those behind it
 --   one-text           behind the first text there is one fewer
 --   no-text            a piece without a semicolon has none
+--   has-text, lacks-text     a piece that ends a text has a semicolon, one that ends none has not
+--   eqb-flip           a test of two numbers, the other way round
 use Prim.Native.Nat.{ℕ, zero, suc, _+_, _-_, _≤_, _<_}
 use native.Mathlib.Numerals.{add-one}
 use native.Mathlib.Omega.{arith}
@@ -41,7 +43,7 @@ module _ (p : List ℕ) (i : ℕ) where
   unfolding beforeSemicolon
   end-none h = rw (drop-of-length-le p h)
 
-eqb-flip : (a b : ℕ) → eqb a b ≡ eqb b a
+pub eqb-flip : (a b : ℕ) → eqb a b ≡ eqb b a
 eqb-flip a b = go (eqb b a) refl
   where
     go : (t : Bool) → eqb b a ≡ t → eqb a b ≡ t
@@ -211,3 +213,17 @@ one-text (b ∷ p) e = go (eqb 59 b) (eqb b 59) refl (eqb-flip 59 b) (one-text p
     go true false r w f q = absurd (true≢false w)
     go false true r w f q = absurd (true≢false (sym w))
     go false false r w f q = f q
+
+pub has-text : (p : List ℕ) → 0 < semicolons p → member 59 p ≡ true
+has-text p h = go (member 59 p) refl
+  where
+    go : (b : Bool) → member 59 p ≡ b → b ≡ true
+    go true e = refl
+    go false e = absurd (omega (arith, no-text p e))
+
+pub lacks-text : (p : List ℕ) → semicolons p ≡ 0 → member 59 p ≡ false
+lacks-text p h = go (member 59 p) refl
+  where
+    go : (b : Bool) → member 59 p ≡ b → b ≡ false
+    go true e = absurd (omega (arith, one-text p e))
+    go false e = refl

@@ -8,7 +8,9 @@
 --   SameOutside s l t      the lent bytes t are as in s outside the lane l
 --   FedAs s l p r t        feeding answers r and leaves t
 --   ClosedAs s l r t       closing answers r and leaves t
---   BatchedAs b r s v t w  a batch that is b answers r and leaves the lent bytes t, which were s, and the verdicts w, which were v
+--   isRefusal v            the verdict v of a batch is a refusal's number
+--   noneAccepted vs        so are all the verdicts vs
+--   BatchedAs b l r s v t w     a batch that is b, on lane l, answers r and leaves the lent bytes t, which were s, and the verdicts w, which were v
 use Prim.Native.Nat.{ℕ, _+_, _≤_, _<_}
 use mathlib.Core.Path.{_≡_}
 use mathlib.Core.Logic.{_⊎_}
@@ -16,7 +18,7 @@ use mathlib.Core.Bool.{Bool, true, false, _&&_}
 use mathlib.Core.List.{List, _++_}
 use lib.Dec.{ltb}
 use lib.ListN.{length, getD, drop}
-use Rattle.trees.specs.Plain.{if_then_else_, Answer, refused, gives}
+use Rattle.trees.specs.Plain.{if_then_else_, every, Answer, refused, gives}
 use Rattle.trees.specs.Held.{Closed, moreWanted, accepted, feeding, closing}
 use Rattle.trees.specs.Held as held
 use Rattle.trees.specs.Batch.{Batched, batch}
@@ -71,9 +73,20 @@ pub record ClosedAs (s : List ℕ) (l : ℕ) (r : Finish) (t : List ℕ) : Type 
   pub holds : reached s l ≡ true → Holds (closedOf s l .after) s t
   pub outside : SameOutside s l t
 
--- the number of verdicts is answered; they stand at the front of their buffer
-unfoldable pub BatchedAs : Answer Batched → Number → List ℕ → List ℕ → List ℕ → List ℕ → Type 0
+-- refusals go from 1 to 14; an accepted tree's number counts from 256
+abbrev pub isRefusal : ℕ → Bool
+isRefusal v = ltb v 256
+
+unfoldable pub noneAccepted : List ℕ → Bool
+unfolding every
+noneAccepted vs = every isRefusal vs
+
+-- the number of verdicts is answered; they stand at the front of their buffer; where no tree is accepted, only the lane changes
+unfoldable pub BatchedAs : Answer Batched → ℕ → Number → List ℕ → List ℕ → List ℕ → List ℕ → Type 0
 unfolding numberGiven
-BatchedAs (refused k) r s v t w = (numberGiven r ≡ refused k) × (t ≡ s) × (w ≡ v)
-BatchedAs (gives b) r s v t w =
-    (numberGiven r ≡ gives (length (b .verdicts))) × Holds (b .after) s t × (w ≡ b .verdicts ++ drop (length (b .verdicts)) v)
+BatchedAs (refused k) l r s v t w = (numberGiven r ≡ refused k) × (t ≡ s) × (w ≡ v)
+BatchedAs (gives b) l r s v t w =
+    (numberGiven r ≡ gives (length (b .verdicts)))
+    × Holds (b .after) s t
+    × (w ≡ b .verdicts ++ drop (length (b .verdicts)) v)
+    × (noneAccepted (b .verdicts) ≡ true → SameOutside s l t)

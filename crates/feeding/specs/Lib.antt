@@ -8,3 +8,5 @@ pub mod AcceptLaws
 pub mod FinishLaws
 pub mod FedLaws
 pub mod BatchLaws
+pub mod SeamLaws
+pub mod CutLaws

@@ -61,7 +61,7 @@ pub fn close(s: &mut [u8], l: Lane) -> Finish
 // Feeds a piece with any number of texts to a lane, tests the store once, and writes each verdict: a
 // refusal's number, or 256 more than the tree's. Takes the whole piece.
 pub fn batch(s: &mut [u8], l: Lane, piece: &[u8], verdicts: &mut [u32]) -> Number
-    ensures { λ r. ⌜ BatchedAs (batchOf (now (s .entry)) (l .0) (now (piece .entry)) (length (now (verdicts .entry)))) r (now (s .entry)) (now (verdicts .entry)) (now (s .exit)) (now (verdicts .exit)) ⌝ }
+    ensures { λ r. ⌜ BatchedAs (batchOf (now (s .entry)) (l .0) (now (piece .entry)) (length (now (verdicts .entry)))) (l .0) r (now (s .entry)) (now (verdicts .entry)) (now (s .exit)) (now (verdicts .exit)) ⌝ }
 {
     if !store::is_whole(s) {
         return Number::Refused(Refusal::NotWhole);

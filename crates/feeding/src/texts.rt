@@ -14,6 +14,7 @@ ghost use Rattle.store.specs.WholeStore.{wholeAt};
 ghost use Rattle.table.specs.Answers.{progressGiven};
 ghost use Rattle.table.specs.Promises.{Holds};
 ghost use Rattle.trees.specs.Batch.{verdictNumber};
+ghost use Rattle.feeding.specs.Feeding.{SameOutside, noneAccepted};
 ghost use Rattle.feeding.specs.Texts.{FedWell, Small};
 use crate::verdicts;
 use layout::Lane;
@@ -143,6 +144,7 @@ pub(crate) fn feed_texts(
     requires { ⌜ n ≤ length (now verdicts) ⌝ }
     ensures { λ r. ⌜ Holds (batching n (heldAt (now (s .entry))) (l .0) (now (piece .entry)) .after) (now (s .entry)) (now (s .exit)) ⌝ }
     ensures { λ r. ⌜ now (verdicts .exit) ≡ batching n (heldAt (now (s .entry))) (l .0) (now (piece .entry)) .verdicts ++ drop n (now (verdicts .entry)) ⌝ }
+    ensures { λ r. ⌜ (noneAccepted (batching n (heldAt (now (s .entry))) (l .0) (now (piece .entry)) .verdicts) ≡ true → SameOutside (now (s .entry)) (l .0) (now (s .exit))) ⌝ }
 {
     let mut at = 0;
     let mut i = 0;

@@ -17,8 +17,6 @@ pub mod EqualOutcomes
 pub mod ReadOutcomes
 pub mod InnerOutcomes
 pub mod StoreOutcomes
-pub mod SeamLaws
-pub mod CutLaws
 pub mod SummarySteps
 pub mod LineStepLaws
 pub mod TextStepLaws

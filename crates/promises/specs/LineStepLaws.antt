@@ -12,12 +12,27 @@ use lib.Dec.{eqb}
 use lib.ListN.{length, drop}
 use Rattle.trees.specs.Plain.{if_then_else_, member}
 use Rattle.theorems.specs.ListLaws.{if-true}
+use Rattle.feeding.specs.EndLaws.{eqb-flip}
+use Rattle.feeding.specs.SeamLaws.{before, before-left, before-right}
 use Rattle.sheet.specs.declared.Taken.{Taken}
 use Rattle.sheet.specs.Summary.{firstLine, behindLine}
 use Rattle.sheet.specs.FirstLine.{Kept, keptAfter, keptOf, lineTaken, TakenAs}
-use Rattle.sheet.specs.FirstLineLaws.{eqb-flip, kept-append}
-use Rattle.promises.specs.SeamLaws.{line-left, line-right}
+use Rattle.sheet.specs.FirstLineLaws.{kept-append}
 use Rattle.promises.specs.SummarySteps.{whole, LineSteps}
+
+-- ---- the line
+
+before-line : (p : List ℕ) → firstLine p ≡ before 10 p
+unfolding before firstLine
+before-line [] = refl
+before-line (b ∷ p) = ap (λ (v : List ℕ). if eqb b 10 then [] else b ∷ v) (before-line p)
+
+module _ (p q : List ℕ) where
+  line-left : member 10 p ≡ true → firstLine (p ++ q) ≡ firstLine p
+  line-left e = before-line (p ++ q) ∙ before-left 10 p q e ∙ sym (before-line p)
+
+  line-right : member 10 p ≡ false → firstLine (p ++ q) ≡ p ++ firstLine q
+  line-right e = before-line (p ++ q) ∙ before-right 10 p q e ∙ ap (λ (v : List ℕ). p ++ v) (sym (before-line q))
 
 -- ---- behind the line
 

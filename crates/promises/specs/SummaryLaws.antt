@@ -26,12 +26,13 @@ use Rattle.sheet.specs.Sheet.{sheetLines}
 use Rattle.sheet.specs.Summary.{firstLine, behindLine, spacesIn, summaryNumbers, firstConstant, secondConstant, namesOpening, summaryOpening, summaryBytes, closedSheet, summaryLines, refusalLine, printed, summary}
 use Rattle.sheet.specs.FirstLine.{Kept, keptOpening}
 use Rattle.sheet.specs.TextsLaws.{capped-small}
+use Rattle.sheet.specs.PartLaws.{lane-whole}
 use Rattle.sheet.specs.Asked.{refusalAsked}
 use Rattle.sheet.specs.KeptLaws.{fresh, line-decides}
 use Rattle.promises.specs.Outcomes.{refusalIn, gives≢refused}
-use Rattle.promises.specs.SummarySteps.{whole, FewTexts, countAfter, allFed, refusedTexts, Printed, Summarised}
+use Rattle.promises.specs.SummarySteps.{whole, countAfter, allFed, refusedTexts, Printed, Summarised}
 use Rattle.promises.specs.LineStepLaws.{behind-most, line-follows}
-use Rattle.promises.specs.TextStepLaws.{lane-whole, texts-none, texts-follow, refused-most, closed-follows}
+use Rattle.promises.specs.TextStepLaws.{texts-none, texts-follow, refused-most, closed-follows}
 use Rattle.promises.specs.PrintedLaws.{filled-line, lines-follow}
 
 -- ---- the opening
@@ -80,7 +81,7 @@ refusal-fits k room e h = rw (le-ltb room (length (refusalLine k)) (omega (arith
 -- ---- the sheet
 
 -- behind an opening that is accepted
-module _ (o : Opening) (lent s : List ℕ) (q : Holds (opened o) lent s) (ps : List (List ℕ)) (few : FewTexts ps)
+module _ (o : Opening) (lent s : List ℕ) (q : Holds (opened o) lent s) (ps : List (List ℕ))
     (small : refusedTexts o (whole ps) < 2 ^ 64) where
   lane : 0 < o .numbers .lanes
   unfolding opened
@@ -93,7 +94,7 @@ module _ (o : Opening) (lent s : List ℕ) (q : Holds (opened o) lent s) (ps : L
   sheet-printed : (out : List ℕ) → Printed finish.Done s ps out → out ≡ whole (summaryLines o (whole ps))
   unfolding Printed
   sheet-printed out g =
-      let f = texts-follow o lane ps [] s 0 (texts-none o lane s (q .whole) (q .held)) few (g .0) (g .1) (g .5) in
+      let f = texts-follow o lane ps [] s 0 (texts-none o lane s (q .whole) (q .held)) (g .0) (g .1) (g .5) in
       let c = closed-follows o (whole ps) (g .0) (g .1) f (g .2) (g .3) (g .6) in
       let n : countAfter (g .1) (g .2) ≡ refusedTexts o (whole ps) = c .2 ∙ sym (capped-small (refusedTexts o (whole ps)) small) in
       let l = lines-follow (g .3) (c .0) (countAfter (g .1) (g .2)) (omega arith) (g .4) 0 (g .7) in
@@ -131,7 +132,7 @@ module _ (names lent : List ℕ) (a : 2112 ≤ length names) (b : summaryBytes �
   unfolding OpenedAs finishGiven
   accepted-printed o h (finish.Refused w) x g = absurd (gives≢refused tt (refusalNumber w) (sym (x .0)))
   accepted-printed o h finish.Done x g =
-      sheet-printed o lent (run .store) (x .1) (run .texts) (run .few) (rw behind-is h) out g ∙ ap (λ (v : List ℕ). whole (summaryLines o v)) behind-is
+      sheet-printed o lent (run .store) (x .1) (run .texts) (rw behind-is h) out g ∙ ap (λ (v : List ℕ). whole (summaryLines o v)) behind-is
 
   -- as long as 64 bits can count the refused texts
   pub summary-printed : ((o : Opening) → summaryOpening line summaryBytes ≡ gives o → refusedTexts o texts < 2 ^ 64) → out ≡ summary (whole ps)

@@ -1,7 +1,6 @@
 -- The calls of the summary on an input that comes in pieces. Nothing here speaks of code: a step is whatever the call's promise allows.
 --
 --   whole ps                     the pieces ps, one behind another
---   FewTexts ps                  each of them ends at most 4,096 texts
 --   LineSteps k ps z v           taking the first line from ps, with k kept of it: in the end z is kept, and the bytes v stand behind it
 --   countAfter n r               the number of refused texts, n before, that a call answers with r
 --   TextSteps s n ps t m         feeding ps, behind n refused texts: the lent bytes s become t, the number m
@@ -26,7 +25,6 @@ use Rattle.table.specs.declared.Finish.the-variants as finish
 use Rattle.table.specs.declared.Number.{Number}
 use Rattle.table.specs.declared.Number.the-variants as number
 use Rattle.table.specs.declared.Refusal.{Refusal}
-use Rattle.feeding.specs.Feeding.{batchOf}
 use Rattle.sheet.specs.declared.Taken.{Taken}
 use Rattle.sheet.specs.Summary.{refusedIn, refusedAfter}
 use Rattle.sheet.specs.FirstLine.{Kept, keptOf, TakenAs, keptOpening}
@@ -37,10 +35,6 @@ use Rattle.sheet.specs.KeptLaws.{fresh}
 unfoldable pub whole : List (List ℕ) → List ℕ
 unfolding flatMap
 whole ps = flatMap (λ p. p) ps
-
-unfoldable pub FewTexts : List (List ℕ) → Type 0
-FewTexts [] = Unit {0}
-FewTexts (p ∷ ps) = (semicolons p ≤ 4096) × FewTexts ps
 
 -- the piece in which the line ends has the first bytes behind it
 unfoldable pub LineSteps : Kept → List (List ℕ) → Kept → List ℕ → Type 0
@@ -59,7 +53,7 @@ countAfter n (number.Gives m) = m
 unfoldable pub TextSteps : List ℕ → ℕ → List (List ℕ) → List ℕ → ℕ → Type 0
 unfolding countAfter
 TextSteps s n [] t m = (t ≡ s) × (m ≡ n)
-TextSteps s n (p ∷ ps) t m = (r : Number) × (u : List ℕ) × TextsAs (batchOf s 0 p 4096) n r s u × TextSteps u (countAfter n r) ps t m
+TextSteps s n (p ∷ ps) t m = (r : Number) × (u : List ℕ) × TextsAs s n p r u × TextSteps u (countAfter n r) ps t m
 
 abbrev pub allFed : Opening → List ℕ → Batched
 allFed o v = batching (semicolons v) (opened o) 0 v
@@ -103,5 +97,4 @@ pub record Summarised (names lent : List ℕ) (ps : List (List ℕ)) (printed : 
   pub opened : OpenedAs (keptOpening kept (length lent)) answer lent store
   pub texts : List (List ℕ)
   pub cut : whole texts ≡ behind
-  pub few : FewTexts texts
   pub prints : Printed answer store texts printed

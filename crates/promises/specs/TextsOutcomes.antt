@@ -1,25 +1,34 @@
 -- The promise of taking the texts of an input leaves one outcome. Assumes nothing.
 --
---   take-texts-once     the answer, and the lent bytes but for what a batch leaves free
-use mathlib.Core.Path.{_≡_}
+--   textsFree s p       what taking the piece p leaves free in the lent bytes s
+--   take-texts-once     the answer, and the lent bytes but for what is free
+use mathlib.Core.Path.{_≡_, refl}
+use mathlib.Core.Bool.{Bool, true, false}
 use mathlib.Core.List.{List}
 use Prim.Native.Nat.{ℕ}
 use denote.Ref.{now}
-use Rattle.trees.specs.Plain.{Answer, refused, gives}
-use Rattle.trees.specs.Batch.{Batched}
+use Rattle.trees.specs.Plain.{if_then_else_}
+use Rattle.layout.specs.Store.{heldAt}
+use Rattle.store.specs.WholeStore.{wholeAt}
 use Rattle.table.specs.declared.Number.{Number}
-use Rattle.feeding.specs.Feeding.{batchOf}
-use Rattle.sheet.specs.Texts.{TextsAs}
+use Rattle.feeding.specs.Feeding.{noneAccepted}
+use Rattle.sheet.specs.Texts.{textsFed, TextsAs}
 use Rattle.sheet.proofs.take_texts.Reads as take-texts
-use Rattle.promises.specs.Once.{Once, arg1, arg3, SameBut}
-use Rattle.promises.specs.Outcomes.{both, number-both, holds-both}
-use Rattle.promises.specs.BatchOutcomes.{batchedFree}
+use Rattle.promises.specs.Once.{Once, arg1, arg3, Free, nothing, lane, store, SameBut}
+use Rattle.promises.specs.Outcomes.{both, number-both, holds-both, outside-both}
 
-texts-both : (b : Answer Batched) (n : ℕ) (q r : Number) (s t u : List ℕ) → TextsAs b n q s t → TextsAs b n r s u → (q ≡ r) × SameBut (batchedFree b) t u
-unfolding TextsAs batchedFree SameBut
-texts-both (refused k) n q r s t u c d = (number-both q r (c .0) (d .0), both (c .1) (d .1))
-texts-both (gives b) n q r s t u c d = (number-both q r (c .0) (d .0), holds-both (b .after) s t u (c .1) (d .1))
+-- 1 leaves every byte as found; texts of which none is accepted, every byte outside the lane
+unfoldable pub textsFree : List ℕ → List ℕ → Free
+textsFree s p = if wholeAt s then if noneAccepted (textsFed (heldAt s) p .verdicts) then lane 0 else store else nothing
 
-pub take-texts-once : Once take-texts.Post
-    (λ x q r y z. (q ≡ r) × SameBut (batchedFree (batchOf (now (arg1 x)) 0 (now (arg3 x)) 4096)) (now (arg1 y)) (now (arg1 z)))
-take-texts-once k x q r y z a b = texts-both _ _ q r _ _ _ a b
+texts-both : (s : List ℕ) (n : ℕ) (p : List ℕ) (q r : Number) (t u : List ℕ) → TextsAs s n p q t → TextsAs s n p r u → (q ≡ r) × SameBut (textsFree s p) t u
+unfolding textsFree SameBut
+texts-both s n p q r t u a b = (number-both q r (a .answer) (b .answer), go (wholeAt s) (noneAccepted (textsFed (heldAt s) p .verdicts)) refl refl)
+  where
+    go : (m c : Bool) → wholeAt s ≡ m → noneAccepted (textsFed (heldAt s) p .verdicts) ≡ c → SameBut (if m then if c then lane 0 else store else nothing) t u
+    go false c e d = both (a .found e) (b .found e)
+    go true true e d = (holds-both (textsFed (heldAt s) p .after) s t u (a .holds e) (b .holds e), outside-both s 0 t u (a .outside d) (b .outside d))
+    go true false e d = holds-both (textsFed (heldAt s) p .after) s t u (a .holds e) (b .holds e)
+
+pub take-texts-once : Once take-texts.Post (λ x q r y z. (q ≡ r) × SameBut (textsFree (now (arg1 x)) (now (arg3 x))) (now (arg1 y)) (now (arg1 z)))
+take-texts-once k x q r y z a b = texts-both _ _ _ q r _ _ a b

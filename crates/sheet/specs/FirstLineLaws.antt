@@ -1,7 +1,6 @@
 -- The laws of the first line, taken in pieces. Assumes nothing.
 --
 --   end-here, end-more, end-none     how many bytes stand before the first LF
---   eqb-flip                         a test of two numbers, the other way round
 --   line-take, line-ended, line-all  these are the piece's first; a piece has an LF exactly where they are not all
 --   space-not, space-full, space-more, used-full, used-more     one byte more
 --   kept-none, kept-more             what is kept, a byte at a time
@@ -16,9 +15,10 @@ use mathlib.Core.List.{List, [], _∷_, _++_}
 use lib.Dec.{eqb}
 use lib.ListN.{length, getD, set, take, drop, drop-of-length-le}
 use lib.Seq.{drop-cons}
-use borrow.Author.Tests.{lt-ltb, le-ltb, eqb-true, eqb-false, eq-eqb, ne-eqb}
+use borrow.Author.Tests.{lt-ltb, le-ltb, eq-eqb, ne-eqb}
 use Rattle.trees.specs.Plain.{if_then_else_, member}
 use Rattle.theorems.specs.ListLaws.{if-true, if-false}
+use Rattle.feeding.specs.EndLaws.{eqb-flip}
 use Rattle.sheet.specs.declared.LinePart.{LinePart}
 use Rattle.sheet.specs.Summary.{firstLine}
 use Rattle.sheet.specs.FirstLine.{Kept, spacesWith, usedWith, keptWith, keptAfter, lineTaken, keptOf, TakenAs}
@@ -49,13 +49,6 @@ line-take (b ∷ p) = go (eqb b 10) (line-take p)
         → take (length (if t then [] else b ∷ firstLine p)) (b ∷ p) ≡ (if t then [] else b ∷ firstLine p)
     go true e = refl
     go false e = ap (λ (l : List ℕ). b ∷ l) e
-
-pub eqb-flip : (a b : ℕ) → eqb a b ≡ eqb b a
-eqb-flip a b = go (eqb b a) refl
-  where
-    go : (t : Bool) → eqb b a ≡ t → eqb a b ≡ t
-    go true e = eq-eqb a b (sym (eqb-true b a e))
-    go false e = ne-eqb a b (λ q. eqb-false b a e (sym q))
 
 -- all bytes are the line's: there is no LF
 pub line-all : (p : List ℕ) → length (firstLine p) ≡ length p → member 10 p ≡ false

@@ -21,9 +21,9 @@ use Rattle.trees.specs.Opening.{opening}
 use Rattle.theorems.specs.ListLaws.{and-left, and-right}
 use Rattle.theorems.specs.NameLaws.{isName-short}
 use Rattle.store.specs.UpToLaws.{less-or-not}
+use Rattle.feeding.specs.EndLaws.{eqb-flip}
 use Rattle.sheet.specs.Summary.{spacesIn, summaryNumbers, namesOpening, summaryOpening}
 use Rattle.sheet.specs.FirstLine.{Kept, spacesWith, usedWith, keptWith, keptAfter, keptOpening}
-use Rattle.sheet.specs.FirstLineLaws.{eqb-flip}
 use Rattle.sheet.specs.OpeningLaws.{many-names}
 
 -- ---- one byte after another

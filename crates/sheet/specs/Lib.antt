@@ -14,3 +14,4 @@ pub mod FirstLineLaws
 pub mod OpeningLaws
 pub mod KeptLaws
 pub mod TextsLaws
+pub mod PartLaws

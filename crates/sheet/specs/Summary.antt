@@ -13,7 +13,7 @@
 use Prim.Native.Nat.{ℕ, suc, _*_, _%_, _^_}
 use mathlib.Core.Path.{_≡_, refl}
 use mathlib.Core.List.{List, [], _∷_, flatMap}
-use lib.Dec.{ltb, eqb}
+use lib.Dec.{eqb}
 use lib.ListN.{length}
 use Rattle.trees.specs.Plain.{if_then_else_, keep, Answer, refused, gives}
 use Rattle.trees.specs.Plain.{bytes}
@@ -21,6 +21,7 @@ use Rattle.trees.specs.Opening.{Numbers, Opening, opening}
 use Rattle.trees.specs.Held.{opened, closing}
 use Rattle.trees.specs.Batch.{semicolons, Batched, batching}
 use Rattle.head.specs.Head.{upTo}
+use Rattle.feeding.specs.Feeding.{isRefusal}
 use Rattle.sheet.specs.Sheet.{digitsOf, lineOf, sheetLines}
 
 -- "The line ends before its LF, or where the input ends"
@@ -61,10 +62,9 @@ summaryOpening line lent = namesOpening (suc (spacesIn line)) line lent
 abbrev pub summaryBytes : ℕ
 summaryBytes = 21512
 
--- refusals go from 1 to 14; an accepted tree's number counts from 256
 unfoldable pub refusedIn : List ℕ → ℕ
 unfolding keep
-refusedIn vs = length (keep (λ v. ltb v 256) vs)
+refusedIn vs = length (keep isRefusal vs)
 
 -- "a refused closing included"
 unfoldable pub refusedAfter : ℕ → Answer (Unit {0}) → ℕ

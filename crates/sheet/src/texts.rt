@@ -5,7 +5,6 @@ ghost use mathlib.Core.Path.{_≡_};
 ghost use Prim.Native.Nat.{_+_, _≤_};
 ghost use lib.ListN.{length, take};
 ghost use Rattle.table.specs.Answers.{finishGiven};
-ghost use Rattle.feeding.specs.Feeding.{batchOf};
 ghost use Rattle.sheet.specs.Summary.{refusedIn, refusedAfter};
 ghost use Rattle.sheet.specs.Texts.{capped, TextsAs, ClosedAs};
 use layout::Lane;
@@ -13,9 +12,28 @@ use table::Finish;
 use table::Number;
 use table::Refusal;
 
-// Feeds a piece of the input, behind `refused` refused texts, and answers how many there are then.
+// Feeds a piece of the input, behind `refused` refused texts, and answers how many there are then. The piece is
+// fed by parts of 4,096 bytes: no part ends more texts than there is room for verdicts.
 pub fn take_texts(s: &mut [u8], refused: usize, piece: &[u8]) -> Number
-    ensures { λ r. ⌜ TextsAs (batchOf (now (s .entry)) 0 (now (piece .entry)) 4096) refused r (now (s .entry)) (now (s .exit)) ⌝ }
+    ensures { λ r. ⌜ TextsAs (now (s .entry)) refused (now (piece .entry)) r (now (s .exit)) ⌝ }
+{
+    let mut all = refused;
+    let mut at = 0;
+    while 4096 < piece.len() - at {
+        let answer = take_part(s, all, &piece[at..at + 4096]);
+        match answer {
+            Number::Gives(n) => all = n,
+            Number::Refused(why) => return Number::Refused(why),
+        }
+        at += 4096;
+    }
+    take_part(s, all, &piece[at..])
+}
+
+// The same for at most 4,096 bytes, in one batch.
+fn take_part(s: &mut [u8], refused: usize, piece: &[u8]) -> Number
+    requires { ⌜ length (now piece) ≤ 4096 ⌝ }
+    ensures { λ r. ⌜ TextsAs (now (s .entry)) refused (now (piece .entry)) r (now (s .exit)) ⌝ }
 {
     let mut verdicts = [0u32; 4096];
     let answer = feeding::batch(s, Lane(0), piece, &mut verdicts);

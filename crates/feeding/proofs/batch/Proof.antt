@@ -41,7 +41,7 @@ returns-4 c =
     let w = passed _ _ (c .before .before .before .before .before .before .before .before .before .before .before .before .before .before .before .before .before .before .before .before .is-whole .ensures) (c .before .before .before .before .before .before .before .before .before .before .before .before .before .before .before .before .before .before .before .if1 .left) in
     let f = c .before .before .before .before .feed-texts .ensures in
     let a = c .before .before .before .before .before .before .before .before .before .before .before .before .before .before .before .before .before .before .before .before .before .before .before .before .before .args in
-    batch-done (a .s .now) (a .l .0) (a .piece .now) (a .verdicts .now) w (omega arith) (c .before .before .before .before .before .before .before .before .before .before .before .before .before .before .count-texts .result) (c .before .before .before .before .before .before .before .before .before .before .before .before .before .before .count-texts .ensures) (omega arith) _ _ (f .0) (f .1)
+    batch-done (a .s .now) (a .l .0) (a .piece .now) (a .verdicts .now) w (omega arith) (c .before .before .before .before .before .before .before .before .before .before .before .before .before .before .count-texts .result) (c .before .before .before .before .before .before .before .before .before .before .before .before .before .before .count-texts .ensures) (omega arith) _ _ (f .0) (f .1 .0) (f .1 .1)
 
 pub batch-spec : {M : Type 1} → statement M
 batch-spec =
@@ -60,5 +60,5 @@ batch-spec =
     build-index-requires
     feed-texts-requires
     (λ c. c .before .before .before .before .feed-texts .ensures .0 .size)
-    (λ c. batched-length _ _ _ _ _ _ (omega arith) (c .before .before .before .before .feed-texts .ensures .1))
+    (λ c. batched-length _ _ _ _ _ _ (omega arith) (c .before .before .before .before .feed-texts .ensures .1 .0))
     returns-4)

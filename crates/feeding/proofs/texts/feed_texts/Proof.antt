@@ -4,7 +4,7 @@ use mathlib.Core.Path.{sym, subst, _∙_}
 use native.Mathlib.Omega.{arith}
 use borrow.Author.Needs.{needs}
 use Rattle.feeding.specs.Texts.{Small}
-use Rattle.feeding.specs.BatchLaws.{small-answer, Going, going-none, going-lane, going-index, going-part, taken-fits, going-more, gone-holds, gone-verdicts}
+use Rattle.feeding.specs.BatchLaws.{small-answer, Going, going-none, going-lane, going-index, going-part, taken-fits, going-more, gone-holds, gone-verdicts, gone-outside}
 use Rattle.feeding.proofs.texts.feed_texts.Statement.{statement}
 use Rattle.feeding.proofs.texts.feed_texts.Tie as tie
 
@@ -50,7 +50,7 @@ returns c =
     let d = c .before .before .before .before .before .before .before .before .before .before in
     let g = c .before .before .before .before .before .before .loop .inv in
     let f = going-part _ _ _ _ _ _ _ _ _ (d .pre .1 .0) g _ _ (c .before .before .feed-piece2 .ensures) in
-    (gone-holds _ _ _ _ _ _ _ _ _ (d .pre .1 .0) g _ _ f (omega (arith, g .within)), gone-verdicts _ _ _ _ _ _ _ _ _ (d .pre .1 .0) g _ _ f (omega (arith, g .within)))
+    (gone-holds _ _ _ _ _ _ _ _ _ (d .pre .1 .0) g _ _ f (omega (arith, g .within)), (gone-verdicts _ _ _ _ _ _ _ _ _ (d .pre .1 .0) g _ _ f (omega (arith, g .within)), gone-outside _ _ _ _ _ _ _ _ _ (d .pre .1 .0) g _ _ f (omega (arith, g .within))))
 
 pub feed-texts-spec : {M : Type 1} → statement M
 feed-texts-spec =

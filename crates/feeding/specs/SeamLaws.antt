@@ -1,8 +1,9 @@
--- Two pieces as one: what stands in them, and before their first semicolon or LF. Assumes nothing.
+-- Two pieces as one: what stands in them, and before the first byte of a kind. Assumes nothing.
 --
+--   before c p                    what stands in p before the first byte c
 --   member-left, member-right     a byte that is in the first piece, and one that is not
+--   before-left, before-right     what stands before it
 --   text-left, text-right         what stands before the first semicolon
---   line-left, line-right         what stands before the first LF
 --   keep-append                   how many bytes pass a test
 use Prim.Native.Nat.{ℕ, _+_}
 use native.Mathlib.Omega.{arith}
@@ -13,13 +14,11 @@ use lib.Dec.{eqb}
 use lib.ListN.{length}
 use Rattle.trees.specs.Plain.{if_then_else_, keep, member}
 use Rattle.trees.specs.Held.{beforeSemicolon}
-use Rattle.sheet.specs.Summary.{firstLine}
-use Rattle.sheet.specs.FirstLineLaws.{eqb-flip}
+use Rattle.feeding.specs.EndLaws.{eqb-flip}
 
 -- ---- the first byte c
 
--- all before it
-before : ℕ → List ℕ → List ℕ
+unfoldable pub before : ℕ → List ℕ → List ℕ
 before c [] = []
 before c (b ∷ p) = if eqb b c then [] else b ∷ before c p
 
@@ -27,11 +26,6 @@ before-text : (p : List ℕ) → beforeSemicolon p ≡ before 59 p
 unfolding before beforeSemicolon
 before-text [] = refl
 before-text (b ∷ p) = ap (λ (v : List ℕ). if eqb b 59 then [] else b ∷ v) (before-text p)
-
-before-line : (p : List ℕ) → firstLine p ≡ before 10 p
-unfolding before firstLine
-before-line [] = refl
-before-line (b ∷ p) = ap (λ (v : List ℕ). if eqb b 10 then [] else b ∷ v) (before-line p)
 
 module _ (c : ℕ) where
   pub member-left : (p q : List ℕ) → member c p ≡ true → member c (p ++ q) ≡ true
@@ -52,7 +46,7 @@ module _ (c : ℕ) where
       go true f h = absurd (true≢false h)
       go false f h = f h
 
-  before-left : (p q : List ℕ) → member c p ≡ true → before c (p ++ q) ≡ before c p
+  pub before-left : (p q : List ℕ) → member c p ≡ true → before c (p ++ q) ≡ before c p
   unfolding member before
   before-left [] q e = absurd (true≢false (sym e))
   before-left (b ∷ p) q e = go (eqb b c) (before-left p q) (rw (eqb-flip c b) at e)
@@ -62,7 +56,7 @@ module _ (c : ℕ) where
       go true f h = refl
       go false f h = ap (λ (v : List ℕ). b ∷ v) (f h)
 
-  before-right : (p q : List ℕ) → member c p ≡ false → before c (p ++ q) ≡ p ++ before c q
+  pub before-right : (p q : List ℕ) → member c p ≡ false → before c (p ++ q) ≡ p ++ before c q
   unfolding member before
   before-right [] q e = refl
   before-right (b ∷ p) q e = go (eqb b c) (before-right p q) (rw (eqb-flip c b) at e)
@@ -78,12 +72,6 @@ module _ (p q : List ℕ) where
 
   pub text-right : member 59 p ≡ false → beforeSemicolon (p ++ q) ≡ p ++ beforeSemicolon q
   text-right e = before-text (p ++ q) ∙ before-right 59 p q e ∙ ap (λ (v : List ℕ). p ++ v) (sym (before-text q))
-
-  pub line-left : member 10 p ≡ true → firstLine (p ++ q) ≡ firstLine p
-  line-left e = before-line (p ++ q) ∙ before-left 10 p q e ∙ sym (before-line p)
-
-  pub line-right : member 10 p ≡ false → firstLine (p ++ q) ≡ p ++ firstLine q
-  line-right e = before-line (p ++ q) ∙ before-right 10 p q e ∙ ap (λ (v : List ℕ). p ++ v) (sym (before-line q))
 
 -- ---- how many bytes pass a test
 

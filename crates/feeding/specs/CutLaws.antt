@@ -1,12 +1,12 @@
 -- However the bytes of a lane are cut, they are fed alike. Assumes nothing.
 --
 --   semicolons-append      the texts that two pieces end
---   refused-append         the refusals among two runs of verdicts
 --   LaneThere h l          the collection h has a lane l
 --   fed-open               a piece that ends no text
 --   takenMore n f          the outcome f of a feeding, with n bytes more taken
 --   continued              feeding p, which ends no text, and then q is feeding p ++ q
 --   joined b c             the outcomes b and then c of two batches, as one
+--   batching-opening       a batch changes no opening
 --   batching-append        a batch of p, and then one of q on what it leaves, are a batch of p ++ q
 use Prim.Native.Nat.{ℕ, zero, suc, _+_, _<_}
 use native.Mathlib.Nat.{zero-add, suc-add}
@@ -25,19 +25,14 @@ use Rattle.trees.specs.Batch.{semicolons, verdictNumber, withVerdict, Batched, 
 use Rattle.theorems.specs.PieceLaws.{longer-longer}
 use Rattle.theorems.specs.OwnLaneLaws.{lanesAfter, laneAfter, feeding-opening, feeding-texts}
 use Rattle.theorems.specs.WrittenFedLaws.{feedingBy, feeding-by}
-use Rattle.feeding.specs.EndLaws.{end-inside, no-text, one-text}
-use Rattle.sheet.specs.Summary.{refusedIn}
-use Rattle.promises.specs.SeamLaws.{member-left, member-right, text-left, text-right, keep-append}
+use Rattle.feeding.specs.EndLaws.{end-inside, one-text, has-text, lacks-text}
+use Rattle.feeding.specs.SeamLaws.{member-left, member-right, text-left, text-right, keep-append}
 
 -- ---- the semicolons of two pieces
 
 pub semicolons-append : (p q : List ℕ) → semicolons (p ++ q) ≡ semicolons p + semicolons q
 unfolding semicolons
 semicolons-append p q = keep-append (eqb 59) p q
-
-pub refused-append : (v w : List ℕ) → refusedIn (v ++ w) ≡ refusedIn v + refusedIn w
-unfolding refusedIn
-refused-append v w = keep-append (λ x. ltb x 256) v w
 
 -- ---- a lane that is there
 
@@ -141,6 +136,12 @@ module _ (h : Held) (l : ℕ) (here : LaneThere h l) (p q : List ℕ) (e : membe
 unfoldable pub joined : Batched → Batched → Batched
 joined b c = record { verdicts = b .verdicts ++ c .verdicts; after = c .after }
 
+pub batching-opening : (n : ℕ) (h : Held) (l : ℕ) (p : List ℕ) → batching n h l p .after .opening ≡ h .opening
+unfolding batching withVerdict
+batching-opening zero h l p = feeding-opening h l p
+batching-opening (suc n) h l p =
+    batching-opening n (feeding h l p .after) l (drop (feeding h l p .taken) p) ∙ feeding-opening h l p
+
 -- the texts that q ends, where p ends none
 batching-continued : (m : ℕ) (h : Held) (l : ℕ) → LaneThere h l → (p q : List ℕ) → member 59 p ≡ false
     → batching m h l (p ++ q) ≡ batching m (feeding h l p .after) l q
@@ -150,20 +151,6 @@ batching-continued (suc m) h l here p q e =
     ap (λ (f : Fed). withVerdict (verdictNumber (f .answer)) (batching m (f .after) l (drop (f .taken) (p ++ q)))) (continued h l here p q e)
     ∙ ap (λ (r : List ℕ). withVerdict (verdictNumber (feeding (feeding h l p .after) l q .answer)) (batching m (feeding (feeding h l p .after) l q .after) l r))
     (drop-append-add p q (feeding (feeding h l p .after) l q .taken))
-
-has-text : (n : ℕ) (p : List ℕ) → semicolons p ≡ suc n → member 59 p ≡ true
-has-text n p h = go (member 59 p) refl
-  where
-    go : (b : Bool) → member 59 p ≡ b → b ≡ true
-    go true e = refl
-    go false e = absurd (omega (arith, no-text p e))
-
-has-none : (p : List ℕ) → semicolons p ≡ 0 → member 59 p ≡ false
-has-none p h = go (member 59 p) refl
-  where
-    go : (b : Bool) → member 59 p ≡ b → b ≡ false
-    go true e = absurd (omega (arith, one-text p e))
-    go false e = refl
 
 -- the first text of p is the first of p ++ q
 module _ (h : Held) (l : ℕ) (here : LaneThere h l) (p q : List ℕ) (e : member 59 p ≡ true) where
@@ -187,9 +174,9 @@ pub batching-append : (n m : ℕ) (h : Held) (l : ℕ) → LaneThere h l → (p 
     → batching (n + m) h l (p ++ q) ≡ joined (batching n h l p) (batching m (batching n h l p .after) l q)
 unfolding batching joined
 batching-append zero m h l here p q s =
-    ap (λ (k : ℕ). batching k h l (p ++ q)) (zero-add m) ∙ batching-continued m h l here p q (has-none p s)
+    ap (λ (k : ℕ). batching k h l (p ++ q)) (zero-add m) ∙ batching-continued m h l here p q (lacks-text p s)
 batching-append (suc n) m h l here p q s =
-    let e = has-text n p s in
+    let e = has-text p (omega arith) in
     let f = feeding h l p in
     ap (λ (k : ℕ). batching k h l (p ++ q)) (suc-add n m)
     ∙ ap (λ (g : Fed). withVerdict (verdictNumber (g .answer)) (batching (n + m) (g .after) l (drop (g .taken) (p ++ q)))) (first-same h l here p q e)
