@@ -7,9 +7,7 @@ pub mod BatchLaws
 pub mod Outcomes
 pub mod InnerOutcomes
 pub mod SheetOutcomes
+pub mod SummaryOutcomes
 pub mod SummarySteps
-pub mod LineStepLaws
-pub mod TextStepLaws
-pub mod LineRoomLaws
 pub mod PrintedLaws
 pub mod SummaryLaws

@@ -21,10 +21,10 @@ use Rattle.table.specs.Promises.{OpenedAs}
 use Rattle.table.specs.Filled.{FilledAs}
 use Rattle.table.specs.declared.Finish.{Finish}
 use Rattle.table.specs.declared.Number.{Number}
-use Rattle.sheet.specs.declared.Taken.{Taken}
-use Rattle.sheet.specs.FirstLine.{Kept, TakenAs, keptOpening}
+use Rattle.summary.specs.declared.Taken.{Taken}
+use Rattle.summary.specs.FirstLine.{Kept, TakenAs, keptOpening}
 use Rattle.feeding.specs.Feeding.{SameOutside, noneAccepted}
-use Rattle.sheet.specs.Texts.{textsFed, TextsAs, ClosedAs}
+use Rattle.summary.specs.Texts.{textsFed, TextsAs, ClosedAs}
 use Rattle.promises.specs.Outcomes.{SameStore, holds-once, number-one, opened-refused-once, opened-once}
 
 -- ---- the first line
