@@ -44,6 +44,10 @@ use Rattle.promises.specs.SheetOutcomes.{line-taken-once, texts-once, te
 unfoldable pub Alike : List ℕ → List ℕ → Type 0
 Alike t u = (t ≡ u) ⊎ SameStore (storeSize (heldAt t .opening .numbers)) t u
 
+alike-same : (t u : List ℕ) → t ≡ u → Alike t u
+unfolding Alike
+alike-same t u e = inl e
+
 alike-holds : (h : Held) (s t u : List ℕ) → Holds h s t → Holds h s u → Alike t u
 unfolding Alike
 alike-holds h s t u a b = inr (subst (λ (k : Held). SameStore (storeSize (k .opening .numbers)) t u) (sym (a .held)) (holds-once h s t u a b))
@@ -161,7 +165,7 @@ module _ (line : LinePart) (names s p : List ℕ) (q r : Summing) (a b t u : Lis
       go false d =
           let c = f .goes d in
           let k = g .goes (sym e ∙ d) in
-          (c .0 ∙ ap (λ (x : Taken). summing.Line (x .line)) (taken-same .0) ∙ sym (k .0), unfold Alike in inl (c .1 ∙ sym (k .1)))
+          (c .0 ∙ ap (λ (x : Taken). summing.Line (x .line)) (taken-same .0) ∙ sym (k .0), alike-same t u (c .1 ∙ sym (k .1)))
       go true d = opens-once (keptOf (f .taken .line) a) s (drop (f .taken .taken) p) q r t u (f .ends d) (here (g .ends (sym e ∙ d)))
 
 alike-texts : (s : List ℕ) (n : ℕ) (p : List ℕ) (q r : Number) (t u : List ℕ) → TextsAs s n p q t → TextsAs s n p r u → Alike t u
@@ -172,18 +176,20 @@ alike-texts s n p q r t u a b = go (wholeAt s) refl
     go false e = inl (a .found e ∙ sym (b .found e))
     go true e = alike-holds (textsFed (heldAt s) p .after) s t u (a .holds e) (b .holds e)
 
+took-steps : (state : Summing) (names s p : List ℕ) (q r : Summing) (a b t u : List ℕ) → TakeSteps state names s p q a t → TakeSteps state names s p r b u
+    → (q ≡ r) × (a ≡ b) × Alike t u
+unfolding TakeSteps
+took-steps (summing.Line line) names s p q r a b t u f g = names-once line names s p q r a b t u f g
+took-steps (summing.Texts n) names s p q r a b t u f g = (
+  f .0 .state ∙ ap fedState (texts-once s n p (f .0 .answer) (g .0 .answer) t u (f .0 .fed) (g .0 .fed) .0) ∙ sym (g .0 .state),
+  f .1 ∙ sym (g .1),
+  alike-texts s n p (f .0 .answer) (g .0 .answer) t u (f .0 .fed) (g .0 .fed),
+)
+took-steps (summing.Refused w) names s p q r a b t u f g = (f .0 ∙ sym (g .0), f .1 ∙ sym (g .1), alike-same t u (f .2 ∙ sym (g .2)))
+
 pub took-once : (state : Summing) (names s p : List ℕ) (q r : Summing) (a b t u : List ℕ) → TookAs state names s p q a t → TookAs state names s p r b u
     → (q ≡ r) × (a ≡ b) × Alike t u
-took-once state names s p q r a b t u c d = go state (c .steps) (d .steps)
-  where
-    go : (x : Summing) → TakeSteps x names s p q a t → TakeSteps x names s p r b u → (q ≡ r) × (a ≡ b) × Alike t u
-    go (summing.Line line) f g = unfold TakeSteps in names-once line names s p q r a b t u f g
-    go (summing.Texts n) f g = unfold TakeSteps in (
-      f .0 .state ∙ ap fedState (texts-once s n p (f .0 .answer) (g .0 .answer) t u (f .0 .fed) (g .0 .fed) .0) ∙ sym (g .0 .state),
-      f .1 ∙ sym (g .1),
-      alike-texts s n p (f .0 .answer) (g .0 .answer) t u (f .0 .fed) (g .0 .fed),
-    )
-    go (summing.Refused w) f g = unfold TakeSteps Alike in (f .0 ∙ sym (g .0), f .1 ∙ sym (g .1), inl (f .2 ∙ sym (g .2)))
+took-once state names s p q r a b t u c d = took-steps state names s p q r a b t u (c .steps) (d .steps)
 
 alike-closed : (s : List ℕ) (n : ℕ) (q r : Number) (t u : List ℕ) → ClosedAs s n q t → ClosedAs s n r u → Alike t u
 unfolding Alike
@@ -193,14 +199,16 @@ alike-closed s n q r t u a b = go (wholeAt s) refl
     go false e = inl (a .found e ∙ sym (b .found e))
     go true e = alike-holds (closing (heldAt s) 0 .after) s t u (a .holds e) (b .holds e)
 
+finished-steps : (state : Summing) (names s : List ℕ) (q r : Number) (t u : List ℕ) → FinishSteps state names s q t → FinishSteps state names s r u
+    → (q ≡ r) × Alike t u
+unfolding FinishSteps
+finished-steps (summing.Line line) names s q r t u f g = ends-once (keptOf line names) s q r t u f g
+finished-steps (summing.Texts n) names s q r t u f g = (texts-closed-once s n q r t u f g .0, alike-closed s n q r t u f g)
+finished-steps (summing.Refused w) names s q r t u f g = (f .0 ∙ sym (g .0), alike-same t u (f .1 ∙ sym (g .1)))
+
 pub finished-once : (state : Summing) (names s : List ℕ) (q r : Number) (t u : List ℕ) → FinishedAs state names s q t → FinishedAs state names s r u
     → (q ≡ r) × Alike t u
-finished-once state names s q r t u c d = go state (c .steps) (d .steps)
-  where
-    go : (x : Summing) → FinishSteps x names s q t → FinishSteps x names s r u → (q ≡ r) × Alike t u
-    go (summing.Line line) f g = unfold FinishSteps in ends-once (keptOf line names) s q r t u f g
-    go (summing.Texts n) f g = unfold FinishSteps in (texts-closed-once s n q r t u f g .0, alike-closed s n q r t u f g)
-    go (summing.Refused w) f g = unfold FinishSteps Alike in (f .0 ∙ sym (g .0), inl (f .1 ∙ sym (g .1)))
+finished-once state names s q r t u c d = finished-steps state names s q r t u (c .steps) (d .steps)
 
 pub printed-once : (answer : Number) (s : List ℕ) (j : ℕ) (q r : Number) (out t u : List ℕ) → PrintedAs answer s j q out t → PrintedAs answer s j r out u
     → (q ≡ r) × (t ≡ u)

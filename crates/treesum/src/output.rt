@@ -29,7 +29,12 @@ fn print_front(out: &[u8], n: usize) -> bool {
     if out.len() < n {
         return false;
     }
-    if io::write_all(STDOUT_FILENO, &out[..n]) {
+    write(&out[..n])
+}
+
+// Writes bytes to standard output; false, with a complaint, where that fails.
+fn write(bytes: &[u8]) -> bool {
+    if io::write_all(STDOUT_FILENO, bytes) {
         return true;
     }
     complain(b"treesum: writing failed\n");

@@ -18,9 +18,6 @@ print-sheet-spec =
     Inv-loop
     μ-loop
     (λ c. omega arith)
-    (λ c. search needs)
-    (λ c κs. search needs)
-    (λ c. search needs)
     (λ c κs. search needs)
     (λ c. search needs)
     (λ c. omega arith)
