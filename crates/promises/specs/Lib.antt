@@ -17,9 +17,7 @@ pub mod EqualOutcomes
 pub mod ReadOutcomes
 pub mod InnerOutcomes
 pub mod StoreOutcomes
+pub mod SummaryOutcomes
 pub mod SummarySteps
-pub mod LineStepLaws
-pub mod TextStepLaws
-pub mod LineRoomLaws
 pub mod PrintedLaws
 pub mod SummaryLaws

@@ -11,8 +11,7 @@ use Rattle.trees.specs.Plain.{if_then_else_, Answer, refused}
 use Rattle.trees.specs.Held.{Held}
 use Rattle.trees.specs.Questions.{ifRoom}
 use Rattle.table.specs.Promises.{ifWhole}
-use Rattle.sheet.specs.Sheet.{sheetLines}
-use Rattle.sheet.specs.Summary.{refusalLine}
+use Rattle.sheet.specs.Sheet.{sheetLines, refusalLine}
 
 -- 13 for a line past the last
 unfoldable pub lineNumber : Held → ℕ → ℕ → ℕ → Answer (List ℕ)

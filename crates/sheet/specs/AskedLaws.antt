@@ -28,8 +28,7 @@ use Rattle.table.specs.Filled.{FilledAs}
 use Rattle.table.specs.QuestionLaws.{not-whole, when-whole}
 use Rattle.writer.specs.Branch.{Put}
 use Rattle.writer.specs.PutLaws.{put-then, put-copied}
-use Rattle.sheet.specs.Sheet.{digitsOf, spaced, fields, lineOf, sheetLines}
-use Rattle.sheet.specs.Summary.{refusalLine}
+use Rattle.sheet.specs.Sheet.{digitsOf, spaced, fields, lineOf, sheetLines, refusalLine}
 use Rattle.sheet.specs.Asked.{lineNumber, lineAsked, refusalAsked}
 use Rattle.sheet.specs.LineLaws.{put-as}
 use Rattle.sheet.specs.SheetLaws.{sheet-length}

@@ -1,8 +1,5 @@
--- What the summary program prints, how its input is taken in pieces, and the laws of both.
+-- What the summary sheet of a collection is, line by line, and the laws of writing it.
 pub mod Sheet
-pub mod Summary
-pub mod FirstLine
-pub mod Texts
 pub mod Asked
 pub mod Lines
 pub mod DigitLaws
@@ -10,8 +7,4 @@ pub mod WritingLaws
 pub mod LineLaws
 pub mod SheetLaws
 pub mod AskedLaws
-pub mod FirstLineLaws
-pub mod OpeningLaws
-pub mod KeptLaws
-pub mod TextsLaws
-pub mod PartLaws
+pub mod LineRoomLaws

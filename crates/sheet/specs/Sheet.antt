@@ -7,6 +7,7 @@
 --   rowLine h t                the doubled distances of the tree t from all trees
 --   majorityLine, strictLine   the two consensus trees
 --   sheetLines h refused       all lines of the sheet, in order
+--   refusalLine k              the line printed for a first line that is refused with k
 use Prim.Native.Nat.{ℕ, zero, suc, _+_, _/_, _%_}
 use Prim.Native.String.{String}
 use mathlib.Core.Bool.{true, false}
@@ -90,3 +91,8 @@ unfolding countsLine splitLine rowLine majorityLine strictLine recorded
 sheetLines h refused =
     countsLine h refused
     ∷ (map (splitLine h) (recorded (h .trees)) ++ (map (rowLine h) (h .trees) ++ majorityLine h ∷ strictLine h ∷ []))
+
+-- "A bad first line gives only `names refused` and the number"
+unfoldable pub refusalLine : ℕ → List ℕ
+unfolding lineOf bytes digitsOf
+refusalLine k = lineOf (bytes "names" ∷ bytes "refused" ∷ digitsOf k ∷ [])

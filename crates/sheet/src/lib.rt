@@ -1,8 +1,7 @@
-// The summary sheet: the first line of an input and the texts behind it taken piece by piece, and the lines
-// that are printed. Each call does its own checking and asks nothing of what it is given.
+// The summary sheet of a collection in lent bytes, line by line, and the line for a first line that is refused. Each
+// call does its own checking and asks nothing of what it is given.
 //
-// Read `specs/Sheet.antt` and `specs/Summary.antt` for what is printed; `specs/FirstLine.antt`, `specs/Texts.antt`
-// and `specs/Asked.antt` for what the calls promise.
+// Read `specs/Sheet.antt` for the lines, and `specs/Asked.antt` for what the calls promise.
 ghost use Prim.Native.Nat.{_≤_};
 ghost use lib.ListN.{length, take};
 ghost use Rattle.trees.specs.Questions.{ifRoom};
@@ -11,28 +10,8 @@ ghost use Rattle.sheet.specs.Asked.{lineAsked, refusalAsked};
 use table::Number;
 use table::Refusal;
 
-mod first_line;
 mod lines;
-mod texts;
 mod writing;
-
-pub use first_line::open_line;
-pub use first_line::take_line;
-pub use texts::close_texts;
-pub use texts::take_texts;
-
-// What is kept of a first line that is being taken: how many bytes, and how many spaces it has had, at most 64.
-pub struct LinePart {
-    pub used: usize,
-    pub spaces: usize,
-}
-
-// The answer of taking a piece of the first line: how many of its bytes, whether the line has ended, and what is kept.
-pub struct Taken {
-    pub taken: usize,
-    pub ended: bool,
-    pub line: LinePart,
-}
 
 // Writes line number j of the sheet to the front of out. `refused` texts were refused.
 pub fn line(s: &[u8], refused: usize, j: usize, out: &mut [u8]) -> Number

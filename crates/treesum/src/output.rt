@@ -1,38 +1,47 @@
 // What is printed.
+use libc::STDERR_FILENO;
 use libc::STDOUT_FILENO;
 use table::Number;
 
 // Prints the sheet, line by line.
-pub(crate) fn sheet(lent: &[u8], refused: usize) {
+pub(crate) fn print_sheet(answer: Number, lent: &[u8]) {
     let mut j = 0;
     while j < usize::MAX {
-        let mut out = [0u8; 8192];
-        let answer = sheet::line(lent, refused, j, &mut out);
-        if !print(answer, &out) {
+        if !print_line(answer, lent, j) {
             return;
         }
         j += 1;
     }
 }
 
-// Prints the line for a first line that was refused with the number k.
-pub(crate) fn refusal(k: u32) {
-    let mut out = [0u8; 64];
-    let answer = sheet::refusal_line(k, &mut out);
-    print(answer, &out);
-}
-
-// Prints the line that a call left at the front of `out`; false, where there was none or it could not be written.
-fn print(answer: Number, out: &[u8]) -> bool {
-    match answer {
-        Number::Gives(n) => print_front(out, n),
+// Prints line number j; false, where there is none or it could not be written.
+fn print_line(answer: Number, lent: &[u8], j: usize) -> bool {
+    let mut out = [0u8; 8192];
+    let given = summary::line(answer, lent, j, &mut out);
+    match given {
+        Number::Gives(n) => print_front(&out, n),
         Number::Refused(_) => false,
     }
 }
 
+// Prints the first n bytes of `out`.
 fn print_front(out: &[u8], n: usize) -> bool {
     if out.len() < n {
         return false;
     }
-    io::write_all(STDOUT_FILENO, &out[..n])
+    write(&out[..n])
+}
+
+// Writes bytes to standard output; false, with a complaint, where that fails.
+fn write(bytes: &[u8]) -> bool {
+    if io::write_all(STDOUT_FILENO, bytes) {
+        return true;
+    }
+    complain(b"treesum: writing failed\n");
+    false
+}
+
+// Says on standard error what went wrong.
+pub(crate) fn complain(message: &[u8]) {
+    io::write_all(STDERR_FILENO, message);
 }
