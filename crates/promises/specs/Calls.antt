@@ -22,6 +22,7 @@ use mathlib.Core.List.{List, [], _∷_, _++_, map}
 use lib.Dec.{ltb}
 use lib.ListN.{length, take, drop}
 use Rattle.trees.specs.Plain.{if_then_else_, Answer, refused, gives}
+use Rattle.trees.specs.Text.{semicolon}
 use Rattle.trees.specs.Opening.{Numbers, opening}
 use Rattle.trees.specs.Held.{Held, beforeSemicolon}
 use Rattle.trees.specs.Batch.{semicolons, Batched, batch}
@@ -135,7 +136,7 @@ afterAll h (c ∷ cs) = afterAll (after h c) cs
 unfoldable pub cut : ℕ → List ℕ → List (List ℕ)
 unfolding beforeSemicolon
 cut zero p = p ∷ []
-cut (suc n) p = (beforeSemicolon p ++ 59 ∷ []) ∷ cut n (drop (suc (length (beforeSemicolon p))) p)
+cut (suc n) p = (beforeSemicolon p ++ semicolon ∷ []) ∷ cut n (drop (suc (length (beforeSemicolon p))) p)
 
 -- a batch that is refused, for its lane or for its buffer, takes nothing
 unfoldable pub handed : ℕ → Made → List Call

@@ -13,8 +13,7 @@ use mathlib.Core.List.{List, [], _∷_, _++_, append-assoc, append-nil}
 use lib.ListN.{length, getD, take, drop}
 use lib.Seq.{sets-eq, take-at}
 use borrow.Author.Tests.{lt-ltb, le-ltb}
-use Rattle.trees.specs.Plain.{Answer, refused}
-use Rattle.trees.specs.Plain.{bytes}
+use Rattle.trees.specs.Plain.{bytes, Answer, refused}
 use Rattle.trees.specs.Questions.{ifRoom}
 use Rattle.fields.specs.Run.{copied}
 use Rattle.layout.specs.Store.{treesHeldAt, splitsHeldAt, heldAt}

@@ -20,8 +20,7 @@ use lib.Dec.{eqb}
 use lib.ListN.{length, take, drop, length-append}
 use lib.Seq.{take-at, drop-append-le}
 use borrow.Author.Tests.{le-ltb}
-use Rattle.trees.specs.Plain.{if_then_else_, Answer, refused, gives}
-use Rattle.trees.specs.Plain.{bytes}
+use Rattle.trees.specs.Plain.{if_then_else_, bytes, Answer, refused, gives}
 use Rattle.trees.specs.Distance.{doubled}
 use Rattle.trees.specs.Consensus.{recorded, count, strict, majority}
 use Rattle.trees.specs.Written.{written}

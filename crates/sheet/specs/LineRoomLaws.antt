@@ -13,8 +13,7 @@ use mathlib.Core.List.{List, [], _∷_, _++_, map}
 use lib.Dec.{ltb, eqb}
 use lib.ListN.{length, getD, length-append, length-map}
 use borrow.Author.Tests.{ltb-false}
-use Rattle.trees.specs.Plain.{if_then_else_}
-use Rattle.trees.specs.Plain.{bytes}
+use Rattle.trees.specs.Plain.{if_then_else_, bytes}
 use Rattle.trees.specs.Mask.{everyTaxon, proper}
 use Rattle.trees.specs.Names.{goodNames}
 use Rattle.trees.specs.Distance.{doubled}

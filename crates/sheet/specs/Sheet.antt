@@ -14,8 +14,7 @@ use mathlib.Core.Bool.{true, false}
 use mathlib.Core.List.{List, [], _∷_, _++_, map}
 use lib.Dec.{ltb, eqb}
 use lib.ListN.{length}
-use Rattle.trees.specs.Plain.{if_then_else_}
-use Rattle.trees.specs.Plain.{bytes}
+use Rattle.trees.specs.Plain.{if_then_else_, bytes, byte}
 use Rattle.trees.specs.Distance.{doubled}
 use Rattle.trees.specs.Consensus.{recorded, count, strict, majority}
 use Rattle.trees.specs.Written.{written}
@@ -24,9 +23,9 @@ use Rattle.trees.specs.Held.{Held}
 -- f is more than enough steps
 unfoldable pub digitsFrom : ℕ → ℕ → List ℕ
 digitsFrom zero n = []
-digitsFrom (suc f) n = elim (ltb n 10) [ true ↦ (48 + n) ∷ [] | false ↦ digitsFrom f (n / 10) ++ (48 + n % 10) ∷ [] ]
+digitsFrom (suc f) n = elim (ltb n 10) [ true ↦ (byte "0" + n) ∷ [] | false ↦ digitsFrom f (n / 10) ++ (byte "0" + n % 10) ∷ [] ]
 
--- "Masks print as unsigned decimals", and so do all numbers
+-- numbers, masks too, are printed in decimal digits
 unfoldable pub digitsOf : ℕ → List ℕ
 unfolding digitsFrom
 digitsOf n = digitsFrom (suc n) n
@@ -34,7 +33,7 @@ digitsOf n = digitsFrom (suc n) n
 -- words, each behind a space
 unfoldable pub spaced : List (List ℕ) → List ℕ
 spaced [] = []
-spaced (w ∷ ws) = 32 ∷ (w ++ spaced ws)
+spaced (w ∷ ws) = byte " " ∷ (w ++ spaced ws)
 
 -- "Fields are parted by one space"
 unfoldable pub fields : List (List ℕ) → List ℕ
@@ -45,7 +44,7 @@ fields (w ∷ ws) = w ++ spaced ws
 -- "every line ends with LF"
 unfoldable pub lineOf : List (List ℕ) → List ℕ
 unfolding fields
-lineOf ws = fields ws ++ 10 ∷ []
+lineOf ws = fields ws ++ byte "\n" ∷ []
 
 -- "Line one counts taxa, accepted trees, refused texts (a refused closing included) and recorded splits"
 unfoldable pub countsLine : Held → ℕ → List ℕ

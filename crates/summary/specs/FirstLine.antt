@@ -13,7 +13,7 @@ use mathlib.Core.Bool.{_&&_}
 use mathlib.Core.List.{List, [], _∷_}
 use lib.Dec.{ltb, eqb}
 use lib.ListN.{length, take, set}
-use Rattle.trees.specs.Plain.{if_then_else_, member, Answer}
+use Rattle.trees.specs.Plain.{if_then_else_, member, byte, Answer}
 use Rattle.trees.specs.Opening.{Opening}
 use Rattle.summary.specs.declared.LinePart.{LinePart}
 use Rattle.summary.specs.declared.Taken.{Taken}
@@ -26,7 +26,7 @@ pub record Kept : Type 0 where
 
 -- 64 spaces are too many already
 unfoldable pub spacesWith : ℕ → ℕ → ℕ
-spacesWith n b = if eqb b 32 && ltb n 64 then suc n else n
+spacesWith n b = if eqb b (byte " ") && ltb n 64 then suc n else n
 
 unfoldable pub usedWith : ℕ → List ℕ → ℕ
 usedWith n out = if ltb n (length out) then suc n else n
@@ -42,7 +42,7 @@ keptAfter k (b ∷ p) = keptAfter (keptWith k b) p
 
 unfoldable pub lineTaken : List ℕ → ℕ
 unfolding firstLine member
-lineTaken p = if member 10 p then suc (length (firstLine p)) else length p
+lineTaken p = if member (byte "\n") p then suc (length (firstLine p)) else length p
 
 -- what is kept, as the code has it
 abbrev pub keptOf : LinePart → List ℕ → Kept
@@ -50,7 +50,7 @@ keptOf line out = record { used = line .used; spaces = line .spaces; bytes = out
 
 pub record TakenAs (k : Kept) (p : List ℕ) (r : Taken) (out : List ℕ) : Type 0 where
   pub taken : r .taken ≡ lineTaken p
-  pub ended : r .ended ≡ member 10 p
+  pub ended : r .ended ≡ member (byte "\n") p
   pub line : keptOf (r .line) out ≡ keptAfter k (firstLine p)
 
 unfoldable pub keptOpening : Kept → ℕ → Answer Opening

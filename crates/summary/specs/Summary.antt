@@ -16,8 +16,7 @@ use mathlib.Core.Path.{_≡_, refl}
 use mathlib.Core.List.{List, [], _∷_, flatMap}
 use lib.Dec.{eqb}
 use lib.ListN.{length}
-use Rattle.trees.specs.Plain.{if_then_else_, keep, Answer, refused, gives}
-use Rattle.trees.specs.Plain.{bytes}
+use Rattle.trees.specs.Plain.{if_then_else_, keep, bytes, byte, Answer, refused, gives}
 use Rattle.trees.specs.Opening.{Numbers, Opening, opening}
 use Rattle.trees.specs.Held.{opened, closing}
 use Rattle.trees.specs.Batch.{semicolons, Batched, batching}
@@ -28,15 +27,15 @@ use Rattle.sheet.specs.Sheet.{sheetLines, refusalLine}
 -- "The line ends before its LF, or where the input ends"
 unfoldable pub firstLine : List ℕ → List ℕ
 firstLine [] = []
-firstLine (b ∷ s) = if eqb b 10 then [] else b ∷ firstLine s
+firstLine (b ∷ s) = if eqb b (byte "\n") then [] else b ∷ firstLine s
 
 unfoldable pub behindLine : List ℕ → List ℕ
 behindLine [] = []
-behindLine (b ∷ s) = if eqb b 10 then s else behindLine s
+behindLine (b ∷ s) = if eqb b (byte "\n") then s else behindLine s
 
 unfoldable pub spacesIn : List ℕ → ℕ
 unfolding keep
-spacesIn s = length (keep (eqb 32) s)
+spacesIn s = length (keep (eqb (byte " ")) s)
 
 -- "one lane, closed at the end, 48 trees, 256 splits"; two places a split
 unfoldable pub summaryNumbers : ℕ → Numbers

@@ -22,7 +22,7 @@ use mathlib.Core.Bool.{Bool, true, false, _&&_}
 use mathlib.Core.List.{List, [], _++_}
 use lib.Dec.{ltb, leb}
 use lib.ListN.{length, getD, drop}
-use Rattle.trees.specs.Plain.{if_then_else_, member, Answer, refused, gives}
+use Rattle.trees.specs.Plain.{if_then_else_, member, byte, Answer, refused, gives}
 use Rattle.trees.specs.Opening.{Opening}
 use Rattle.trees.specs.Held.{opened, closing}
 use Rattle.trees.specs.Batch.{semicolons, batching, Batched}
@@ -71,10 +71,10 @@ pub record FedSoFar (o : Opening) (v s : List ℕ) (n : ℕ) : Type 0 where
 -- in the first line; behind one that is accepted; behind one that is refused
 unfoldable pub StandsFor : Summing → List ℕ → List ℕ → List ℕ → Type 0
 unfolding roomy firstLine behindLine summaryOpening refusalNumber
-StandsFor (summing.Line line) names lent v = (roomy names lent ≡ true) × (member 10 v ≡ false) × Keeps (length names) v (keptOf line names)
+StandsFor (summing.Line line) names lent v = (roomy names lent ≡ true) × (member (byte "\n") v ≡ false) × Keeps (length names) v (keptOf line names)
 StandsFor (summing.Texts n) names lent v =
-    (member 10 v ≡ true) × (o : Opening) × (asksFor v ≡ gives o) × FedSoFar o (behindLine v) lent n
-StandsFor (summing.Refused w) names lent v = (member 10 v ≡ true) × (asksFor v ≡ refused (refusalNumber w))
+    (member (byte "\n") v ≡ true) × (o : Opening) × (asksFor v ≡ gives o) × FedSoFar o (behindLine v) lent n
+StandsFor (summing.Refused w) names lent v = (member (byte "\n") v ≡ true) × (asksFor v ≡ refused (refusalNumber w))
 
 unfoldable pub SheetOf : Number → List ℕ → List ℕ → Type 0
 unfolding firstLine behindLine summaryOpening refusalNumber refusedTexts capped

@@ -1,11 +1,10 @@
 -- How many trees have a split, and so which splits are recorded, strict and majority: exactly those that document 01 names.
 --
---   count-trees        a split's count is the number of trees that have it
 --   recorded-exactly   a split is recorded exactly when a tree has it
 --   mem-strict         a split that all trees have is strict, where there is a tree
 --   strict-exactly     and no other is
 --   majority-exactly   a split is a majority split exactly when twice its count is more than the number of trees
-use Prim.Native.Nat.{ℕ, suc, _*_, _≤_, _<_}
+use Prim.Native.Nat.{ℕ, suc, _*_, _<_}
 use native.Mathlib.Omega.{arith}
 use mathlib.Core.Path.{_≡_, refl, ap, sym, _∙_, subst}
 use mathlib.Core.Logic.{_⊎_, inl, inr, _↔_}
@@ -13,41 +12,20 @@ use mathlib.Core.Bool.{Bool, true, false}
 use mathlib.Core.List.{List, [], _∷_}
 use lib.ListN.{length}
 use borrow.Author.Tests.{eq-eqb}
-use Rattle.trees.specs.Plain.{if_then_else_, keep, member}
+use Rattle.trees.specs.Plain.{member}
 use Rattle.trees.specs.Consensus.{recorded, count, isStrict, strict, majority}
 use Rattle.theorems.specs.ListLaws.{Mem, member-mem, mem-member, mem-keep}
 use Rattle.theorems.specs.RisingLaws.{recorded-mem, mem-recorded}
-use Rattle.theorems.specs.ConsensusLaws.{count-has, count-lacks, majority-mem, mem-majority, strict-mem}
+use Rattle.theorems.specs.ConsensusLaws.{count-nil, count-most, count-has, count-lacks, majority-mem, mem-majority, strict-mem}
 
 -- ---- counts
-
-count-none : (m : ℕ) → count [] m ≡ 0
-unfolding count
-count-none m = refl
-
-pub count-trees : (ts : List (List ℕ)) (m : ℕ) → count ts m ≡ length (keep (member m) ts)
-unfolding keep
-count-trees [] m = count-none m
-count-trees (t ∷ ts) m = go (member m t) refl (count-trees ts m)
-  where
-    go : (b : Bool) → member m t ≡ b → count ts m ≡ length (keep (member m) ts) → count (t ∷ ts) m ≡ length (if b then t ∷ keep (member m) ts else keep (member m) ts)
-    go true e q = count-has t ts m e ∙ ap suc q
-    go false e q = count-lacks t ts m e ∙ q
 
 -- the trees of ts all have m
 abbrev AllHave : List (List ℕ) → ℕ → Type 0
 AllHave ts m = (t : List ℕ) → Mem t ts → Mem m t
 
-count-most : (ts : List (List ℕ)) (m : ℕ) → count ts m ≤ length ts
-count-most [] m = omega (arith, count-none m)
-count-most (t ∷ ts) m = go (member m t) refl (count-most ts m)
-  where
-    go : (b : Bool) → member m t ≡ b → count ts m ≤ length ts → count (t ∷ ts) m ≤ suc (length ts)
-    go true e q = omega (arith, count-has t ts m e)
-    go false e q = omega (arith, count-lacks t ts m e)
-
 all-count : (ts : List (List ℕ)) (m : ℕ) → AllHave ts m → count ts m ≡ length ts
-all-count [] m f = count-none m
+all-count [] m f = count-nil m
 all-count (t ∷ ts) m f = count-has t ts m (mem-member m t (f t (inl refl))) ∙ ap suc (all-count ts m (λ u h. f u (inr h)))
 
 count-all : (ts : List (List ℕ)) (m : ℕ) → count ts m ≡ length ts → AllHave ts m
@@ -60,7 +38,7 @@ count-all (t ∷ ts) m e = go (member m t) refl (count-all ts m)
     go false q f u h = absurd (omega (arith, count-lacks t ts m q, count-most ts m))
 
 some-has : (ts : List (List ℕ)) (m : ℕ) → 0 < count ts m → (t : List ℕ) × Mem t ts × Mem m t
-some-has [] m h = absurd (omega (arith, count-none m))
+some-has [] m h = absurd (omega (arith, count-nil m))
 some-has (t ∷ ts) m h = go (member m t) refl (some-has ts m)
   where
     go : (b : Bool) → member m t ≡ b → (0 < count ts m → (u : List ℕ) × Mem u ts × Mem m u) → (u : List ℕ) × ((u ≡ t) ⊎ Mem u ts) × Mem m u

@@ -8,13 +8,14 @@ use mathlib.Core.Bool.{false}
 use mathlib.Core.List.{List, [], _∷_}
 use lib.ListN.{length}
 use Rattle.trees.specs.Plain.{member}
+use Rattle.trees.specs.Text.{semicolon}
 use Rattle.trees.specs.Held.{Held, laneOf}
 use Rattle.trees.specs.Runs.{Call, feed, close}
 
 -- a piece to lane j has no semicolon, and lane j is not closed; calls to other lanes are free
 unfoldable pub Quiet : ℕ → List Call → Type 0
 Quiet j [] = Unit {0}
-Quiet j (feed l p ∷ cs) = (l ≡ j → member 59 p ≡ false) × Quiet j cs
+Quiet j (feed l p ∷ cs) = (l ≡ j → member semicolon p ≡ false) × Quiet j cs
 Quiet j (close l ∷ cs) = (l ≡ j → ⊥) × Quiet j cs
 
 -- the same opening, trees and number of lanes, and every other lane holds the same

@@ -13,6 +13,7 @@ use lib.Dec.{ltb, eqb}
 use lib.ListN.{length, length-set}
 use borrow.Author.Tests.{eqb-true, eqb-false}
 use Rattle.trees.specs.Plain.{member, Answer}
+use Rattle.trees.specs.Text.{semicolon}
 use Rattle.trees.specs.Held.{Held, Progress, laneOf, Fed, feeding, closing}
 use Rattle.trees.specs.Questions.{collisionsOf}
 use Rattle.trees.specs.Runs.{Call, feed, close, Heard, fed, closedLane, answer, next, answers, ending}
@@ -83,7 +84,7 @@ module _ (j : ℕ) (h k : Held) (s : SaveLane j h k) where
   abbrev heardBy : Bool → Held → List ℕ → Heard
   heardBy b x p = fed (feedingBy b false x j p .taken) (feedingBy b false x j p .answer)
 
-  unfinished : (x : Held) (p : List ℕ) → member 59 p ≡ false → answer x (feed j p) ≡ heardBy (ltb j (x .opening .numbers .lanes)) x p
+  unfinished : (x : Held) (p : List ℕ) → member semicolon p ≡ false → answer x (feed j p) ≡ heardBy (ltb j (x .opening .numbers .lanes)) x p
   unfolding answer
   unfinished x p e = ap (λ (f : Fed). fed (f .taken) (f .answer)) (feeding-by x j p ∙ ap (λ (c : Bool). feedingBy (ltb j (x .opening .numbers .lanes)) c x j p) e)
 
@@ -98,7 +99,7 @@ module _ (j : ℕ) (h k : Held) (s : SaveLane j h k) where
       go true = length-set (x .texts) j (laneAfter (laneOf x j) p)
       go false = refl
 
-  unseen-unfinished : (p : List ℕ) → member 59 p ≡ false → Unseen j h k (feed j p)
+  unseen-unfinished : (p : List ℕ) → member semicolon p ≡ false → Unseen j h k (feed j p)
   unfolding next
   unseen-unfinished p e = (
     unfinished h p e ∙ heard-same (ltb j (h .opening .numbers .lanes)) p ∙ (λ i. heardBy (ltb j (s .opening i .numbers .lanes)) k p) ∙ sym (unfinished k p e),

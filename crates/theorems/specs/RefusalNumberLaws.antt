@@ -13,6 +13,7 @@ use mathlib.Core.Logic.{_↔_}
 use mathlib.Core.List.{List, [], _∷_, _++_}
 use lib.ListN.{length}
 use Rattle.trees.specs.Plain.{refused}
+use Rattle.trees.specs.Text.{semicolon}
 use Rattle.trees.specs.Tree.{Nodes, leaves}
 use Rattle.trees.specs.Grammar.{IsTree}
 use Rattle.trees.specs.Held.{Held, holding, mostText, laneOf, feeding}
@@ -70,9 +71,9 @@ module _ (h : Held) (s : List ℕ) where
 
 -- ---- what feeding answers
 
-module _ (h : Held) (l : ℕ) (lane : l < h .opening .numbers .lanes) (empty : laneOf h l ≡ holding []) (s : List ℕ) (one : Mem 59 s → ⊥) where
+module _ (h : Held) (l : ℕ) (lane : l < h .opening .numbers .lanes) (empty : laneOf h l ≡ holding []) (s : List ℕ) (one : Mem semicolon s → ⊥) where
   abbrev Refused : ℕ → Type 0
-  Refused k = feeding h l (s ++ 59 ∷ []) .answer ≡ refused k
+  Refused k = feeding h l (s ++ semicolon ∷ []) .answer ≡ refused k
 
   exactly : (k : ℕ) → Refused k ↔ Refuses h s k
   exactly = fed-refused-exactly h l lane empty s one

@@ -22,6 +22,7 @@ use lib.Dec.{ltb, eqb}
 use lib.ListN.{length}
 use borrow.Author.Tests.{ltb-true, ltb-false, lt-ltb, le-ltb, eqb-true, eqb-false, eq-eqb, ne-eqb}
 use Rattle.trees.specs.Plain.{if_then_else_, Answer, refused, gives}
+use Rattle.trees.specs.Text.{semicolon}
 use Rattle.trees.specs.Tree.{Nodes, children}
 use Rattle.trees.specs.Splits.{clusters, splitsOf}
 use Rattle.trees.specs.Verdict.{judged}
@@ -186,49 +187,49 @@ unfolding finished
 finished-refused h (refused j) k = (λ e. let q : j ≡ k = cc in ap refused q, λ e. ap (finished h) e)
 finished-refused h (gives ms) k = (λ e. cc, λ e. cc)
 
-module _ (h : Held) (l : ℕ) (lane : l < h .opening .numbers .lanes) (empty : laneOf h l ≡ holding []) (s : List ℕ) (one : Mem 59 s → ⊥) where
-  fed-finishes : feeding h l (s ++ 59 ∷ []) ≡ finishing h l (suc (length s)) (onText h s)
+module _ (h : Held) (l : ℕ) (lane : l < h .opening .numbers .lanes) (empty : laneOf h l ≡ holding []) (s : List ℕ) (one : Mem semicolon s → ⊥) where
+  fed-finishes : feeding h l (s ++ semicolon ∷ []) ≡ finishing h l (suc (length s)) (onText h s)
   fed-finishes =
-      feeding-by h l (s ++ 59 ∷ [])
-      ∙ ap₂ (λ b c. feedingBy b c h l (s ++ 59 ∷ [])) (lt-ltb l (h .opening .numbers .lanes) lane) (mem-member 59 (s ++ 59 ∷ []) (mem-right 59 s (59 ∷ []) (inl refl)))
+      feeding-by h l (s ++ semicolon ∷ [])
+      ∙ ap₂ (λ b c. feedingBy b c h l (s ++ semicolon ∷ [])) (lt-ltb l (h .opening .numbers .lanes) lane) (mem-member semicolon (s ++ semicolon ∷ []) (mem-right semicolon s (semicolon ∷ []) (inl refl)))
       ∙ ap₂ (λ x w. finishing h l (suc (length w)) (verdict h (longer x w))) empty (before-semicolon s one)
 
-  pub fed-taken : feeding h l (s ++ 59 ∷ []) .taken ≡ suc (length s)
+  pub fed-taken : feeding h l (s ++ semicolon ∷ []) .taken ≡ suc (length s)
   unfolding finishing
   fed-taken = ap (λ f. f .taken) fed-finishes
 
-  fed-answer : feeding h l (s ++ 59 ∷ []) .answer ≡ finished h (onText h s)
+  fed-answer : feeding h l (s ++ semicolon ∷ []) .answer ≡ finished h (onText h s)
   unfolding finishing
   fed-answer = ap (λ f. f .answer) fed-finishes
 
-  fed-after : feeding h l (s ++ 59 ∷ []) .after ≡ withLane (recording h (onText h s)) l (holding [])
+  fed-after : feeding h l (s ++ semicolon ∷ []) .after ≡ withLane (recording h (onText h s)) l (holding [])
   unfolding finishing
   fed-after = ap (λ f. f .after) fed-finishes
 
-  pub fed-refused-exactly : (k : ℕ) → (feeding h l (s ++ 59 ∷ []) .answer ≡ refused k) ↔ Refuses h s k
+  pub fed-refused-exactly : (k : ℕ) → (feeding h l (s ++ semicolon ∷ []) .answer ≡ refused k) ↔ Refuses h s k
   fed-refused-exactly k = (
     λ e. refused-exactly h s k .0 (finished-refused h (onText h s) k .0 (sym fed-answer ∙ e)),
     λ r. fed-answer ∙ finished-refused h (onText h s) k .1 (refused-exactly h s k .1 r),
   )
 
-  accepted-answer : {ms : List ℕ} → Accepts h s ms → feeding h l (s ++ 59 ∷ []) .answer ≡ gives (accepted (length (h .trees)))
+  accepted-answer : {ms : List ℕ} → Accepts h s ms → feeding h l (s ++ semicolon ∷ []) .answer ≡ gives (accepted (length (h .trees)))
   unfolding finished
   accepted-answer a = fed-answer ∙ ap (finished h) (accepts-answer h s a)
 
-  pub fed-accepted-exactly : (i : ℕ) → (feeding h l (s ++ 59 ∷ []) .answer ≡ gives (accepted i)) ↔ ((i ≡ length (h .trees)) × ((k : ℕ) → Refuses h s k → ⊥))
+  pub fed-accepted-exactly : (i : ℕ) → (feeding h l (s ++ semicolon ∷ []) .answer ≡ gives (accepted i)) ↔ ((i ≡ length (h .trees)) × ((k : ℕ) → Refuses h s k → ⊥))
   fed-accepted-exactly i = (
     λ e. (number e (refused-or-accepted h s), λ k r. never-both (sym (fed-refused-exactly k .1 r) ∙ e)),
     λ p. accepted-answer (accepted-unless-refused h s .1 (p .1) .1) ∙ ap (λ (x : ℕ). gives (accepted x)) (sym (p .0)),
   )
     where
-      number : feeding h l (s ++ 59 ∷ []) .answer ≡ gives (accepted i) → ((k : ℕ) × Refuses h s k) ⊎ ((ms : List ℕ) × Accepts h s ms) → i ≡ length (h .trees)
+      number : feeding h l (s ++ semicolon ∷ []) .answer ≡ gives (accepted i) → ((k : ℕ) × Refuses h s k) ⊎ ((ms : List ℕ) × Accepts h s ms) → i ≡ length (h .trees)
       number e (inl r) = absurd (never-both (sym (fed-refused-exactly (r .0) .1 (r .1)) ∙ e))
       number e (inr a) = let q : _≡_ {A = Answer Progress} (gives (accepted i)) (gives (accepted (length (h .trees)))) = sym e ∙ accepted-answer (a .1) in cc
 
-  pub fed-refused-after : {k : ℕ} → Refuses h s k → feeding h l (s ++ 59 ∷ []) .after ≡ withLane h l (holding [])
+  pub fed-refused-after : {k : ℕ} → Refuses h s k → feeding h l (s ++ semicolon ∷ []) .after ≡ withLane h l (holding [])
   unfolding recording
   fed-refused-after r = fed-after ∙ ap (λ v. withLane (recording h v) l (holding [])) (refuses-answer h s r)
 
-  pub fed-accepted-after : {ms : List ℕ} → Accepts h s ms → feeding h l (s ++ 59 ∷ []) .after ≡ withLane (withTree h ms) l (holding [])
+  pub fed-accepted-after : {ms : List ℕ} → Accepts h s ms → feeding h l (s ++ semicolon ∷ []) .after ≡ withLane (withTree h ms) l (holding [])
   unfolding recording
   fed-accepted-after a = fed-after ∙ ap (λ v. withLane (recording h v) l (holding [])) (accepts-answer h s a)
