@@ -188,11 +188,11 @@ module _ (s : List ℕ) (w : wholeAt s ≡ true) (t : List ℕ) where
   batch-whole l p v = when-whole s (λ h. batch h l p (length v)) w
 
   -- a batch that is x
-  batch-follows : (x : Answer Batched) (r : Number) (v u : List ℕ) → BatchedAs x r s v t u
+  batch-follows : (x : Answer Batched) (l : ℕ) (r : Number) (v u : List ℕ) → BatchedAs x l r s v t u
       → Holds (afterBatch (heldAt s) x) s t × (batched (numberGiven r) u ≡ batched (lengthGiven (numbersIn x)) (front (numbersIn x) v))
   unfolding BatchedAs afterBatch numbersIn lengthGiven front
-  batch-follows (refused k) r v u q = (stays (q .1), ap₂ batched (q .0) (q .2))
-  batch-follows (gives b) r v u q = (q .1, ap₂ batched (q .0) (q .2))
+  batch-follows (refused k) l r v u q = (stays (q .1), ap₂ batched (q .0) (q .2))
+  batch-follows (gives b) l r v u q = (q .1, ap₂ batched (q .0) (q .2))
 
   pub step-follows : (c : Made) (a : Told) → Step s c a t → Holds (after (heldAt s) c) s t × (a ≡ told (length s) (heldAt s) c)
   unfolding Step after told next answer
@@ -214,8 +214,8 @@ module _ (s : List ℕ) (w : wholeAt s ≡ true) (t : List ℕ) where
       go true e = rw (closed-whole s w l) at (f .holds e)
       go false e = rw (closed-nowhere s w l e) (stays (f .found e))
   step-follows (many l p v) a q =
-      let f : BatchedAs (batchOf s l p (length v)) (q .0) s v t (q .1) = q .2 in
-      let r = batch-follows (batch (heldAt s) l p (length v)) (q .0) v (q .1) (subst (λ (x : Answer Batched). BatchedAs x (q .0) s v t (q .1)) (batch-whole l p v) f) in
+      let f : BatchedAs (batchOf s l p (length v)) l (q .0) s v t (q .1) = q .2 in
+      let r = batch-follows (batch (heldAt s) l p (length v)) l (q .0) v (q .1) (subst (λ (x : Answer Batched). BatchedAs x l (q .0) s v t (q .1)) (batch-whole l p v) f) in
       (r .0, q .3 ∙ r .1)
   step-follows (ask x) a q = (stays (q .3), q .2 ∙ ap replied (asked-follows s w x (q .0) (q .1)))
   step-follows (reopen x names first second) a q =
