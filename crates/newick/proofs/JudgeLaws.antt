@@ -17,7 +17,7 @@ use lib.ListN.{length, take, drop}
 use lib.Seq.{length-sets, sets-eq, take-append-seam}
 use types.Run.{OneOf, miss}
 use borrow.Author.Tests.{eq-eqb, ne-eqb}
-use Rattle.trees.specs.Plain.{refused, gives}
+use Rattle.trees.specs.Plain.{if_then_else_, refused, gives}
 use Rattle.trees.specs.Mask.{everyTaxon}
 use Rattle.trees.specs.Text.{Symbol}
 use Rattle.trees.specs.Tree.{Nodes, leaves}
