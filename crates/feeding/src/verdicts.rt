@@ -70,7 +70,7 @@ fn judge_lane(
     ensures { λ r. ⌜ JudgedAs (openingAt (now (s .entry))) (take n (drop (laneFrom (l .0) + 8) (now (s .entry)))) r (now (masks .entry)) (now (places .entry)) (now (identifiers .entry)) (now (masks .exit)) (now (places .exit)) (now (identifiers .exit)) ⌝ }
 {
     let from = 4104 + 4104 * l.0;
-    newick::judge_indexed(
+    newick::judge(
         s,
         starts,
         links,

@@ -1,4 +1,4 @@
--- The verdict on a text, over a prepared head: one law for each way out of `judge_indexed`, and what it asks of `gather_splits`.
+-- The verdict on a text, over a prepared head: one law for each way out of `judge`, and what it asks of `gather_splits`.
 --
 --   first-mark          where reading a text begins
 --   judged-none         no node stands in the text
@@ -10,7 +10,6 @@
 use Prim.Native.Nat.{ℕ, zero, suc, _+_, _*_, _^_, _≤_, _<_}
 use native.Mathlib.Omega.{arith}
 use mathlib.Core.Path.{_≡_, refl, ap, ap₂, sym, _∙_, subst}
-use mathlib.Core.Bool.{true}
 use mathlib.Core.List.{List, [], _∷_}
 use mathlib.Core.Option.{none, some}
 use lib.Dec.{eqb}
@@ -27,16 +26,14 @@ use Rattle.trees.specs.Splits.{counted, splitsOf}
 use Rattle.trees.specs.Hash.{place, identifier}
 use Rattle.trees.specs.Opening.{Opening}
 use Rattle.trees.specs.Verdict.{leafFault, judged}
-use Rattle.trees.specs.Whole.{goodOpening}
 use Rattle.theorems.specs.ListLaws.{if-true, if-false}
-use Rattle.theorems.specs.OpeningLaws.{GoodOpening, good-opening}
+use Rattle.theorems.specs.OpeningLaws.{GoodOpening}
 use Rattle.theorems.specs.GrammarLaws.{reading-sound}
 use Rattle.theorems.specs.VerdictLaws.{judged-step, tree-step, tree-distinct}
 use Rattle.text.specs.Read.{symbolsAt, Seen}
 use Rattle.text.specs.declared.Next.{Next}
 use Rattle.text.specs.declared.Next.the-variants.{End, Open, Close, Comma, Colon, Stray, Token}
-use Rattle.head.specs.Head.{numbersAt, openingAt, namesAt}
-use Rattle.head.specs.Index.{Indexed}
+use Rattle.head.specs.Head.{numbersAt, openingAt}
 use Rattle.newick.specs.Gather.{records, leavesOf, Prepared, Ready, NoNode, NodeIs, Gathered}
 use Rattle.newick.specs.Splits.{thirds, Hashed, Records, Stands}
 use Rattle.newick.specs.Judge.{JudgedAs}
@@ -167,10 +164,3 @@ module _ (h : List ℕ) where
   pub every-taxon-here : (n r : ℕ) → n ≡ numbersAt h .taxa → r ≡ everyTaxon n → r ≡ everyTaxon (openingAt h .numbers .taxa)
   unfolding openingAt
   every-taxon-here n r e q = q ∙ ap everyTaxon e
-
-  pub few-taxa : goodOpening (openingAt h) ≡ true → numbersAt h .taxa ≤ 64
-  unfolding openingAt
-  few-taxa e = good-opening (openingAt h) e .ranges .most-taxa
-
-  pub prepared : (starts links : List ℕ) → 4096 ≤ length h → goodOpening (openingAt h) ≡ true → Indexed (namesAt h) starts links → Prepared h starts links
-  prepared starts links l e i = record { reach = l; good = e; indexed = i }

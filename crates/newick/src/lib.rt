@@ -24,27 +24,8 @@ pub enum Judged {
     Splits(usize),
 }
 
-// The verdict on a text; the splits stand at the fronts of three lists. Makes the index of the names first.
+// The verdict on a text, by the index of the names; the splits stand at the fronts of three lists.
 pub fn judge(
-    head: &[u8],
-    text: &[u8],
-    list: &mut [u64],
-    places: &mut [u64],
-    identifiers: &mut [u64],
-) -> Judged
-    requires { ⌜ (4096 ≤ length (now head)) × (goodOpening (openingAt (now head)) ≡ true) ⌝ }
-    requires { ⌜ length (now text) ≤ 4096 ⌝ }
-    requires { ⌜ (64 ≤ length (now list)) × (64 ≤ length (now places)) × (64 ≤ length (now identifiers)) ⌝ }
-    ensures { λ r. ⌜ JudgedAs (openingAt (now (head .entry))) (now (text .entry)) r (now (list .entry)) (now (places .entry)) (now (identifiers .entry)) (now (list .exit)) (now (places .exit)) (now (identifiers .exit)) ⌝ }
-{
-    let mut starts = [0u8; 128];
-    let mut links = [0u8; 64];
-    head::build_index(head, &mut starts, &mut links);
-    judge_indexed(head, &starts, &links, text, list, places, identifiers)
-}
-
-// The verdict on a text, by the index of the names.
-pub fn judge_indexed(
     head: &[u8],
     starts: &[u8; 128],
     links: &[u8; 64],

@@ -1,7 +1,7 @@
 -- The promises of the entry points leave one outcome each; a batch's stands in BatchOutcomes, those of the summary in SheetOutcomes and
 -- TextsOutcomes. Each theorem is over the function's own `Post`, and none asks anything of the arguments. Assumes nothing.
 --
---   agree-once, is-whole-once, head-good-once                     the tests
+--   agree-once, is-whole-once                                     the tests
 --   refusal-number-once, size-once, tree-count-once, split-count-once, one-split-once, one-sided-once, doubled-once, collisions-once
 --                                                                 the questions without a buffer
 --   split-list-once, tree-splits-once, matrix-once, strict-once, majority-once, write-accepted-once
@@ -27,7 +27,6 @@ use Rattle.table.specs.declared.Fed.{Fed}
 use Rattle.feeding.specs.Feeding.{reached, fedOf, closedOf, isAccepted, FedAs, ClosedAs}
 use Rattle.masks.proofs.agree.Reads as agree
 use Rattle.store.proofs.is_whole.Reads as is-whole
-use Rattle.store.proofs.head_good.Reads as head-good
 use Rattle.table.proofs.refusal_number.Reads as refusal-number
 use Rattle.table.proofs.size.Reads as size
 use Rattle.table.proofs.open.Reads as open-call
@@ -55,9 +54,6 @@ agree-once k x q r y z a b = both a b
 
 pub is-whole-once : AnswerOnce is-whole.Post
 is-whole-once k x q r y z a b = both a b
-
-pub head-good-once : AnswerOnce head-good.Post
-head-good-once k x q r y z a b = both a b
 
 -- ---- questions that answer
 

@@ -3,7 +3,7 @@
 --
 --   find-slot-once                            where a mask goes in a rising list
 --   build-index-once                          the index of the names, in every entry that is used
---   judge-once, judge-indexed-once            the verdict on a text, and the three lists
+--   judge-once                                the verdict on a text, and the three lists
 --   write-tree-once                           a tree written
 --   find-row-once, row-in-once                the row of a split
 use Prim.Native.Nat.{ℕ, _≤_, _<_}
@@ -41,7 +41,6 @@ use Rattle.writer.specs.declared.Text.the-variants.{Bytes, TooShort}
 use Rattle.rising.proofs.find_slot.Reads as find-slot
 use Rattle.head.proofs.build_index.Reads as build-index
 use Rattle.newick.proofs.judge.Reads as judge
-use Rattle.newick.proofs.judge_indexed.Reads as judge-indexed
 use Rattle.writer.proofs.write_tree.Reads as write-tree
 use Rattle.finding.proofs.find_row.Reads as find-row
 use Rattle.rows.proofs.row_in.Reads as row-in
@@ -112,12 +111,8 @@ judged-both o s (Splits j) (Splits k) ms ps is a b c d e f x y =
     (ap Splits (x .2 ∙ ap length q ∙ sym (y .2)), z .0, z .1, z .2)
 
 pub judge-once : Once judge.Post
-    (λ x q r y z. (q ≡ r) × (now (arg3 y) ≡ now (arg3 z)) × (now (arg4 y) ≡ now (arg4 z)) × (now (arg5 y) ≡ now (arg5 z)))
-judge-once k x q r y z a b = judged-both _ _ q r _ _ _ _ _ _ _ _ _ a b
-
-pub judge-indexed-once : Once judge-indexed.Post
     (λ x q r y z. (q ≡ r) × (now (arg5 y) ≡ now (arg5 z)) × (now (arg6 y) ≡ now (arg6 z)) × (now (arg7 y) ≡ now (arg7 z)))
-judge-indexed-once k x q r y z a b = judged-both _ _ q r _ _ _ _ _ _ _ _ _ a b
+judge-once k x q r y z a b = judged-both _ _ q r _ _ _ _ _ _ _ _ _ a b
 
 -- ---- a tree written
 

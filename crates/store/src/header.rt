@@ -14,7 +14,7 @@ ghost use Rattle.store.specs.WholeStore.{goodHead};
 use masks::Taxon;
 
 // Whether the head is there and in order, the lent bytes reach its size, and its rooms hold.
-pub fn head_good(s: &[u8]) -> bool
+pub(crate) fn head_good(s: &[u8]) -> bool
     ensures { λ r. ⌜ r ≡ goodHead (now (s .entry)) ⌝ }
 {
     if s.len() < 4096 {

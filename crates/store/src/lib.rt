@@ -10,8 +10,6 @@ mod lists;
 mod splits;
 mod sums;
 
-pub use header::head_good;
-
 // Whether the lent bytes, of any number and with any values, are a whole collection.
 pub fn is_whole(s: &[u8]) -> bool
     ensures { λ r. ⌜ r ≡ wholeAt (now (s .entry)) ⌝ }

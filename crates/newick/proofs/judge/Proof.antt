@@ -1,16 +1,94 @@
 -- `newick::judge` meets its contract. Assumes nothing.
+use native.Mathlib.Omega.{arith}
+use mathlib.Core.Path.{refl, sym, _∙_}
 use borrow.Author.Needs.{needs}
-use Rattle.newick.proofs.JudgeLaws.{few-taxa, prepared}
+use Rattle.newick.proofs.NodeLaws.{seen-as}
+use Rattle.newick.proofs.GotLaws.{taken-is, wrong-none, got-as}
+use Rattle.newick.proofs.LeafLaws.{prepared-opening, prepared-taxa}
+use Rattle.newick.proofs.JudgeLaws.{judged-none, judged-more, judged-leaf, judged-missing, gathering-asks, judged-splits, ready, every-taxon-here}
 use Rattle.newick.proofs.judge.Statement.{statement}
 use Rattle.newick.proofs.judge.Tie as tie
+
+-- in the answers below, e is where the text is told to end, and i where the taxa seen are compared with all taxa
+read-node-requires : tie.Need-read-node-requires
+read-node-requires c κs =
+    let p = c .before .before .before .before .before .before .before .pre in
+    (ready _ _ _ _ _ (p .0) (p .1 .0) (c .before .places .ensures .0), search needs)
+
+returns : tie.Need-returns
+returns c = judged-none _ _ _ _ _ (wrong-none _ _ _ _ _ _ (got-as _ _ _ _ _ _ (c .enum-told .given .1) (c .before .before .before .read-node .ensures)))
+
+next-symbol-requires : tie.Need-next-symbol-requires
+next-symbol-requires c κs = (taken-is _ _ _ _ _ _ _ _ (got-as _ _ _ _ _ _ (c .before .got .given .1) (c .before .before .before .before .read-node .ensures))) .1 .within
+
+returns-2 : tie.Need-returns-2
+returns-2 c =
+    let e = c .before .before in
+    let q = taken-is _ _ _ _ _ _ _ _ (got-as _ _ _ _ _ _ (e .before .before .before .before .got .given .1) (e .before .before .before .before .before .before .before .read-node .ensures)) in
+    judged-leaf _ (prepared-opening _ _ _ (e .before .before .before .before .before .before .before .before .before .before .before .before .before .before .before .pre .0)) _ _ _ _ _ _ (q .1) (q .2)
+    (seen-as _ _ (e .enum-told2 .given .1) (e .before .before .next-symbol .ensures)) (c .if1 .taken) _ _ _
+
+every-taxon-requires : tie.Need-every-taxon-requires
+every-taxon-requires c κs =
+    let l = prepared-taxa _ _ _ (c .before .before .before .before .before .before .before .before .before .before .before .before .before .before .before .before .before .before .pre .0) in
+    omega arith
+
+returns-3 : tie.Need-returns-3
+returns-3 c =
+    let i = c in
+    let e = i .before .before .before .before .before .before in
+    let q = taken-is _ _ _ _ _ _ _ _ (got-as _ _ _ _ _ _ (e .before .before .before .before .got .given .1) (e .before .before .before .before .before .before .before .read-node .ensures)) in
+    let all = every-taxon-here _ _ _ (i .before .before .before .taxa .ensures .0) (i .before .before .every-taxon .ensures) in
+    judged-missing _ (prepared-opening _ _ _ (e .before .before .before .before .before .before .before .before .before .before .before .before .before .before .before .pre .0)) _ _ _ _ _ _ (q .1) (q .2)
+    (seen-as _ _ (e .enum-told2 .given .1) (e .before .before .next-symbol .ensures)) (i .before .before .before .before .if1 .left) (λ y. i .if2 .taken (y ∙ sym all)) _ _ _
+
+gather-splits-requires : tie.Need-gather-splits-requires
+gather-splits-requires c κs =
+    let i = c .before .before .before .before in
+    let e = i .before .before .before .before .before .before in
+    let q = taken-is _ _ _ _ _ _ _ _ (got-as _ _ _ _ _ _ (e .before .before .before .before .got .given .1) (e .before .before .before .before .before .before .before .read-node .ensures)) in
+    let p = e .before .before .before .before .before .before .before .before .before .before .before .before .before .before .before .pre in
+    let all = every-taxon-here _ _ _ (i .before .before .before .taxa .ensures .0) (i .before .before .every-taxon .ensures) in
+    let a =
+    gathering-asks _ (prepared-opening _ _ _ (p .0)) _ _ _ _ _ _ (q .1) (q .2)
+    (seen-as _ _ (e .enum-told2 .given .1) (e .before .before .next-symbol .ensures)) (i .before .before .before .before .if1 .left) (i .if2 .left ∙ all) refl in
+    ((p .0 .reach, p .0 .good), (a .0, (a .1, (a .2, p .1 .1))))
+
+returns-4 : tie.Need-returns-4
+returns-4 c =
+    let i = c .before .before .before .before .before .before .before .before .before .before .before in
+    let e = i .before .before .before .before .before .before in
+    let q = taken-is _ _ _ _ _ _ _ _ (got-as _ _ _ _ _ _ (e .before .before .before .before .got .given .1) (e .before .before .before .before .before .before .before .read-node .ensures)) in
+    let all = every-taxon-here _ _ _ (i .before .before .before .taxa .ensures .0) (i .before .before .every-taxon .ensures) in
+    judged-splits _ (prepared-opening _ _ _ (e .before .before .before .before .before .before .before .before .before .before .before .before .before .before .before .pre .0)) _ _ _ _ _ _ (q .1) (q .2)
+    (seen-as _ _ (e .enum-told2 .given .1) (e .before .before .next-symbol .ensures)) (i .before .before .before .before .if1 .left) (i .if2 .left ∙ all) refl _ _ _ _ _ _ _ (c .before .before .before .before .before .before .gather-splits .ensures)
+
+returns-5 : tie.Need-returns-5
+returns-5 c =
+    let q = taken-is _ _ _ _ _ _ _ _ (got-as _ _ _ _ _ _ (c .before .before .before .got .given .1) (c .before .before .before .before .before .before .read-node .ensures)) in
+    judged-more _ _ _ _ _ _ _ _ (q .1) (c .before .next-symbol .ensures) (c .match2 .keys2)
 
 pub judge-spec : {M : Type 1} → statement M
 judge-spec =
     tie.close
     (tie.spec
-    (λ c κs. let p = c .before .before .before .before .before .before .before .pre .0 in (p .0, few-taxa _ (p .1)))
-    (λ c κs. let p = c .before .before .before .before .before .before .before .before .before .before .before .before .before .pre in (prepared _ _ _ (p .0 .0) (p .0 .1) (c .before .before .before .before .before .build-index .ensures), (p .1 .0, search needs)))
+    (λ c κs. search needs)
+    (λ c. search needs)
+    (λ c. search needs)
+    read-node-requires
+    (λ c. search needs)
+    (λ c. search needs)
+    returns
+    next-symbol-requires
+    (λ c. search needs)
+    returns-2
+    (λ c κs. search needs)
+    every-taxon-requires
+    returns-3
+    (λ c. search needs)
+    gather-splits-requires
     (λ c. search needs)
     (λ c. search needs)
     (λ c. search needs)
-    (λ c. search needs))
+    returns-4
+    returns-5)

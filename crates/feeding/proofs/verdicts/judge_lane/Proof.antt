@@ -11,12 +11,12 @@ use Rattle.lanes.specs.LaneLaws.{lane-few, lane-end}
 use Rattle.feeding.proofs.verdicts.judge_lane.Statement.{statement}
 use Rattle.feeding.proofs.verdicts.judge_lane.Tie as tie
 
-inside : tie.Need-part-judge-indexed-end
+inside : tie.Need-part-judge-end
 inside c =
     let d = c .before .before .before .before .before in
     omega (arith, lane-end _ (d .pre .0) _ (d .pre .1 .0), lane-from (d .args .l .0), d .pre .1 .1 .1 .0)
 
-requires-all : tie.Need-judge-indexed-requires
+requires-all : tie.Need-judge-requires
 requires-all c κs =
     let d = c .before .before .before .before .before .before .before .before .before in
     let w = whole-at-facts _ (d .pre .0) .head in
@@ -30,7 +30,7 @@ returns c =
     let d = j .before .before .before .before .before .before .before .before .before .before in
     let a : 4104 + 4104 * d .args .l .0 ≡ laneFrom (d .args .l .0) + 8 = omega (arith, lane-from (d .args .l .0)) in
     let e : 4104 + 4104 * d .args .l .0 + d .args .n - (4104 + 4104 * d .args .l .0) ≡ d .args .n = omega arith in
-    rw (← a, ← e) (j .judge-indexed .ensures)
+    rw (← a, ← e) (j .judge .ensures)
 
 few : tie.Need-mul-from
 few c = let d = c .before .before .before .before .before in omega (arith, lane-few _ (d .pre .0) _ (d .pre .1 .0))
