@@ -1,36 +1,26 @@
 -- Every byte of a store, and what it holds. docs/STORE.md says the same in words.
 --
---   treesHeldAt, splitsHeldAt      how many trees and splits there are
---   laneFrom, treeFrom             where lane l and tree i begin
---   masksFrom, identifiersFrom, countsFrom, linksFrom, orderFrom, placesFrom     where the splits' lists and the places begin
+--   laneFrom, treeFrom             where lane l and tree i begin, by the opening's numbers
+--   masksFrom, identifiersFrom, countsFrom, linksFrom, orderFrom, placesFrom     where the splits' columns and the places begin
 --   sizeAt s                       the store's size, by its numbers
---   laneAt s l                     lane l
---   maskAt, identifierAt, countAt, linkAt     the fields of the split in row k
---   startAt s p                    where the chain of place p starts: a split's row and one more, or 0
---   orderAt s k, splitAt s k       the row and the mask of the split with number k
---   masksAt s                      the recorded masks, by the splits' numbers
---   listAt s i                     the rows of the splits of tree i
---   treeAt s i                     its splits
---   heldAt s                       what the store holds
+--   Parts                          what lies behind the head, as lists
+--   partsAt s                      those of the bytes s
+--   splitsIn, treesIn              how many splits and trees there are
+--   maskIn, identifierIn, countIn, linkIn, startIn     the fields of the split in row k; where the chain of place p starts
+--   orderIn, splitIn, masksIn      the row and the mask of the split with number k; all masks by number
+--   listIn, treeIn, lengthIn, laneIn     the rows and the masks of tree i; the stored length of lane l, and the lane
+--   heldIn o p                     what a store with the opening o and the parts p holds
+--   treesHeldAt .. heldAt          the same of the bytes s
 use Prim.Native.Nat.{ℕ, _+_, _*_}
-use mathlib.Core.List.{List, map}
+use mathlib.Core.List.{List, [], map}
 use lib.Dec.{eqb}
-use lib.ListN.{take, drop}
+use lib.ListN.{length, getD, take, drop}
 use Rattle.trees.specs.Plain.{if_then_else_}
-use Rattle.trees.specs.Opening.{storeSize}
+use Rattle.trees.specs.Opening.{Numbers, Opening, storeSize}
 use Rattle.trees.specs.Held.{Held, Lane, holding, overrun}
 use Rattle.fields.specs.Field.{number}
 use Rattle.head.specs.Head.{upTo, numbersAt, openingAt}
-
--- ---- the head has these two numbers beside the opening's
-
-unfoldable pub treesHeldAt : List ℕ → ℕ
-unfolding number
-treesHeldAt s = number 2 s 10
-
-unfoldable pub splitsHeldAt : List ℕ → ℕ
-unfolding number
-splitsHeldAt s = number 2 s 12
+use Rattle.layout.specs.Columns.{columnAt}
 
 -- ---- where things begin
 
@@ -39,97 +29,171 @@ unfoldable pub laneFrom : ℕ → ℕ
 laneFrom l = 4096 + 4104 * l
 
 -- 128 bytes a tree: how many splits it has in 2 bytes, then 2 bytes for each split's row
-unfoldable pub treeFrom : List ℕ → ℕ → ℕ
-unfolding laneFrom numbersAt
-treeFrom s i = laneFrom (numbersAt s .lanes) + 128 * i
+unfoldable pub treeFrom : Numbers → ℕ → ℕ
+unfolding laneFrom
+treeFrom n i = laneFrom (n .lanes) + 128 * i
 
--- 24 bytes a split, each field in a list of its own: 8 the mask, 8 the identifier, 4 the count, 2 the link, 2 for the order by mask
-unfoldable pub masksFrom : List ℕ → ℕ
-unfolding treeFrom numbersAt
-masksFrom s = treeFrom s (numbersAt s .treeRoom)
+-- 24 bytes a split, each field in a column of its own: 8 the mask, 8 the identifier, 4 the count, 2 the link, 2 for the order by mask
+unfoldable pub masksFrom : Numbers → ℕ
+unfolding treeFrom
+masksFrom n = treeFrom n (n .treeRoom)
 
-unfoldable pub identifiersFrom : List ℕ → ℕ
-unfolding masksFrom numbersAt
-identifiersFrom s = masksFrom s + 8 * numbersAt s .splitRoom
+unfoldable pub identifiersFrom : Numbers → ℕ
+unfolding masksFrom
+identifiersFrom n = masksFrom n + 8 * n .splitRoom
 
-unfoldable pub countsFrom : List ℕ → ℕ
-unfolding masksFrom numbersAt
-countsFrom s = masksFrom s + 16 * numbersAt s .splitRoom
+unfoldable pub countsFrom : Numbers → ℕ
+unfolding masksFrom
+countsFrom n = masksFrom n + 16 * n .splitRoom
 
-unfoldable pub linksFrom : List ℕ → ℕ
-unfolding masksFrom numbersAt
-linksFrom s = masksFrom s + 20 * numbersAt s .splitRoom
+unfoldable pub linksFrom : Numbers → ℕ
+unfolding masksFrom
+linksFrom n = masksFrom n + 20 * n .splitRoom
 
-unfoldable pub orderFrom : List ℕ → ℕ
-unfolding masksFrom numbersAt
-orderFrom s = masksFrom s + 22 * numbersAt s .splitRoom
+unfoldable pub orderFrom : Numbers → ℕ
+unfolding masksFrom
+orderFrom n = masksFrom n + 22 * n .splitRoom
 
 -- 2 bytes a place
-unfoldable pub placesFrom : List ℕ → ℕ
-unfolding masksFrom numbersAt
-placesFrom s = masksFrom s + 24 * numbersAt s .splitRoom
+unfoldable pub placesFrom : Numbers → ℕ
+unfolding masksFrom
+placesFrom n = masksFrom n + 24 * n .splitRoom
 
 unfoldable pub sizeAt : List ℕ → ℕ
 unfolding storeSize numbersAt
 sizeAt s = storeSize (numbersAt s)
 
--- ---- lanes
+-- ---- the parts
 
--- a length of 4,097 says that the lane ran over
-unfoldable pub laneAt : List ℕ → ℕ → Lane
-unfolding laneFrom number
-laneAt s l =
-    if eqb (number 2 s (laneFrom l)) 4097 then overrun
-    else holding (take (number 2 s (laneFrom l)) (drop (laneFrom l + 8) s))
+-- splits stand in rows, in order of recording; `order` has their rows in order of mask
+pub record Parts : Type 0 where
+  pub masks : List ℕ
+  pub identifiers : List ℕ
+  pub counts : List ℕ
+  -- the next lower row of the same place, and one more; 0 for none
+  pub links : List ℕ
+  pub order : List ℕ
+  -- where the chain of each place starts: a row and one more, or 0
+  pub starts : List ℕ
+  -- the rows of each tree's splits
+  pub lists : List (List ℕ)
+  -- the lanes' lengths as they are stored, and the lanes
+  pub lengths : List ℕ
+  pub texts : List Lane
 
--- ---- splits: each has a row, in order of recording, and its number, in order of mask
+-- the list of a tree that begins at a
+unfoldable pub listFrom : List ℕ → ℕ → List ℕ
+listFrom s a = columnAt 2 (a + 2) (number 2 s a) s
 
-unfoldable pub maskAt : List ℕ → ℕ → ℕ
-unfolding masksFrom number
-maskAt s k = number 8 s (masksFrom s + 8 * k)
+-- the lane that begins at a; a length of 4,097 says that it ran over
+unfoldable pub textFrom : List ℕ → ℕ → Lane
+textFrom s a = if eqb (number 2 s a) 4097 then overrun else holding (take (number 2 s a) (drop (a + 8) s))
 
-unfoldable pub identifierAt : List ℕ → ℕ → ℕ
-unfolding identifiersFrom number
-identifierAt s k = number 8 s (identifiersFrom s + 8 * k)
+-- the head has the numbers of trees and splits beside the opening's
+unfoldable pub partsAt : List ℕ → Parts
+partsAt s = record {
+  masks = columnAt 8 (masksFrom (numbersAt s)) (number 2 s 12) s;
+  identifiers = columnAt 8 (identifiersFrom (numbersAt s)) (number 2 s 12) s;
+  counts = columnAt 4 (countsFrom (numbersAt s)) (number 2 s 12) s;
+  links = columnAt 2 (linksFrom (numbersAt s)) (number 2 s 12) s;
+  order = columnAt 2 (orderFrom (numbersAt s)) (number 2 s 12) s;
+  starts = columnAt 2 (placesFrom (numbersAt s)) (numbersAt s .places) s;
+  lists = upTo (λ i. listFrom s (treeFrom (numbersAt s) i)) (number 2 s 10);
+  lengths = upTo (λ l. number 2 s (laneFrom l)) (numbersAt s .lanes);
+  texts = upTo (λ l. textFrom s (laneFrom l)) (numbersAt s .lanes);
+}
 
-unfoldable pub countAt : List ℕ → ℕ → ℕ
-unfolding countsFrom number
-countAt s k = number 4 s (countsFrom s + 4 * k)
+-- ---- what the parts say
 
--- the next lower row of the same place, and one more; 0 for none
-unfoldable pub linkAt : List ℕ → ℕ → ℕ
-unfolding linksFrom number
-linkAt s k = number 2 s (linksFrom s + 2 * k)
+abbrev pub splitsIn : Parts → ℕ
+splitsIn p = length (p .masks)
 
-unfoldable pub startAt : List ℕ → ℕ → ℕ
-unfolding placesFrom number
-startAt s p = number 2 s (placesFrom s + 2 * p)
+abbrev pub treesIn : Parts → ℕ
+treesIn p = length (p .lists)
 
-unfoldable pub orderAt : List ℕ → ℕ → ℕ
-unfolding orderFrom number
-orderAt s k = number 2 s (orderFrom s + 2 * k)
+abbrev pub maskIn : Parts → ℕ → ℕ
+maskIn p k = getD (p .masks) k 0
+
+abbrev pub identifierIn : Parts → ℕ → ℕ
+identifierIn p k = getD (p .identifiers) k 0
+
+abbrev pub countIn : Parts → ℕ → ℕ
+countIn p k = getD (p .counts) k 0
+
+abbrev pub linkIn : Parts → ℕ → ℕ
+linkIn p k = getD (p .links) k 0
+
+abbrev pub startIn : Parts → ℕ → ℕ
+startIn p q = getD (p .starts) q 0
+
+abbrev pub orderIn : Parts → ℕ → ℕ
+orderIn p k = getD (p .order) k 0
 
 -- "A recorded split's number is its place, from 0, in the list by rising mask"
-unfoldable pub splitAt : List ℕ → ℕ → ℕ
-unfolding maskAt orderAt
-splitAt s k = maskAt s (orderAt s k)
+abbrev pub splitIn : Parts → ℕ → ℕ
+splitIn p k = maskIn p (orderIn p k)
 
-unfoldable pub masksAt : List ℕ → List ℕ
-unfolding upTo splitAt splitsHeldAt
-masksAt s = upTo (splitAt s) (splitsHeldAt s)
+abbrev pub masksIn : Parts → List ℕ
+masksIn p = map (maskIn p) (p .order)
 
--- ---- trees
+abbrev pub listIn : Parts → ℕ → List ℕ
+listIn p i = getD (p .lists) i []
 
-unfoldable pub listAt : List ℕ → ℕ → List ℕ
-unfolding upTo treeFrom number
-listAt s i = upTo (λ j. number 2 s (treeFrom s i + 2 + 2 * j)) (number 2 s (treeFrom s i))
+abbrev pub treeIn : Parts → ℕ → List ℕ
+treeIn p i = map (maskIn p) (listIn p i)
 
-unfoldable pub treeAt : List ℕ → ℕ → List ℕ
-unfolding listAt maskAt
-treeAt s i = map (maskAt s) (listAt s i)
+abbrev pub lengthIn : Parts → ℕ → ℕ
+lengthIn p l = getD (p .lengths) l 0
 
--- ---- all of it
+abbrev pub laneIn : Parts → ℕ → Lane
+laneIn p l = getD (p .texts) l (holding [])
 
-unfoldable pub heldAt : List ℕ → Held
-unfolding openingAt upTo treeAt treesHeldAt laneAt numbersAt
-heldAt s = record { opening = openingAt s; trees = upTo (treeAt s) (treesHeldAt s); texts = upTo (laneAt s) (numbersAt s .lanes) }
+unfoldable pub heldIn : Opening → Parts → Held
+heldIn o p = record { opening = o; trees = map (map (maskIn p)) (p .lists); texts = p .texts }
+
+-- ---- the same of bytes
+
+abbrev pub treesHeldAt : List ℕ → ℕ
+treesHeldAt s = treesIn (partsAt s)
+
+abbrev pub splitsHeldAt : List ℕ → ℕ
+splitsHeldAt s = splitsIn (partsAt s)
+
+abbrev pub maskAt : List ℕ → ℕ → ℕ
+maskAt s k = maskIn (partsAt s) k
+
+abbrev pub identifierAt : List ℕ → ℕ → ℕ
+identifierAt s k = identifierIn (partsAt s) k
+
+abbrev pub countAt : List ℕ → ℕ → ℕ
+countAt s k = countIn (partsAt s) k
+
+abbrev pub linkAt : List ℕ → ℕ → ℕ
+linkAt s k = linkIn (partsAt s) k
+
+abbrev pub startAt : List ℕ → ℕ → ℕ
+startAt s q = startIn (partsAt s) q
+
+abbrev pub orderAt : List ℕ → ℕ → ℕ
+orderAt s k = orderIn (partsAt s) k
+
+abbrev pub splitAt : List ℕ → ℕ → ℕ
+splitAt s k = splitIn (partsAt s) k
+
+abbrev pub masksAt : List ℕ → List ℕ
+masksAt s = masksIn (partsAt s)
+
+abbrev pub listAt : List ℕ → ℕ → List ℕ
+listAt s i = listIn (partsAt s) i
+
+abbrev pub treeAt : List ℕ → ℕ → List ℕ
+treeAt s i = treeIn (partsAt s) i
+
+abbrev pub lengthAt : List ℕ → ℕ → ℕ
+lengthAt s l = lengthIn (partsAt s) l
+
+abbrev pub laneAt : List ℕ → ℕ → Lane
+laneAt s l = laneIn (partsAt s) l
+
+abbrev pub heldAt : List ℕ → Held
+heldAt s = heldIn (openingAt s) (partsAt s)

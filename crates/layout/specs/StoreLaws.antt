@@ -1,116 +1,156 @@
 -- Where everything in a store lies, by the opening's numbers. Assumes nothing.
 --
 --   lane-from, tree-from, masks-from, identifiers-from, counts-from, links-from, order-from, places-from, size-is     where things begin and end
---   trees-held-is, splits-held-is, mask-is, identifier-is, count-is, link-is, start-is, order-is, split-is     each field is a number at its place
---   entriesAt, entryAt, list-is, tree-is     a tree's list
---   masks-is, lane-is               the masks, and a lane
-use Prim.Native.Nat.{ℕ, _+_, _*_}
-use mathlib.Core.Path.{_≡_, refl}
-use mathlib.Core.List.{List, map}
+--   trees-held-is, splits-held-is                how many trees and splits the head says
+--   Shaped n p, shaped-at                        parts of one shape: what n says of a store's parts, and that those of bytes are so
+--   mask-is, identifier-is, count-is, link-is, start-is, order-is     each field is a number at its place
+--   entriesAt, entryAt, list-length, list-at     a tree's list
+--   length-is, lane-is                           a lane
+use Prim.Native.Nat.{ℕ, _+_, _*_, _<_}
+use mathlib.Core.Path.{_≡_, refl, ap, _∙_, sym}
+use mathlib.Core.List.{List, []}
 use lib.Dec.{eqb}
-use lib.ListN.{take, drop}
+use lib.ListN.{length, getD, take, drop}
 use Rattle.trees.specs.Plain.{if_then_else_}
+use Rattle.trees.specs.Opening.{Numbers, storeSize}
 use Rattle.trees.specs.Held.{holding, overrun}
 use Rattle.fields.specs.Field.{number}
-use Rattle.head.specs.Head.{numbersAt, upTo}
-use Rattle.layout.specs.Store.{treesHeldAt, splitsHeldAt, laneFrom, treeFrom, masksFrom, identifiersFrom, countsFrom, linksFrom, orderFrom, placesFrom, sizeAt, laneAt, maskAt, identifierAt, countAt, linkAt, startAt, orderAt, splitAt, masksAt, listAt, treeAt}
+use Rattle.head.specs.Head.{numbersAt}
+use Rattle.head.specs.HeadLaws.{upTo-length, upTo-at}
+use Rattle.layout.specs.Columns.{columnAt, column-length, column-at}
+use Rattle.layout.specs.Store.{laneFrom, treeFrom, masksFrom, identifiersFrom, countsFrom, linksFrom, orderFrom, placesFrom, sizeAt, Parts, listFrom, textFrom, partsAt, splitsIn, treesHeldAt, splitsHeldAt, maskAt, identifierAt, countAt, linkAt, startAt, orderAt, listAt, lengthAt, laneAt}
+
+-- ---- where things begin
 
 pub lane-from : (l : ℕ) → laneFrom l ≡ 4096 + 4104 * l
 unfolding laneFrom
 lane-from l = refl
 
--- how many splits tree i lists, and the j-th of them
-abbrev pub entriesAt : List ℕ → ℕ → ℕ
-entriesAt s i = number 2 s (treeFrom s i)
-
-abbrev pub entryAt : List ℕ → ℕ → ℕ → ℕ
-entryAt s i j = number 2 s (treeFrom s i + 2 + 2 * j)
-
-module _ (s : List ℕ) where
-  -- ---- where things begin
-
-  pub tree-from : (i : ℕ) → treeFrom s i ≡ 4096 + 4104 * numbersAt s .lanes + 128 * i
-  unfolding treeFrom
+module _ (n : Numbers) where
+  pub tree-from : (i : ℕ) → treeFrom n i ≡ 4096 + 4104 * n .lanes + 128 * i
+  unfolding treeFrom laneFrom
   tree-from i = refl
 
-  pub masks-from : masksFrom s ≡ 4096 + 4104 * numbersAt s .lanes + 128 * numbersAt s .treeRoom
-  unfolding masksFrom
+  pub masks-from : masksFrom n ≡ 4096 + 4104 * n .lanes + 128 * n .treeRoom
+  unfolding masksFrom treeFrom laneFrom
   masks-from = refl
 
-  pub identifiers-from : identifiersFrom s ≡ masksFrom s + 8 * numbersAt s .splitRoom
+  pub identifiers-from : identifiersFrom n ≡ masksFrom n + 8 * n .splitRoom
   unfolding identifiersFrom
   identifiers-from = refl
 
-  pub counts-from : countsFrom s ≡ masksFrom s + 16 * numbersAt s .splitRoom
+  pub counts-from : countsFrom n ≡ masksFrom n + 16 * n .splitRoom
   unfolding countsFrom
   counts-from = refl
 
-  pub links-from : linksFrom s ≡ masksFrom s + 20 * numbersAt s .splitRoom
+  pub links-from : linksFrom n ≡ masksFrom n + 20 * n .splitRoom
   unfolding linksFrom
   links-from = refl
 
-  pub order-from : orderFrom s ≡ masksFrom s + 22 * numbersAt s .splitRoom
+  pub order-from : orderFrom n ≡ masksFrom n + 22 * n .splitRoom
   unfolding orderFrom
   order-from = refl
 
-  pub places-from : placesFrom s ≡ masksFrom s + 24 * numbersAt s .splitRoom
+  pub places-from : placesFrom n ≡ masksFrom n + 24 * n .splitRoom
   unfolding placesFrom
   places-from = refl
 
-  pub size-is : sizeAt s ≡ masksFrom s + 24 * numbersAt s .splitRoom + 2 * numbersAt s .places
-  unfolding sizeAt masksFrom
-  size-is = refl
+  pub size-from : storeSize n ≡ masksFrom n + 24 * n .splitRoom + 2 * n .places
+  unfolding storeSize masksFrom treeFrom laneFrom
+  size-from = refl
+
+pub size-is : (s : List ℕ) → sizeAt s ≡ masksFrom (numbersAt s) + 24 * numbersAt s .splitRoom + 2 * numbersAt s .places
+unfolding sizeAt
+size-is s = size-from (numbersAt s)
+
+-- ---- the shape of the parts
+
+pub record Shaped (n : Numbers) (p : Parts) : Type 0 where
+  pub identifiers : length (p .identifiers) ≡ splitsIn p
+  pub counts : length (p .counts) ≡ splitsIn p
+  pub links : length (p .links) ≡ splitsIn p
+  pub order : length (p .order) ≡ splitsIn p
+  pub starts : length (p .starts) ≡ n .places
+  pub lengths : length (p .lengths) ≡ n .lanes
+  pub texts : length (p .texts) ≡ n .lanes
+
+-- how many splits tree i lists, and the j-th of them
+abbrev pub entriesAt : List ℕ → ℕ → ℕ
+entriesAt s i = number 2 s (treeFrom (numbersAt s) i)
+
+abbrev pub entryAt : List ℕ → ℕ → ℕ → ℕ
+entryAt s i j = number 2 s (treeFrom (numbersAt s) i + 2 + 2 * j)
+
+module _ (s : List ℕ) where
+  pub trees-held-is : treesHeldAt s ≡ number 2 s 10
+  unfolding partsAt
+  trees-held-is = upTo-length _ (number 2 s 10)
+
+  pub splits-held-is : splitsHeldAt s ≡ number 2 s 12
+  unfolding partsAt
+  splits-held-is = column-length 8 _ (number 2 s 12) s
+
+  pub shaped-at : Shaped (numbersAt s) (partsAt s)
+  unfolding partsAt
+  shaped-at =
+      let n = number 2 s 12 in
+      let m = column-length 8 (masksFrom (numbersAt s)) n s in
+      record {
+        identifiers = column-length 8 (identifiersFrom (numbersAt s)) n s ∙ sym m;
+        counts = column-length 4 (countsFrom (numbersAt s)) n s ∙ sym m;
+        links = column-length 2 (linksFrom (numbersAt s)) n s ∙ sym m;
+        order = column-length 2 (orderFrom (numbersAt s)) n s ∙ sym m;
+        starts = column-length 2 (placesFrom (numbersAt s)) (numbersAt s .places) s;
+        lengths = upTo-length _ (numbersAt s .lanes);
+        texts = upTo-length _ (numbersAt s .lanes);
+      }
 
   -- ---- each field
 
-  pub trees-held-is : treesHeldAt s ≡ number 2 s 10
-  unfolding treesHeldAt
-  trees-held-is = refl
+  module _ (k : ℕ) (h : k < splitsHeldAt s) where
+    held : k < number 2 s 12
+    held = rw (← splits-held-is) h
 
-  pub splits-held-is : splitsHeldAt s ≡ number 2 s 12
-  unfolding splitsHeldAt
-  splits-held-is = refl
+    pub mask-is : maskAt s k ≡ number 8 s (masksFrom (numbersAt s) + 8 * k)
+    unfolding partsAt
+    mask-is = column-at 8 _ (number 2 s 12) s k held
 
-  pub mask-is : (k : ℕ) → maskAt s k ≡ number 8 s (masksFrom s + 8 * k)
-  unfolding maskAt
-  mask-is k = refl
+    pub identifier-is : identifierAt s k ≡ number 8 s (identifiersFrom (numbersAt s) + 8 * k)
+    unfolding partsAt
+    identifier-is = column-at 8 _ (number 2 s 12) s k held
 
-  pub identifier-is : (k : ℕ) → identifierAt s k ≡ number 8 s (identifiersFrom s + 8 * k)
-  unfolding identifierAt
-  identifier-is k = refl
+    pub count-is : countAt s k ≡ number 4 s (countsFrom (numbersAt s) + 4 * k)
+    unfolding partsAt
+    count-is = column-at 4 _ (number 2 s 12) s k held
 
-  pub count-is : (k : ℕ) → countAt s k ≡ number 4 s (countsFrom s + 4 * k)
-  unfolding countAt
-  count-is k = refl
+    pub link-is : linkAt s k ≡ number 2 s (linksFrom (numbersAt s) + 2 * k)
+    unfolding partsAt
+    link-is = column-at 2 _ (number 2 s 12) s k held
 
-  pub link-is : (k : ℕ) → linkAt s k ≡ number 2 s (linksFrom s + 2 * k)
-  unfolding linkAt
-  link-is k = refl
+    pub order-is : orderAt s k ≡ number 2 s (orderFrom (numbersAt s) + 2 * k)
+    unfolding partsAt
+    order-is = column-at 2 _ (number 2 s 12) s k held
 
-  pub start-is : (p : ℕ) → startAt s p ≡ number 2 s (placesFrom s + 2 * p)
-  unfolding startAt
-  start-is p = refl
+  pub start-is : (q : ℕ) → q < numbersAt s .places → startAt s q ≡ number 2 s (placesFrom (numbersAt s) + 2 * q)
+  unfolding partsAt
+  start-is q h = column-at 2 _ (numbersAt s .places) s q h
 
-  pub order-is : (k : ℕ) → orderAt s k ≡ number 2 s (orderFrom s + 2 * k)
-  unfolding orderAt
-  order-is k = refl
+  module _ (i : ℕ) (h : i < treesHeldAt s) where
+    list-is : listAt s i ≡ columnAt 2 (treeFrom (numbersAt s) i + 2) (entriesAt s i) s
+    unfolding partsAt listFrom
+    list-is = upTo-at _ (number 2 s 10) i [] (rw (← trees-held-is) h)
 
-  pub split-is : (k : ℕ) → splitAt s k ≡ maskAt s (orderAt s k)
-  unfolding splitAt
-  split-is k = refl
+    pub list-length : length (listAt s i) ≡ entriesAt s i
+    list-length = rw list-is (column-length 2 _ (entriesAt s i) s)
 
-  pub masks-is : masksAt s ≡ upTo (splitAt s) (splitsHeldAt s)
-  unfolding masksAt
-  masks-is = refl
+    pub list-at : (j : ℕ) → j < entriesAt s i → getD (listAt s i) j 0 ≡ entryAt s i j
+    list-at j l = rw list-is (column-at 2 (treeFrom (numbersAt s) i + 2) (entriesAt s i) s j l)
 
-  pub list-is : (i : ℕ) → listAt s i ≡ upTo (entryAt s i) (entriesAt s i)
-  unfolding listAt
-  list-is i = refl
+  module _ (l : ℕ) (h : l < numbersAt s .lanes) where
+    pub length-is : lengthAt s l ≡ number 2 s (laneFrom l)
+    unfolding partsAt
+    length-is = upTo-at _ (numbersAt s .lanes) l 0 h
 
-  pub tree-is : (i : ℕ) → treeAt s i ≡ map (maskAt s) (listAt s i)
-  unfolding treeAt
-  tree-is i = refl
-
-  pub lane-is : (l : ℕ) → laneAt s l ≡ (if eqb (number 2 s (laneFrom l)) 4097 then overrun else holding (take (number 2 s (laneFrom l)) (drop (laneFrom l + 8) s)))
-  unfolding laneAt
-  lane-is l = refl
+    pub lane-is : laneAt s l ≡ (if eqb (number 2 s (laneFrom l)) 4097 then overrun else holding (take (number 2 s (laneFrom l)) (drop (laneFrom l + 8) s)))
+    unfolding partsAt textFrom
+    lane-is = upTo-at _ (numbersAt s .lanes) l _ h

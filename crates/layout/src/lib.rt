@@ -6,6 +6,7 @@ ghost use mathlib.Core.Path.{_≡_};
 ghost use Prim.Native.Nat.{_+_, _≤_, _<_, _^_};
 ghost use lib.ListN.{length};
 ghost use Rattle.fields.specs.Field.{number};
+ghost use Rattle.head.specs.Head.{numbersAt};
 ghost use Rattle.layout.specs.Store.{treesHeldAt, splitsHeldAt, treeFrom, masksFrom, identifiersFrom, countsFrom, linksFrom, orderFrom, placesFrom};
 
 // The number of a lane, from 0.
@@ -38,7 +39,7 @@ pub fn splits_held(s: &[u8]) -> usize
 pub fn tree_from(s: &[u8], i: Tree) -> usize
     requires { ⌜ 4096 ≤ length (now s) ⌝ }
     requires { ⌜ i .0 < 65536 ⌝ }
-    ensures { λ r. ⌜ r ≡ treeFrom (now (s .entry)) (i .0) ⌝ }
+    ensures { λ r. ⌜ r ≡ treeFrom (numbersAt (now (s .entry))) (i .0) ⌝ }
     ensures { λ r. ⌜ r < 2 ^ 29 ⌝ }
 {
     4096 + 4104 * head::lanes(s) as usize + 128 * i.0
@@ -47,7 +48,7 @@ pub fn tree_from(s: &[u8], i: Tree) -> usize
 // Where the masks begin: behind the head, the lanes and the trees.
 pub fn masks_from(s: &[u8]) -> usize
     requires { ⌜ 4096 ≤ length (now s) ⌝ }
-    ensures { λ r. ⌜ r ≡ masksFrom (now (s .entry)) ⌝ }
+    ensures { λ r. ⌜ r ≡ masksFrom (numbersAt (now (s .entry))) ⌝ }
     ensures { λ r. ⌜ r < 2 ^ 29 ⌝ }
 {
     4096 + 4104 * head::lanes(s) as usize + 128 * head::tree_room(s) as usize
@@ -56,7 +57,7 @@ pub fn masks_from(s: &[u8]) -> usize
 // Where the identifiers begin.
 pub fn identifiers_from(s: &[u8]) -> usize
     requires { ⌜ 4096 ≤ length (now s) ⌝ }
-    ensures { λ r. ⌜ r ≡ identifiersFrom (now (s .entry)) ⌝ }
+    ensures { λ r. ⌜ r ≡ identifiersFrom (numbersAt (now (s .entry))) ⌝ }
     ensures { λ r. ⌜ r < 2 ^ 30 ⌝ }
 {
     masks_from(s) + 8 * head::split_room(s) as usize
@@ -65,7 +66,7 @@ pub fn identifiers_from(s: &[u8]) -> usize
 // Where the counts begin.
 pub fn counts_from(s: &[u8]) -> usize
     requires { ⌜ 4096 ≤ length (now s) ⌝ }
-    ensures { λ r. ⌜ r ≡ countsFrom (now (s .entry)) ⌝ }
+    ensures { λ r. ⌜ r ≡ countsFrom (numbersAt (now (s .entry))) ⌝ }
     ensures { λ r. ⌜ r < 2 ^ 30 ⌝ }
 {
     masks_from(s) + 16 * head::split_room(s) as usize
@@ -74,7 +75,7 @@ pub fn counts_from(s: &[u8]) -> usize
 // Where the links begin.
 pub fn links_from(s: &[u8]) -> usize
     requires { ⌜ 4096 ≤ length (now s) ⌝ }
-    ensures { λ r. ⌜ r ≡ linksFrom (now (s .entry)) ⌝ }
+    ensures { λ r. ⌜ r ≡ linksFrom (numbersAt (now (s .entry))) ⌝ }
     ensures { λ r. ⌜ r < 2 ^ 30 ⌝ }
 {
     masks_from(s) + 20 * head::split_room(s) as usize
@@ -83,7 +84,7 @@ pub fn links_from(s: &[u8]) -> usize
 // Where the rows begin in order of mask.
 pub fn order_from(s: &[u8]) -> usize
     requires { ⌜ 4096 ≤ length (now s) ⌝ }
-    ensures { λ r. ⌜ r ≡ orderFrom (now (s .entry)) ⌝ }
+    ensures { λ r. ⌜ r ≡ orderFrom (numbersAt (now (s .entry))) ⌝ }
     ensures { λ r. ⌜ r < 2 ^ 30 ⌝ }
 {
     masks_from(s) + 22 * head::split_room(s) as usize
@@ -92,7 +93,7 @@ pub fn order_from(s: &[u8]) -> usize
 // Where the places begin.
 pub fn places_from(s: &[u8]) -> usize
     requires { ⌜ 4096 ≤ length (now s) ⌝ }
-    ensures { λ r. ⌜ r ≡ placesFrom (now (s .entry)) ⌝ }
+    ensures { λ r. ⌜ r ≡ placesFrom (numbersAt (now (s .entry))) ⌝ }
     ensures { λ r. ⌜ r < 2 ^ 30 ⌝ }
 {
     masks_from(s) + 24 * head::split_room(s) as usize
