@@ -19,8 +19,8 @@ use Rattle.trees.specs.Hash.{identifier, collide, collisions}
 use Rattle.head.specs.Head.{fromTo, upTo, numbersAt, firstAt, secondAt}
 use Rattle.layout.specs.Store.{splitsHeldAt, maskAt, orderAt, splitAt, masksAt, identifierAt}
 use Rattle.layout.specs.StoreLaws.{split-is}
-use Rattle.store.specs.WholeStore.{wholeAt}
-use Rattle.store.specs.WholeFacts.{SplitsAt, whole-at-facts}
+use Rattle.layout.specs.WholeStore.{wholeAt}
+use Rattle.layout.specs.WholeFacts.{SplitsAt, whole-at-facts}
 use Rattle.store.specs.ListTests.{oneIf}
 use Rattle.store.specs.CountLaws.{one-most}
 use Rattle.store.specs.Chain.{placeIn}

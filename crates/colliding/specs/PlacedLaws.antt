@@ -17,10 +17,10 @@ use borrow.Author.Tests.{eqb-true, eqb-false}
 use Rattle.trees.specs.Plain.{if_then_else_}
 use Rattle.head.specs.Head.{numbersAt}
 use Rattle.layout.specs.Store.{splitsHeldAt, maskAt, linkAt, startAt}
-use Rattle.store.specs.WholeStore.{highestBelow, wholeAt}
-use Rattle.store.specs.WholeFacts.{ChainsAt, whole-at-facts, facts-head}
+use Rattle.layout.specs.WholeStore.{highestBelow, wholeAt}
+use Rattle.layout.specs.WholeFacts.{ChainsAt, whole-at-facts, facts-head}
 use Rattle.store.specs.GoodHeadLaws.{GoodHead, good-head}
-use Rattle.store.specs.UpToLaws.{less-or-not}
+use Rattle.layout.specs.UpToLaws.{less-or-not}
 use Rattle.store.specs.Chain.{placeIn}
 use Rattle.store.specs.ChainLaws.{highest-most, place-below}
 use Rattle.store.specs.ChainTests.{equal-or-not}

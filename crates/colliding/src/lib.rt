@@ -10,7 +10,7 @@ ghost use lib.Dec.{eqb};
 ghost use Rattle.trees.specs.Hash.{collisions};
 ghost use Rattle.head.specs.Head.{numbersAt, firstAt, secondAt};
 ghost use Rattle.layout.specs.Store.{splitsHeldAt, masksAt};
-ghost use Rattle.store.specs.WholeStore.{wholeAt};
+ghost use Rattle.layout.specs.WholeStore.{wholeAt};
 ghost use Rattle.store.specs.ListTests.{oneIf};
 ghost use Rattle.colliding.specs.Collisions.{Placed, Numbered, alike, countFrom, pairsFrom};
 

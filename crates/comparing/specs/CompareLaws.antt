@@ -19,7 +19,7 @@ use Rattle.trees.specs.Hash.{collisions}
 use Rattle.trees.specs.Questions.{ifRoom, ifTree, tree, oneSidedOf, doubledOf, matrixOf, collisionsOf}
 use Rattle.head.specs.Head.{numbersAt, firstAt, secondAt, openingAt}
 use Rattle.layout.specs.Store.{treesHeldAt, treeAt, masksAt, heldAt}
-use Rattle.store.specs.WholeStore.{wholeAt}
+use Rattle.layout.specs.WholeStore.{wholeAt}
 use Rattle.store.specs.RecordedAtLaws.{trees-length, tree-at, recorded-at}
 use Rattle.theorems.specs.MatrixLaws.{matrix-length}
 use Rattle.distances.specs.WholeTreeLaws.{trees-few}

@@ -16,7 +16,7 @@ use Rattle.trees.specs.Written.{written}
 use Rattle.trees.specs.Questions.{ifRoom, ifTree, ifTrees, tree, strictOf, majorityOf, writtenOf}
 use Rattle.head.specs.Head.{namesAt, openingAt}
 use Rattle.layout.specs.Store.{treesHeldAt, treeAt, heldAt}
-use Rattle.store.specs.WholeStore.{wholeAt}
+use Rattle.layout.specs.WholeStore.{wholeAt}
 use Rattle.store.specs.RecordedAtLaws.{trees-length, tree-at}
 use Rattle.writer.specs.declared.Text.the-variants.{Bytes, TooShort}
 use Rattle.writer.specs.Text.{Wrote}

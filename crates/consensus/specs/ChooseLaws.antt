@@ -16,8 +16,8 @@ use Rattle.trees.specs.Plain.{keep}
 use Rattle.trees.specs.Consensus.{count}
 use Rattle.layout.specs.Store.{splitsHeldAt, maskAt, masksAt, heldAt}
 use Rattle.layout.specs.StoreLaws.{split-is}
-use Rattle.store.specs.WholeStore.{wholeAt}
-use Rattle.store.specs.OrderLaws.{masks-length, number-mask}
+use Rattle.layout.specs.WholeStore.{wholeAt}
+use Rattle.layout.specs.OrderLaws.{masks-length, number-mask}
 use Rattle.store.specs.RecordedAtLaws.{count-at, recorded-at}
 use Rattle.consensus.specs.Chosen.{inEnough, chosen, chosenFrom, Chose, ReadSplit}
 

@@ -13,7 +13,7 @@ use borrow.Author.Tests.{leb-true, le-leb, ltb-true, lt-ltb, eqb-true, eq-eqb}
 use Rattle.trees.specs.Plain.{keep}
 use Rattle.trees.specs.Consensus.{recorded, count, isStrict, isMajority, strict, majority}
 use Rattle.theorems.specs.ConsensusLaws.{count-most}
-use Rattle.store.specs.UpToLaws.{bool-same}
+use Rattle.layout.specs.UpToLaws.{bool-same}
 use Rattle.consensus.specs.Chosen.{inEnough, chosen}
 
 pub keep-same : (p q : ℕ → Bool) (l : List ℕ) → ((m : ℕ) → p m ≡ q m) → keep p l ≡ keep q l

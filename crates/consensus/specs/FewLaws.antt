@@ -24,8 +24,8 @@ use Rattle.theorems.specs.WrittenLaws.{written-tree-reads-back}
 use Rattle.theorems.specs.ConsensusLaws.{AllGood, strict-good, majority-good}
 use Rattle.head.specs.Head.{numbersAt, namesAt, openingAt}
 use Rattle.layout.specs.Store.{treesHeldAt, heldAt}
-use Rattle.store.specs.WholeStore.{wholeAt}
-use Rattle.store.specs.WholeFacts.{whole-at-facts}
+use Rattle.layout.specs.WholeStore.{wholeAt}
+use Rattle.layout.specs.WholeFacts.{whole-at-facts}
 use Rattle.store.specs.RecordedAtLaws.{trees-length, trees-mem}
 use Rattle.store.specs.HeldWholeLaws.{opening-facts, tree-good}
 use Rattle.consensus.specs.Chosen.{chosen}

@@ -10,7 +10,7 @@ ghost use lib.ListN.{length, take};
 ghost use Rattle.trees.specs.Whole.{goodTree};
 ghost use Rattle.head.specs.Head.{numbersAt};
 ghost use Rattle.layout.specs.Store.{heldAt};
-ghost use Rattle.store.specs.WholeStore.{wholeAt};
+ghost use Rattle.layout.specs.WholeStore.{wholeAt};
 ghost use Rattle.table.specs.Answers.{numberGiven};
 ghost use Rattle.table.specs.Promises.{lengthGiven, front};
 ghost use Rattle.consensus.specs.Consensus.{strictAsked, majorityAsked, writtenAsked, textAsked};

@@ -7,7 +7,7 @@ ghost use mathlib.Core.Bool.{true};
 ghost use Prim.Native.Nat.{_≤_, _<_};
 ghost use lib.ListN.{length, take};
 ghost use Rattle.layout.specs.Store.{treesHeldAt, treeAt, heldAt};
-ghost use Rattle.store.specs.WholeStore.{wholeAt};
+ghost use Rattle.layout.specs.WholeStore.{wholeAt};
 ghost use Rattle.consensus.specs.Chosen.{chosen};
 use layout::Split;
 use layout::Tree;

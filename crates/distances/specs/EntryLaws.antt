@@ -18,7 +18,7 @@ use lib.Seq.{length-take-le, getD-set-same, getD-set-other, getD-take, drop-set-
 use Rattle.trees.specs.Distance.{doubled, matrix}
 use Rattle.theorems.specs.DistanceLaws.{doubled-sym}
 use Rattle.layout.specs.Store.{treesHeldAt, treeAt, heldAt}
-use Rattle.store.specs.UpToLaws.{less-or-not}
+use Rattle.layout.specs.UpToLaws.{less-or-not}
 use Rattle.store.specs.ChainTests.{equal-or-not}
 use Rattle.store.specs.RecordedAtLaws.{trees-length, tree-at}
 use Rattle.distances.specs.Entries.{Written, Filled}

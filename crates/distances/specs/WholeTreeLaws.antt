@@ -17,9 +17,10 @@ use lib.ListN.{length, getD}
 use Rattle.trees.specs.Distance.{oneSided}
 use Rattle.theorems.specs.ListLaws.{Mem}
 use Rattle.fields.specs.Field.{number}
+use Rattle.head.specs.Head.{numbersAt}
 use Rattle.layout.specs.Store.{treesHeldAt, treeFrom, maskAt, listAt, treeAt}
-use Rattle.store.specs.WholeStore.{wholeAt}
-use Rattle.store.specs.WholeFacts.{WholeAt, whole-at-facts, facts-head}
+use Rattle.layout.specs.WholeStore.{wholeAt}
+use Rattle.layout.specs.WholeFacts.{WholeAt, whole-at-facts, facts-head}
 use Rattle.store.specs.RoomLaws.{GoodHead, good-head, tree-inside}
 use Rattle.store.specs.ListTests.{numberIn}
 use Rattle.store.specs.ListTestLaws.{list-length, list-at, tree-length, mem-getD}
@@ -41,7 +42,7 @@ module _ (s : List ℕ) (w : wholeAt s ≡ true) where
   trees-few = omega (arith, head .trees, head .ranges .most-trees)
 
   module _ (i : ℕ) (h : i < treesHeldAt s) where
-    pub tree-lent : treeFrom s i + 128 ≤ length s
+    pub tree-lent : treeFrom (numbersAt s) i + 128 ≤ length s
     tree-lent = tree-inside s head i h
 
     pub list-few : length (listAt s i) ≤ 62
@@ -50,7 +51,7 @@ module _ (s : List ℕ) (w : wholeAt s ≡ true) where
     pub row-few : (k : ℕ) → Mem k (listAt s i) → k < 4096
     row-few k m = omega (arith, facts .lists i h .numbers-below k m, head .splits, head .ranges .most-splits)
 
-    pub row-read : (j from x : ℕ) → j < length (listAt s i) → from ≡ treeFrom s i → x ≡ number 2 s (from + 2 + 2 * j)
+    pub row-read : (j from x : ℕ) → j < length (listAt s i) → from ≡ treeFrom (numbersAt s) i → x ≡ number 2 s (from + 2 + 2 * j)
         → (x ≡ getD (listAt s i) j 0) × (x < 4096)
     unfolding numberIn
     row-read j from x l e q =

@@ -10,7 +10,7 @@ ghost use Prim.Native.Nat.{_*_, _≤_, _<_};
 ghost use lib.ListN.{length, drop};
 ghost use Rattle.trees.specs.Distance.{oneSided, doubled, matrix};
 ghost use Rattle.layout.specs.Store.{treesHeldAt, treeAt, heldAt};
-ghost use Rattle.store.specs.WholeStore.{wholeAt};
+ghost use Rattle.layout.specs.WholeStore.{wholeAt};
 use layout::Tree;
 
 mod entries;

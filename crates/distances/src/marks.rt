@@ -7,8 +7,9 @@ ghost use mathlib.Core.Bool.{true};
 ghost use Prim.Native.Nat.{_+_, _≤_, _<_};
 ghost use lib.ListN.{length, getD};
 ghost use Rattle.trees.specs.Distance.{oneSided, doubled};
+ghost use Rattle.head.specs.Head.{numbersAt};
 ghost use Rattle.layout.specs.Store.{treesHeldAt, treeFrom, listAt, treeAt};
-ghost use Rattle.store.specs.WholeStore.{wholeAt};
+ghost use Rattle.layout.specs.WholeStore.{wholeAt};
 ghost use Rattle.distances.specs.Marks.{marked, marksOf, markSum};
 use layout::Tree;
 
@@ -94,7 +95,7 @@ fn list_length(s: &[u8], i: usize) -> usize
 fn row(s: &[u8], i: usize, from: usize, j: usize) -> usize
     requires { ⌜ wholeAt (now s) ≡ true ⌝ }
     requires { ⌜ i < treesHeldAt (now s) ⌝ }
-    requires { ⌜ from ≡ treeFrom (now s) i ⌝ }
+    requires { ⌜ from ≡ treeFrom (numbersAt (now s)) i ⌝ }
     requires { ⌜ j < length (listAt (now s) i) ⌝ }
     ensures { λ r. ⌜ r ≡ getD (listAt (now (s .entry)) i) j 0 ⌝ }
     ensures { λ r. ⌜ r < 4096 ⌝ }
@@ -106,7 +107,7 @@ fn row(s: &[u8], i: usize, from: usize, j: usize) -> usize
 fn tree_from(s: &[u8], i: usize) -> usize
     requires { ⌜ wholeAt (now s) ≡ true ⌝ }
     requires { ⌜ i < treesHeldAt (now s) ⌝ }
-    ensures { λ r. ⌜ r ≡ treeFrom (now (s .entry)) i ⌝ }
+    ensures { λ r. ⌜ r ≡ treeFrom (numbersAt (now (s .entry))) i ⌝ }
     ensures { λ r. ⌜ r + 128 ≤ length (now (s .entry)) ⌝ }
 {
     layout::tree_from(s, Tree(i))

@@ -31,8 +31,8 @@ use Rattle.theorems.specs.OwnLaneLaws.{feeding-opening}
 use Rattle.head.specs.Head.{numbersAt, namesAt, openingAt}
 use Rattle.head.specs.Index.{Indexed}
 use Rattle.layout.specs.Store.{sizeAt, heldAt}
-use Rattle.store.specs.WholeStore.{wholeAt}
-use Rattle.store.specs.WholeFacts.{whole-at-facts}
+use Rattle.layout.specs.WholeStore.{wholeAt}
+use Rattle.layout.specs.WholeFacts.{whole-at-facts}
 use Rattle.store.specs.RecordedAtLaws.{trees-length}
 use Rattle.store.specs.HeldWholeLaws.{held-numbers, opening-facts}
 use Rattle.table.specs.Answers.{refusalNumber, numberGiven, progressGiven}

@@ -13,7 +13,7 @@ use Rattle.trees.specs.Text.{isBlank}
 use Rattle.trees.specs.Held.{Lane, holding, overrun, Closed, laneOf, withLane, closed, closing}
 use Rattle.head.specs.Head.{numbersAt}
 use Rattle.layout.specs.Store.{heldAt}
-use Rattle.store.specs.WholeStore.{wholeAt}
+use Rattle.layout.specs.WholeStore.{wholeAt}
 use Rattle.store.specs.HeldWholeLaws.{held-numbers}
 use Rattle.lanes.specs.Lanes.{LaneIs, closedNumber}
 use Rattle.table.specs.Answers.{refusalNumber, finishGiven}

@@ -23,7 +23,7 @@ use Rattle.trees.specs.Verdict.{judged}
 use Rattle.head.specs.Head.{numbersAt, namesAt, openingAt}
 use Rattle.head.specs.Index.{Indexed}
 use Rattle.layout.specs.Store.{sizeAt, heldAt}
-use Rattle.store.specs.WholeStore.{wholeAt}
+use Rattle.layout.specs.WholeStore.{wholeAt}
 use Rattle.store.specs.HeldWholeLaws.{held-numbers, texts-length, opening-facts}
 use Rattle.lanes.specs.Lanes.{LaneIs}
 use Rattle.table.specs.Answers.{refusalNumber, progressGiven}

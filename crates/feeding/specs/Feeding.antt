@@ -24,7 +24,7 @@ use Rattle.trees.specs.Held as held
 use Rattle.trees.specs.Batch.{Batched, batch}
 use Rattle.head.specs.Head.{numbersAt}
 use Rattle.layout.specs.Store.{laneFrom, heldAt}
-use Rattle.store.specs.WholeStore.{wholeAt}
+use Rattle.layout.specs.WholeStore.{wholeAt}
 use Rattle.table.specs.Answers.{finishGiven, numberGiven, progressGiven}
 use Rattle.table.specs.Promises.{ifWhole, Holds}
 use Rattle.table.specs.declared.Fed.{Fed}

@@ -27,7 +27,7 @@ use Rattle.theorems.specs.FewLaws.{few-splits}
 use Rattle.fields.specs.Field.{number}
 use Rattle.head.specs.Head.{numbersAt, firstAt, secondAt, openingAt}
 use Rattle.layout.specs.Store.{treesHeldAt, laneFrom, sizeAt, heldAt}
-use Rattle.store.specs.WholeStore.{wholeAt}
+use Rattle.layout.specs.WholeStore.{wholeAt}
 use Rattle.store.specs.ListTestLaws.{length-map}
 use Rattle.store.specs.RecordedAtLaws.{trees-length}
 use Rattle.store.specs.HeldWholeLaws.{opening-facts}

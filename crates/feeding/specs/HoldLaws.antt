@@ -17,7 +17,7 @@ use Rattle.theorems.specs.ListLaws.{and-true}
 use Rattle.head.specs.Head.{numbersAt}
 use Rattle.layout.specs.Store.{laneFrom, sizeAt, heldAt}
 use Rattle.layout.specs.StoreLaws.{lane-from, masks-from, size-is}
-use Rattle.store.specs.WholeStore.{wholeAt}
+use Rattle.layout.specs.WholeStore.{wholeAt}
 use Rattle.store.specs.HeldWholeLaws.{held-numbers}
 use Rattle.lanes.specs.Lanes.{LaneIs}
 use Rattle.table.specs.Promises.{Holds}
@@ -29,7 +29,7 @@ unfolding sizeAt
 size-held s = ap storeSize (held-numbers s)
 
 pub lane-below : (s : List ℕ) (l : ℕ) → l < numbersAt s .lanes → laneFrom l + 4104 ≤ sizeAt s
-lane-below s l h = omega (arith, lane-from l, masks-from s, size-is s)
+lane-below s l h = omega (arith, lane-from l, masks-from (numbersAt s), size-is s)
 
 pub lane-holds : (s : List ℕ) (l : ℕ) (x : Lane) (t : List ℕ) → l < numbersAt s .lanes → LaneIs s l x t → Holds (withLane (heldAt s) l x) s t
 unfolding withLane

@@ -10,7 +10,7 @@ ghost use Rattle.trees.specs.Batch.{semicolons, batching};
 ghost use Rattle.head.specs.Head.{numbersAt, namesAt};
 ghost use Rattle.head.specs.Index.{Indexed};
 ghost use Rattle.layout.specs.Store.{heldAt};
-ghost use Rattle.store.specs.WholeStore.{wholeAt};
+ghost use Rattle.layout.specs.WholeStore.{wholeAt};
 ghost use Rattle.table.specs.Answers.{progressGiven};
 ghost use Rattle.table.specs.Promises.{Holds};
 ghost use Rattle.trees.specs.Batch.{verdictNumber};

@@ -9,7 +9,7 @@ ghost use Rattle.fields.specs.Field.{number};
 ghost use Rattle.head.specs.Head.{numbersAt, namesAt, openingAt};
 ghost use Rattle.head.specs.Index.{Indexed};
 ghost use Rattle.layout.specs.Store.{laneFrom, heldAt};
-ghost use Rattle.store.specs.WholeStore.{wholeAt};
+ghost use Rattle.layout.specs.WholeStore.{wholeAt};
 ghost use Rattle.newick.specs.Judge.{JudgedAs};
 ghost use Rattle.table.specs.Answers.{refusalNumber};
 ghost use Rattle.feeding.specs.Texts.{Finished, Judgeable, Accepts};

@@ -13,7 +13,7 @@ use lib.ListN.{length, getD, set, take, drop, length-append, length-set}
 use lib.Seq.{length-take-le, take-suc, drop-cons, set-at}
 use Rattle.trees.specs.Held.{newSplits}
 use Rattle.layout.specs.Store.{splitsHeldAt, heldAt}
-use Rattle.store.specs.WholeStore.{wholeAt}
+use Rattle.layout.specs.WholeStore.{wholeAt}
 use Rattle.store.specs.Chain.{look}
 use Rattle.finding.specs.declared.Found.{Found}
 use Rattle.finding.specs.declared.Found.the-variants.{Row, Nothing}

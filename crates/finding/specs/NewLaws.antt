@@ -13,9 +13,9 @@ use Rattle.trees.specs.Consensus.{recorded}
 use Rattle.trees.specs.Held.{newSplits}
 use Rattle.theorems.specs.ListLaws.{if-true, if-false, mem-member}
 use Rattle.layout.specs.Store.{masksAt, heldAt}
-use Rattle.store.specs.WholeStore.{wholeAt}
-use Rattle.store.specs.WholeFacts.{whole-at-facts}
-use Rattle.store.specs.OrderLaws.{mem-masks}
+use Rattle.layout.specs.WholeStore.{wholeAt}
+use Rattle.layout.specs.WholeFacts.{whole-at-facts}
+use Rattle.layout.specs.OrderLaws.{mem-masks}
 use Rattle.store.specs.RecordedAtLaws.{recorded-at}
 use Rattle.store.specs.Chain.{look}
 use Rattle.store.specs.ChainLaws.{look-finds, look-nothing}

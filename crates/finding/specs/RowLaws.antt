@@ -19,7 +19,7 @@ use lib.Seq.{split-at}
 use Rattle.trees.specs.Plain.{member}
 use Rattle.trees.specs.Held.{newSplits}
 use Rattle.layout.specs.Store.{splitsHeldAt, maskAt, masksAt, heldAt}
-use Rattle.store.specs.WholeStore.{wholeAt}
+use Rattle.layout.specs.WholeStore.{wholeAt}
 use Rattle.store.specs.Chain.{look}
 use Rattle.store.specs.ChainLaws.{look-finds, look-nothing}
 use Rattle.finding.specs.Rows.{rowOf, nextAfter, rowsFor}

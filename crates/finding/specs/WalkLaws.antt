@@ -11,10 +11,11 @@ use mathlib.Core.Path.{_≡_, sym, ap, _∙_}
 use mathlib.Core.Bool.{true}
 use mathlib.Core.List.{List}
 use Rattle.fields.specs.Field.{number}
+use Rattle.head.specs.Head.{numbersAt}
 use Rattle.layout.specs.Store.{splitsHeldAt, masksFrom, linksFrom, placesFrom, maskAt, startAt}
 use Rattle.layout.specs.StoreLaws.{mask-is, start-is}
-use Rattle.store.specs.WholeStore.{wholeAt}
-use Rattle.store.specs.WholeFacts.{whole-at-facts, facts-head}
+use Rattle.layout.specs.WholeStore.{wholeAt}
+use Rattle.layout.specs.WholeFacts.{whole-at-facts, facts-head}
 use Rattle.store.specs.GoodHeadLaws.{GoodHead, good-head}
 use Rattle.store.specs.Chain.{placeIn, lookAt}
 use Rattle.store.specs.ChainTests.{link-read}
@@ -27,7 +28,7 @@ pub head-good : (s : List ℕ) → wholeAt s ≡ true → GoodHead s
 head-good s w = good-head s (facts-head s (whole-at-facts s w .head))
 
 module _ (s : List ℕ) (m : ℕ) (whole : wholeAt s ≡ true) where
-  pub walk-starts : (p at e : ℕ) → p ≡ placeIn s m → at ≡ placesFrom s → e ≡ number 2 s (at + 2 * p) → Walk s m e
+  pub walk-starts : (p at e : ℕ) → p ≡ placeIn s m → at ≡ placesFrom (numbersAt s) → e ≡ number 2 s (at + 2 * p) → Walk s m e
   walk-starts p at e i a r = record {
     within = rw start (start-most s whole (placeIn s m) (place-below s whole m));
     undecided = rw start (sym (look-starts s m));
@@ -43,11 +44,11 @@ module _ (s : List ℕ) (m : ℕ) (whole : wholeAt s ≡ true) where
     here : e ≡ suc (e - 1)
     here = omega arith
 
-    module _ (at l : ℕ) (a : at ≡ linksFrom s) (r : l ≡ number 2 s (at + 2 * (e - 1))) where
+    module _ (at l : ℕ) (a : at ≡ linksFrom (numbersAt s)) (r : l ≡ number 2 s (at + 2 * (e - 1))) where
       pub walk-falls : l < e
       walk-falls = omega (arith, link-read s (e - 1) at l a r, link-falls s whole (e - 1) walk-row)
 
-    module _ (at x : ℕ) (a : at ≡ masksFrom s) (r : x ≡ number 8 s (at + 8 * (e - 1))) where
+    module _ (at x : ℕ) (a : at ≡ masksFrom (numbersAt s)) (r : x ≡ number 8 s (at + 8 * (e - 1))) where
       mask-read : x ≡ maskAt s (e - 1)
       mask-read = r ∙ rw a (sym (mask-is s (e - 1)))
 
@@ -55,7 +56,7 @@ module _ (s : List ℕ) (m : ℕ) (whole : wholeAt s ≡ true) where
       unfolding FoundAs
       walk-here d = sym (walk .undecided) ∙ ap (lookAt s m) here ∙ look-here s m (e - 1) (sym mask-read ∙ d)
 
-      pub walk-next : (x ≡ m → ⊥) → (to l : ℕ) → to ≡ linksFrom s → l ≡ number 2 s (to + 2 * (e - 1)) → Walk s m l
+      pub walk-next : (x ≡ m → ⊥) → (to l : ℕ) → to ≡ linksFrom (numbersAt s) → l ≡ number 2 s (to + 2 * (e - 1)) → Walk s m l
       walk-next d to l t q =
           let f = link-read s (e - 1) to l t q in
           record {

@@ -10,7 +10,7 @@ ghost use Prim.Native.Nat.{_≤_};
 ghost use lib.ListN.{length, take, drop};
 ghost use Rattle.trees.specs.Held.{newSplits};
 ghost use Rattle.layout.specs.Store.{splitsHeldAt, heldAt};
-ghost use Rattle.store.specs.WholeStore.{wholeAt};
+ghost use Rattle.layout.specs.WholeStore.{wholeAt};
 ghost use Rattle.store.specs.Chain.{placeIn};
 ghost use Rattle.finding.specs.Rows.{rowsFor, Placed, FoundAs};
 

@@ -15,7 +15,7 @@ use Rattle.trees.specs.Held.{Lane, holding, overrun, laneOf, closed}
 use Rattle.fields.specs.Field.{number}
 use Rattle.head.specs.Head.{numbersAt}
 use Rattle.layout.specs.Store.{laneFrom, heldAt}
-use Rattle.store.specs.WholeStore.{wholeAt}
+use Rattle.layout.specs.WholeStore.{wholeAt}
 use Rattle.lanes.specs.Lanes.{closedNumber}
 use Rattle.lanes.specs.LaneLaws.{lane-overrun, lane-holding}
 

@@ -17,8 +17,8 @@ use Rattle.head.specs.Head.{numbersAt}
 use Rattle.head.specs.HeadLaws.{numbers-same}
 use Rattle.layout.specs.Store.{laneFrom, treeFrom, sizeAt, laneAt, heldAt}
 use Rattle.layout.specs.StoreLaws.{lane-from, tree-from}
-use Rattle.store.specs.WholeStore.{wholeAt}
-use Rattle.store.specs.WholeFacts.{WholeAt, whole-at-facts, facts-whole-at}
+use Rattle.layout.specs.WholeStore.{wholeAt}
+use Rattle.layout.specs.WholeFacts.{WholeAt, whole-at-facts, facts-whole-at}
 use Rattle.store.specs.PartFrameLaws.{SameBetween, lane-length-frame, lane-frame}
 use Rattle.store.specs.FrameLaws.{opening-frame, trees-frame, facts-frame}
 use Rattle.store.specs.HeldWholeLaws.{held-opening, texts-length}
@@ -36,8 +36,8 @@ module _ (s : List ℕ) (w : wholeAt s ≡ true) (l : ℕ) (m : l < numbersAt s 
   head-kept : (i : ℕ) → i < 4096 → getD s i 0 ≡ getD t i 0
   head-kept i h = sym (outside i (inl (omega (arith, lane-from l))))
 
-  behind-kept : SameBetween s t (treeFrom s 0) (sizeAt s)
-  behind-kept i a b = sym (outside i (inr (omega (arith, lane-from l, tree-from s 0))))
+  behind-kept : SameBetween s t (treeFrom (numbersAt s) 0) (sizeAt s)
+  behind-kept i a b = sym (outside i (inr (omega (arith, lane-from l, tree-from (numbersAt s) 0))))
 
   numbers-kept : numbersAt s ≡ numbersAt t
   numbers-kept = numbers-same s t head-kept

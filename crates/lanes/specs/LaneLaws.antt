@@ -21,8 +21,8 @@ use Rattle.head.specs.Head.{numbersAt, openingAt}
 use Rattle.head.specs.HeadLaws.{upTo-at}
 use Rattle.layout.specs.Store.{laneFrom, laneAt, heldAt}
 use Rattle.layout.specs.StoreLaws.{lane-from, masks-from, size-is, lane-is}
-use Rattle.store.specs.WholeStore.{wholeAt}
-use Rattle.store.specs.WholeFacts.{whole-at-facts}
+use Rattle.layout.specs.WholeStore.{wholeAt}
+use Rattle.layout.specs.WholeFacts.{whole-at-facts}
 use Rattle.store.specs.HeldWholeLaws.{opening-facts}
 
 -- ---- any bytes
@@ -47,7 +47,7 @@ module _ (s : List ℕ) (w : wholeAt s ≡ true) (l : ℕ) (m : l < numbersAt s 
   lane-few = let h : numbersAt s .lanes ≤ 8 = opening-facts s w .ranges .most-lanes in omega arith
 
   pub lane-end : laneFrom l + 4104 ≤ length s
-  lane-end = omega (arith, lane-from l, masks-from s, size-is s, whole-at-facts s w .head .reached)
+  lane-end = omega (arith, lane-from l, masks-from (numbersAt s), size-is s, whole-at-facts s w .head .reached)
 
   pub lane-fits : number 2 s (laneFrom l) ≤ 4097
   lane-fits = whole-at-facts s w .lanes l m

@@ -21,7 +21,7 @@ use Rattle.fields.specs.Run.{copied}
 use Rattle.fields.specs.RunLaws.{copied-length, copied-inside, copied-outside}
 use Rattle.head.specs.Head.{numbersAt}
 use Rattle.layout.specs.Store.{laneFrom, laneAt, heldAt}
-use Rattle.store.specs.WholeStore.{wholeAt}
+use Rattle.layout.specs.WholeStore.{wholeAt}
 use Rattle.lanes.specs.Lanes.{LaneIs}
 use Rattle.lanes.specs.LaneLaws.{lane-at-overrun, lane-at-holding, lane-end, lane-fits, lane-overrun, lane-holding}
 use Rattle.lanes.specs.LaneChangeLaws.{lane-changed}

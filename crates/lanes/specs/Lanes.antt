@@ -11,7 +11,7 @@ use lib.ListN.{length, getD}
 use Rattle.trees.specs.Plain.{Answer, refused, gives}
 use Rattle.trees.specs.Held.{Lane, withLane}
 use Rattle.layout.specs.Store.{laneFrom, heldAt}
-use Rattle.store.specs.WholeStore.{wholeAt}
+use Rattle.layout.specs.WholeStore.{wholeAt}
 
 -- the bytes t are whole and hold what s holds, but for lane l, which is x; outside that lane's own bytes nothing changed
 pub record LaneIs (s : List ℕ) (l : ℕ) (x : Lane) (t : List ℕ) : Type 0 where

@@ -15,7 +15,7 @@ ghost use Rattle.trees.specs.Held.{holding, longer, laneOf, closed};
 ghost use Rattle.fields.specs.Field.{number};
 ghost use Rattle.head.specs.Head.{numbersAt};
 ghost use Rattle.layout.specs.Store.{laneFrom, heldAt};
-ghost use Rattle.store.specs.WholeStore.{wholeAt};
+ghost use Rattle.layout.specs.WholeStore.{wholeAt};
 ghost use Rattle.lanes.specs.Lanes.{LaneIs, closedNumber};
 
 // Puts the piece behind the bytes that lane l holds. Past 4,096 bytes the lane has run over, and one

@@ -1,4 +1,11 @@
--- Every byte of a store, and the laws of where things lie.
+-- Every byte of a store, what "whole" means of it, and the laws of where things lie and of parts in order.
 pub mod Columns
 pub mod Store
 pub mod StoreLaws
+pub mod WholeStore
+pub mod AllLaws
+pub mod WholeFacts
+pub mod Sound
+pub mod UpToLaws
+pub mod PigeonLaws
+pub mod OrderLaws

@@ -14,6 +14,7 @@ use lib.ListN.{length, getD}
 use Rattle.trees.specs.Plain.{member}
 use Rattle.theorems.specs.ListLaws.{Mem}
 use Rattle.fields.specs.Field.{number}
+use Rattle.head.specs.Head.{numbersAt}
 use Rattle.layout.specs.Store.{treesHeldAt, treeFrom, countsFrom, linksFrom}
 use Rattle.store.specs.ListTests.{oneIf}
 
@@ -47,11 +48,11 @@ pub record CountsAdded (s : List ℕ) (from : ℕ) (rs : List ℕ) (t : List ℕ
 pub record Entered (s : List ℕ) (rs : List ℕ) (t : List ℕ) : Type 0 where
   pub size : length t ≡ length s
   pub trees : number 2 t 10 ≡ suc (treesHeldAt s)
-  pub entries : number 2 t (treeFrom s (treesHeldAt s)) ≡ length rs
-  pub rows : (j : ℕ) → j < length rs → number 2 t (treeFrom s (treesHeldAt s) + 2 + 2 * j) ≡ getD rs j 0
-  pub counts : (k : ℕ) → number 4 t (countsFrom s + 4 * k) ≡ number 4 s (countsFrom s + 4 * k) + oneIf (member k rs)
+  pub entries : number 2 t (treeFrom (numbersAt s) (treesHeldAt s)) ≡ length rs
+  pub rows : (j : ℕ) → j < length rs → number 2 t (treeFrom (numbersAt s) (treesHeldAt s) + 2 + 2 * j) ≡ getD rs j 0
+  pub counts : (k : ℕ) → number 4 t (countsFrom (numbersAt s) + 4 * k) ≡ number 4 s (countsFrom (numbersAt s) + 4 * k) + oneIf (member k rs)
   -- all other bytes are equal
   pub numbers : (i : ℕ) → i < 10 → getD t i 0 ≡ getD s i 0
-  pub before : (i : ℕ) → 12 ≤ i → i < treeFrom s (treesHeldAt s) → getD t i 0 ≡ getD s i 0
-  pub between : (i : ℕ) → treeFrom s (suc (treesHeldAt s)) ≤ i → i < countsFrom s → getD t i 0 ≡ getD s i 0
-  pub behind : (i : ℕ) → linksFrom s ≤ i → getD t i 0 ≡ getD s i 0
+  pub before : (i : ℕ) → 12 ≤ i → i < treeFrom (numbersAt s) (treesHeldAt s) → getD t i 0 ≡ getD s i 0
+  pub between : (i : ℕ) → treeFrom (numbersAt s) (suc (treesHeldAt s)) ≤ i → i < countsFrom (numbersAt s) → getD t i 0 ≡ getD s i 0
+  pub behind : (i : ℕ) → linksFrom (numbersAt s) ≤ i → getD t i 0 ≡ getD s i 0

@@ -17,7 +17,7 @@ use Rattle.store.specs.ListTests.{oneIf}
 use Rattle.store.specs.ListTestLaws.{mem-getD}
 use Rattle.store.specs.ChainTests.{equal-or-not}
 use Rattle.store.specs.CountLaws.{front-other}
-use Rattle.store.specs.UpToLaws.{less-or-not}
+use Rattle.layout.specs.UpToLaws.{less-or-not}
 use Rattle.listing.specs.Entering.{RowsWritten, Countable, CountsAdded}
 use Rattle.listing.specs.RowLaws.{front-mem, next-mem, front-here, front-new}
 

@@ -19,8 +19,8 @@ use Rattle.head.specs.Head.{numbersAt, firstAt, secondAt, openingAt}
 use Rattle.head.specs.HeadLaws.{upTo-same}
 use Rattle.layout.specs.Store.{treesHeldAt, splitsHeldAt, laneFrom, treeFrom, masksFrom, identifiersFrom, countsFrom, linksFrom, orderFrom, placesFrom, laneAt, maskAt, identifierAt, linkAt, startAt, orderAt, splitAt, masksAt}
 use Rattle.layout.specs.StoreLaws.{lane-from, tree-from, identifiers-from, counts-from, links-from, order-from, places-from, splits-held-is, mask-is, identifier-is, link-is, start-is, order-is, split-is, masks-is}
-use Rattle.store.specs.WholeStore.{highestBelow}
-use Rattle.store.specs.Sound.{Sound}
+use Rattle.layout.specs.WholeStore.{highestBelow}
+use Rattle.layout.specs.Sound.{Sound}
 use Rattle.store.specs.Chain.{placeIn}
 use Rattle.store.specs.ChainLaws.{highest-same}
 use Rattle.store.specs.PartFrameLaws.{SameBetween, number-frame, masks-from-same, lane-frame}
@@ -33,7 +33,7 @@ module _ (s rs t : List ℕ) (sound : Sound s) (room : treesHeldAt s < numbersAt
   low i p q = sym (e .numbers i q)
 
   -- from the head's other numbers up to the new list
-  pub up-to-list : SameBetween s t 12 (treeFrom s (treesHeldAt s))
+  pub up-to-list : SameBetween s t 12 (treeFrom (numbersAt s) (treesHeldAt s))
   up-to-list i p q = sym (e .before i p q)
 
   high : SameBetween s t 16 4096
@@ -72,50 +72,50 @@ module _ (s rs t : List ℕ) (sound : Sound s) (room : treesHeldAt s < numbersAt
   split-fits k l = omega (arith, sound .head .splits-fit)
 
   -- a number among the masks and identifiers
-  before-counts : (k a b : ℕ) → a ≡ b → masksFrom s ≤ a → a + k ≤ countsFrom s → number k s a ≡ number k t b
+  before-counts : (k a b : ℕ) → a ≡ b → masksFrom (numbersAt s) ≤ a → a + k ≤ countsFrom (numbersAt s) → number k s a ≡ number k t b
   before-counts k a b d f g =
       number-frame s t k a b d (λ i p q. sym (e .between i (omega (arith, list-end s (treesHeldAt s), list-before-masks s (treesHeldAt s) room)) (omega arith)))
 
   -- a number behind the counts
-  behind-counts : (k a b : ℕ) → a ≡ b → linksFrom s ≤ a → number k s a ≡ number k t b
+  behind-counts : (k a b : ℕ) → a ≡ b → linksFrom (numbersAt s) ≤ a → number k s a ≡ number k t b
   behind-counts k a b d f = number-frame s t k a b d (λ i p q. sym (e .behind i (omega arith)))
 
   pub mask-same : (k : ℕ) → k < splitsHeldAt s → maskAt s k ≡ maskAt t k
   mask-same k h =
       let l = split-fits k h in
       mask-is s k
-      ∙ before-counts 8 (masksFrom s + 8 * k) (masksFrom t + 8 * k) (rw (masks-from-same s t numbers-same)) (omega arith) (omega (arith, counts-from s))
+      ∙ before-counts 8 (masksFrom (numbersAt s) + 8 * k) (masksFrom (numbersAt t) + 8 * k) (rw (masks-from-same s t numbers-same)) (omega arith) (omega (arith, counts-from (numbersAt s)))
       ∙ sym (mask-is t k)
 
   pub identifier-same : (k : ℕ) → k < splitsHeldAt s → identifierAt s k ≡ identifierAt t k
   identifier-same k h =
       let l = split-fits k h in
-      let b = identifiers-from s in
-      let d : identifiersFrom s ≡ identifiersFrom t = rw (identifiers-from s, identifiers-from t, numbers-same, masks-from-same s t numbers-same) in
+      let b = identifiers-from (numbersAt s) in
+      let d : identifiersFrom (numbersAt s) ≡ identifiersFrom (numbersAt t) = rw (identifiers-from (numbersAt s), identifiers-from (numbersAt t), numbers-same, masks-from-same s t numbers-same) in
       identifier-is s k
-      ∙ before-counts 8 (identifiersFrom s + 8 * k) (identifiersFrom t + 8 * k) (rw d) (omega arith) (omega (arith, counts-from s))
+      ∙ before-counts 8 (identifiersFrom (numbersAt s) + 8 * k) (identifiersFrom (numbersAt t) + 8 * k) (rw d) (omega arith) (omega (arith, counts-from (numbersAt s)))
       ∙ sym (identifier-is t k)
 
-  pub counts-from-same : countsFrom s ≡ countsFrom t
-  counts-from-same = rw (counts-from s, counts-from t, numbers-same, masks-from-same s t numbers-same)
+  pub counts-from-same : countsFrom (numbersAt s) ≡ countsFrom (numbersAt t)
+  counts-from-same = rw (counts-from (numbersAt s), counts-from (numbersAt t), numbers-same, masks-from-same s t numbers-same)
 
   pub link-same : (k : ℕ) → linkAt s k ≡ linkAt t k
   link-same k =
-      let d : linksFrom s ≡ linksFrom t = rw (links-from s, links-from t, numbers-same, masks-from-same s t numbers-same) in
-      link-is s k ∙ behind-counts 2 (linksFrom s + 2 * k) (linksFrom t + 2 * k) (rw d) (omega arith) ∙ sym (link-is t k)
+      let d : linksFrom (numbersAt s) ≡ linksFrom (numbersAt t) = rw (links-from (numbersAt s), links-from (numbersAt t), numbers-same, masks-from-same s t numbers-same) in
+      link-is s k ∙ behind-counts 2 (linksFrom (numbersAt s) + 2 * k) (linksFrom (numbersAt t) + 2 * k) (rw d) (omega arith) ∙ sym (link-is t k)
 
   pub order-same : (k : ℕ) → orderAt s k ≡ orderAt t k
   order-same k =
-      let d : orderFrom s ≡ orderFrom t = rw (order-from s, order-from t, numbers-same, masks-from-same s t numbers-same) in
+      let d : orderFrom (numbersAt s) ≡ orderFrom (numbersAt t) = rw (order-from (numbersAt s), order-from (numbersAt t), numbers-same, masks-from-same s t numbers-same) in
       order-is s k
-      ∙ behind-counts 2 (orderFrom s + 2 * k) (orderFrom t + 2 * k) (rw d) (omega (arith, links-from s, order-from s))
+      ∙ behind-counts 2 (orderFrom (numbersAt s) + 2 * k) (orderFrom (numbersAt t) + 2 * k) (rw d) (omega (arith, links-from (numbersAt s), order-from (numbersAt s)))
       ∙ sym (order-is t k)
 
   pub start-same : (p : ℕ) → startAt s p ≡ startAt t p
   start-same p =
-      let d : placesFrom s ≡ placesFrom t = rw (places-from s, places-from t, numbers-same, masks-from-same s t numbers-same) in
+      let d : placesFrom (numbersAt s) ≡ placesFrom (numbersAt t) = rw (places-from (numbersAt s), places-from (numbersAt t), numbers-same, masks-from-same s t numbers-same) in
       start-is s p
-      ∙ behind-counts 2 (placesFrom s + 2 * p) (placesFrom t + 2 * p) (rw d) (omega (arith, links-from s, places-from s))
+      ∙ behind-counts 2 (placesFrom (numbersAt s) + 2 * p) (placesFrom (numbersAt t) + 2 * p) (rw d) (omega (arith, links-from (numbersAt s), places-from (numbersAt s)))
       ∙ sym (start-is t p)
 
   split-same : (k : ℕ) → k < splitsHeldAt s → splitAt s k ≡ splitAt t k
@@ -136,8 +136,8 @@ module _ (s rs t : List ℕ) (sound : Sound s) (room : treesHeldAt s < numbersAt
   -- ---- the lanes
 
   module _ (l : ℕ) (h : l < numbersAt s .lanes) where
-    lane-end : laneFrom l + 4104 ≤ treeFrom s (treesHeldAt s)
-    lane-end = omega (arith, lane-from l, tree-from s (treesHeldAt s))
+    lane-end : laneFrom l + 4104 ≤ treeFrom (numbersAt s) (treesHeldAt s)
+    lane-end = omega (arith, lane-from l, tree-from (numbersAt s) (treesHeldAt s))
 
     pub lane-bytes : SameBetween s t (laneFrom l) (laneFrom l + 4104)
     lane-bytes i p q = up-to-list i (omega (arith, lane-from l)) (omega (arith, lane-end))

@@ -13,7 +13,7 @@ use Rattle.trees.specs.Held.{withTree}
 use Rattle.theorems.specs.ListLaws.{Mem}
 use Rattle.theorems.specs.RisingLaws.{Rising}
 use Rattle.layout.specs.Store.{splitsHeldAt, sizeAt, maskAt, countAt, heldAt}
-use Rattle.store.specs.Sound.{Sound}
+use Rattle.layout.specs.Sound.{Sound}
 use Rattle.store.specs.ListTests.{oneIf}
 
 -- the tree with the splits in the rows rs comes behind the others; each of them counts one more

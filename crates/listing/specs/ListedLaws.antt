@@ -16,10 +16,10 @@ use Rattle.fields.specs.Field.{number}
 use Rattle.head.specs.Head.{upTo, numbersAt}
 use Rattle.head.specs.HeadLaws.{upTo-same}
 use Rattle.layout.specs.Store.{treesHeldAt, splitsHeldAt, laneFrom, laneAt, maskAt, countAt, heldAt}
-use Rattle.store.specs.WholeStore.{listed, highestBelow}
-use Rattle.store.specs.WholeFacts.{HeadAt, SplitsAt, ListAt, ChainsAt}
-use Rattle.store.specs.Sound.{Sound}
-use Rattle.store.specs.UpToLaws.{less-or-not}
+use Rattle.layout.specs.WholeStore.{listed, highestBelow}
+use Rattle.layout.specs.WholeFacts.{HeadAt, SplitsAt, ListAt, ChainsAt}
+use Rattle.layout.specs.Sound.{Sound}
+use Rattle.layout.specs.UpToLaws.{less-or-not}
 use Rattle.store.specs.PartFrameLaws.{size-same, lane-length-frame}
 use Rattle.listing.specs.Listed.{Listed, Rows}
 use Rattle.listing.specs.Entering.{Entered}

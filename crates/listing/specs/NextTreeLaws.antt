@@ -16,26 +16,26 @@ use Rattle.theorems.specs.OpeningLaws.{InRange, good-opening}
 use Rattle.head.specs.Head.{numbersAt, openingAt}
 use Rattle.layout.specs.Store.{treesHeldAt, splitsHeldAt, treeFrom, masksFrom, countsFrom, linksFrom, sizeAt}
 use Rattle.layout.specs.StoreLaws.{tree-from, masks-from, counts-from, links-from, size-is}
-use Rattle.store.specs.WholeFacts.{HeadAt}
+use Rattle.layout.specs.WholeFacts.{HeadAt}
 
 module _ (s : List ℕ) where
-  pub list-behind-head : (i : ℕ) → 4096 ≤ treeFrom s i
-  list-behind-head i = omega (arith, tree-from s i)
+  pub list-behind-head : (i : ℕ) → 4096 ≤ treeFrom (numbersAt s) i
+  list-behind-head i = omega (arith, tree-from (numbersAt s) i)
 
-  pub list-end : (i : ℕ) → treeFrom s (suc i) ≡ treeFrom s i + 128
-  list-end i = omega (arith, tree-from s i, tree-from s (suc i))
+  pub list-end : (i : ℕ) → treeFrom (numbersAt s) (suc i) ≡ treeFrom (numbersAt s) i + 128
+  list-end i = omega (arith, tree-from (numbersAt s) i, tree-from (numbersAt s) (suc i))
 
-  pub list-before-masks : (i : ℕ) → i < numbersAt s .treeRoom → treeFrom s i + 128 ≤ masksFrom s
-  list-before-masks i h = omega (arith, tree-from s i, masks-from s)
+  pub list-before-masks : (i : ℕ) → i < numbersAt s .treeRoom → treeFrom (numbersAt s) i + 128 ≤ masksFrom (numbersAt s)
+  list-before-masks i h = omega (arith, tree-from (numbersAt s) i, masks-from (numbersAt s))
 
-  pub masks-before-counts : masksFrom s + 16 * numbersAt s .splitRoom ≤ countsFrom s
-  masks-before-counts = omega (arith, counts-from s)
+  pub masks-before-counts : masksFrom (numbersAt s) + 16 * numbersAt s .splitRoom ≤ countsFrom (numbersAt s)
+  masks-before-counts = omega (arith, counts-from (numbersAt s))
 
-  pub counts-before-links : countsFrom s ≤ linksFrom s
-  counts-before-links = omega (arith, counts-from s, links-from s)
+  pub counts-before-links : countsFrom (numbersAt s) ≤ linksFrom (numbersAt s)
+  counts-before-links = omega (arith, counts-from (numbersAt s), links-from (numbersAt s))
 
-  pub links-before-end : linksFrom s ≤ sizeAt s
-  links-before-end = omega (arith, links-from s, size-is s)
+  pub links-before-end : linksFrom (numbersAt s) ≤ sizeAt s
+  links-before-end = omega (arith, links-from (numbersAt s), size-is s)
 
   module _ (g : HeadAt s) where
     pub ranges : InRange (numbersAt s)
@@ -48,15 +48,15 @@ module _ (s : List ℕ) where
     pub few-splits : splitsHeldAt s ≤ 4096
     few-splits = omega (arith, g .splits-fit, ranges .most-splits)
 
-    pub count-before-links : (k : ℕ) → k < splitsHeldAt s → countsFrom s + 4 * k + 4 ≤ linksFrom s
-    count-before-links k h = omega (arith, counts-from s, links-from s, g .splits-fit)
+    pub count-before-links : (k : ℕ) → k < splitsHeldAt s → countsFrom (numbersAt s) + 4 * k + 4 ≤ linksFrom (numbersAt s)
+    count-before-links k h = omega (arith, counts-from (numbersAt s), links-from (numbersAt s), g .splits-fit)
 
-    pub list-inside : (i : ℕ) → i < numbersAt s .treeRoom → treeFrom s i + 128 ≤ length s
+    pub list-inside : (i : ℕ) → i < numbersAt s .treeRoom → treeFrom (numbersAt s) i + 128 ≤ length s
     list-inside i h = omega (arith, list-before-masks i h, size-is s, g .reached)
 
-    pub count-inside : (k : ℕ) → k < splitsHeldAt s → countsFrom s + 4 * k + 4 ≤ length s
+    pub count-inside : (k : ℕ) → k < splitsHeldAt s → countsFrom (numbersAt s) + 4 * k + 4 ≤ length s
     count-inside k h = omega (arith, count-before-links k h, links-before-end, g .reached)
 
     -- with the numbers that the code reads
-    pub next-inside : treesHeldAt s < numbersAt s .treeRoom → (trees from : ℕ) → trees ≡ treesHeldAt s → from ≡ treeFrom s trees → from + 128 ≤ length s
+    pub next-inside : treesHeldAt s < numbersAt s .treeRoom → (trees from : ℕ) → trees ≡ treesHeldAt s → from ≡ treeFrom (numbersAt s) trees → from + 128 ≤ length s
     next-inside h trees from e f = omega (arith, f, list-inside trees (omega arith))

@@ -18,8 +18,8 @@ use Rattle.trees.specs.Plain.{member}
 use Rattle.theorems.specs.ListLaws.{Mem, mem-left, mem-right, member-not}
 use Rattle.theorems.specs.RisingLaws.{Rising}
 use Rattle.layout.specs.Store.{splitsHeldAt}
-use Rattle.store.specs.WholeFacts.{HeadAt}
-use Rattle.store.specs.UpToLaws.{mem-map}
+use Rattle.layout.specs.WholeFacts.{HeadAt}
+use Rattle.layout.specs.UpToLaws.{mem-map}
 use Rattle.store.specs.ListTests.{oneIf}
 use Rattle.store.specs.ListTestLaws.{mem-getD}
 use Rattle.store.specs.CountLaws.{front-member}

@@ -17,9 +17,9 @@ use Rattle.head.specs.Head.{upTo, numbersAt}
 use Rattle.head.specs.HeadLaws.{upTo-same}
 use Rattle.layout.specs.Store.{treesHeldAt, treeFrom, maskAt, countAt, listAt, treeAt, heldAt}
 use Rattle.layout.specs.StoreLaws.{entriesAt, tree-from, trees-held-is, count-is, tree-is}
-use Rattle.store.specs.WholeStore.{listed}
-use Rattle.store.specs.Sound.{Sound}
-use Rattle.store.specs.UpToLaws.{upTo-more}
+use Rattle.layout.specs.WholeStore.{listed}
+use Rattle.layout.specs.Sound.{Sound}
+use Rattle.layout.specs.UpToLaws.{upTo-more}
 use Rattle.store.specs.ListTests.{oneIf, numberIn}
 use Rattle.store.specs.ListTestLaws.{list-length, list-at}
 use Rattle.store.specs.PartFrameLaws.{SameBetween, map-same, tree-from-same, entries-same, list-same, tree-same}
@@ -36,16 +36,16 @@ module _ (s rs t : List ℕ) (sound : Sound s) (room : treesHeldAt s < numbersAt
   numbers : numbersAt s ≡ numbersAt t
   numbers = numbers-same s rs t sound room e
 
-  from-same : (i : ℕ) → treeFrom s i ≡ treeFrom t i
+  from-same : (i : ℕ) → treeFrom (numbersAt s) i ≡ treeFrom (numbersAt t) i
   from-same = tree-from-same s t numbers
 
   -- ---- the trees that were held
 
   module _ (i : ℕ) (h : i < treesHeldAt s) where
-    tree-bytes : SameBetween s t (treeFrom s i) (treeFrom s i + 128)
+    tree-bytes : SameBetween s t (treeFrom (numbersAt s) i) (treeFrom (numbersAt s) i + 128)
     tree-bytes x p q =
-        let a = tree-from s i in
-        let b = tree-from s (treesHeldAt s) in
+        let a = tree-from (numbersAt s) i in
+        let b = tree-from (numbersAt s) (treesHeldAt s) in
         up-to-list s rs t sound room e x (omega arith) (omega arith)
 
     pub entries-kept : entriesAt s i ≡ entriesAt t i

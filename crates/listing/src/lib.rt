@@ -8,7 +8,7 @@ ghost use Prim.Native.Nat.{ℕ, _+_, _*_, _≤_, _<_};
 ghost use lib.ListN.{length, getD, take};
 ghost use Rattle.head.specs.Head.{numbersAt};
 ghost use Rattle.layout.specs.Store.{treesHeldAt};
-ghost use Rattle.store.specs.Sound.{Sound};
+ghost use Rattle.layout.specs.Sound.{Sound};
 ghost use Rattle.listing.specs.Listed.{Listed, Rows};
 ghost use Rattle.listing.specs.Entering.{RowsWritten, Countable, CountsAdded};
 

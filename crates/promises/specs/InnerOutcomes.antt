@@ -25,9 +25,9 @@ use Rattle.rising.specs.SlotLaws.{insertAt-length, insertAt-before, insert-take
 use Rattle.rising.specs.declared.Slot.{Slot}
 use Rattle.rising.specs.declared.Slot.the-variants.{Free, Taken}
 use Rattle.head.specs.Head.{namesAt}
-use Rattle.store.specs.WholeFacts.{whole-at-facts}
-use Rattle.store.specs.UpToLaws.{less-or-not}
-use Rattle.store.specs.OrderLaws.{mask-same}
+use Rattle.layout.specs.WholeFacts.{whole-at-facts}
+use Rattle.layout.specs.UpToLaws.{less-or-not}
+use Rattle.layout.specs.OrderLaws.{mask-same}
 use Rattle.finding.specs.Rows.{FoundAs}
 use Rattle.finding.specs.declared.Found.{Found}
 use Rattle.finding.specs.declared.Found.the-variants.{Row, Nothing}

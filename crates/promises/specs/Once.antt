@@ -14,7 +14,7 @@ use mathlib.Core.Path.{_≡_}
 use mathlib.Core.List.{List}
 use lib.ListN.{length, getD}
 use Rattle.layout.specs.Store.{sizeAt, heldAt}
-use Rattle.store.specs.WholeStore.{wholeAt}
+use Rattle.layout.specs.WholeStore.{wholeAt}
 use Rattle.feeding.specs.Feeding.{SameOutside}
 
 -- ---- promises

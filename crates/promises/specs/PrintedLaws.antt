@@ -12,7 +12,7 @@ use lib.Seq.{drop-cons, take-at}
 use borrow.Author.Tests.{lt-ltb, le-ltb}
 use Rattle.trees.specs.Plain.{Answer, refused, gives}
 use Rattle.trees.specs.Questions.{ifRoom}
-use Rattle.store.specs.UpToLaws.{less-or-not}
+use Rattle.layout.specs.UpToLaws.{less-or-not}
 use Rattle.table.specs.Answers.{refusalNumber, numberGiven}
 use Rattle.table.specs.Promises.{lengthGiven, front}
 use Rattle.table.specs.Filled.{FilledAs}

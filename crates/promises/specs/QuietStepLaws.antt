@@ -14,7 +14,7 @@ use Rattle.trees.specs.Runs.{answers}
 use Rattle.theorems.specs.Quiet.{Quiet, SaveLane}
 use Rattle.theorems.specs.QuietLaws.{quiet-append, quiet-run, save-questions, save-collisions}
 use Rattle.layout.specs.Store.{heldAt}
-use Rattle.store.specs.WholeStore.{wholeAt}
+use Rattle.layout.specs.WholeStore.{wholeAt}
 use Rattle.promises.specs.Calls.{Made, Told, told, after, handed, handedAll}
 use Rattle.promises.specs.Steps.{Steps}
 use Rattle.promises.specs.BatchLaws.{told-same}

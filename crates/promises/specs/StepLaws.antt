@@ -27,7 +27,7 @@ use Rattle.theorems.specs.WrittenFedLaws.{feeding-by}
 use Rattle.theorems.specs.RunLaws.{ending-opening}
 use Rattle.opening.specs.Given.{openingOf}
 use Rattle.layout.specs.Store.{heldAt}
-use Rattle.store.specs.WholeStore.{wholeAt}
+use Rattle.layout.specs.WholeStore.{wholeAt}
 use Rattle.store.specs.HeldWholeLaws.{held-numbers}
 use Rattle.table.specs.Answers.{finishGiven, numberGiven}
 use Rattle.table.specs.Promises.{Holds, OpenedAs, lengthGiven, front}

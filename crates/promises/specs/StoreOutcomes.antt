@@ -18,10 +18,10 @@ use Rattle.trees.specs.Opening.{Opening, storeSize}
 use Rattle.trees.specs.Held.{Held, Lane, withLane, withTree}
 use Rattle.head.specs.Head.{numbersAt}
 use Rattle.layout.specs.Store.{treesHeldAt, splitsHeldAt, sizeAt, maskAt, countAt, heldAt}
-use Rattle.store.specs.WholeStore.{wholeAt, listed}
-use Rattle.store.specs.WholeFacts.{whole-at-facts}
-use Rattle.store.specs.Sound.{Sound, sound-whole}
-use Rattle.store.specs.UpToLaws.{less-or-not}
+use Rattle.layout.specs.WholeStore.{wholeAt, listed}
+use Rattle.layout.specs.WholeFacts.{whole-at-facts}
+use Rattle.layout.specs.Sound.{Sound, sound-whole}
+use Rattle.layout.specs.UpToLaws.{less-or-not}
 use Rattle.store.specs.CountLaws.{listed-same}
 use Rattle.store.specs.RecordedAtLaws.{trees-length}
 use Rattle.lanes.specs.Lanes.{LaneIs}

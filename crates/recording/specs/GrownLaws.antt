@@ -24,14 +24,14 @@ use Rattle.theorems.specs.ListLaws.{and-left, and-right, every-at, member-not, 
 use Rattle.theorems.specs.RisingLaws.{Rising, rising-true}
 use Rattle.head.specs.Head.{numbersAt, firstAt, secondAt, openingAt}
 use Rattle.layout.specs.Store.{splitsHeldAt, sizeAt, maskAt, masksAt, heldAt}
-use Rattle.store.specs.WholeStore.{wholeAt}
-use Rattle.store.specs.WholeFacts.{whole-at-facts}
-use Rattle.store.specs.Sound.{whole-sound}
-use Rattle.store.specs.OrderLaws.{masks-mem, mem-masks}
+use Rattle.layout.specs.WholeStore.{wholeAt}
+use Rattle.layout.specs.WholeFacts.{whole-at-facts}
+use Rattle.layout.specs.Sound.{whole-sound}
+use Rattle.layout.specs.OrderLaws.{masks-mem, mem-masks}
 use Rattle.store.specs.Chain.{placeIn}
 use Rattle.store.specs.ChainLaws.{look-finds, look-nothing}
 use Rattle.store.specs.ListTestLaws.{mem-getD}
-use Rattle.store.specs.UpToLaws.{less-or-not}
+use Rattle.layout.specs.UpToLaws.{less-or-not}
 use Rattle.finding.specs.Rows.{rowsFor}
 use Rattle.finding.specs.NewLaws.{new-none, new-found, new-missing, new-append}
 use Rattle.finding.specs.RowLaws.{row-found, row-new, row-below}

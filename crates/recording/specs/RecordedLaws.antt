@@ -19,13 +19,13 @@ use Rattle.theorems.specs.ListLaws.{and-left, and-right, Mem, mem-member}
 use Rattle.theorems.specs.RisingLaws.{rising-true}
 use Rattle.head.specs.Head.{numbersAt}
 use Rattle.layout.specs.Store.{treesHeldAt, splitsHeldAt, sizeAt, maskAt, countAt}
-use Rattle.store.specs.WholeStore.{wholeAt}
-use Rattle.store.specs.WholeFacts.{whole-at-facts}
-use Rattle.store.specs.Sound.{sound-whole}
+use Rattle.layout.specs.WholeStore.{wholeAt}
+use Rattle.layout.specs.WholeFacts.{whole-at-facts}
+use Rattle.layout.specs.Sound.{sound-whole}
 use Rattle.store.specs.ListTests.{oneIf}
 use Rattle.store.specs.ListTestLaws.{length-map, map-at, mem-getD}
 use Rattle.store.specs.RecordedAtLaws.{trees-length}
-use Rattle.store.specs.UpToLaws.{less-or-not}
+use Rattle.layout.specs.UpToLaws.{less-or-not}
 use Rattle.listing.specs.Listed.{Listed, Rows}
 use Rattle.recording.specs.Recording.{Recordable, Recorded, Grown}
 use Rattle.recording.specs.GrownLaws.{numbers-held}

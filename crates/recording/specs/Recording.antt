@@ -14,8 +14,8 @@ use Rattle.trees.specs.Held.{newSplits, withTree}
 use Rattle.trees.specs.Whole.{goodTree}
 use Rattle.head.specs.Head.{numbersAt, secondAt}
 use Rattle.layout.specs.Store.{treesHeldAt, splitsHeldAt, sizeAt, maskAt, countAt, heldAt}
-use Rattle.store.specs.WholeStore.{wholeAt}
-use Rattle.store.specs.Sound.{Sound}
+use Rattle.layout.specs.WholeStore.{wholeAt}
+use Rattle.layout.specs.Sound.{Sound}
 use Rattle.store.specs.Chain.{placeIn}
 use Rattle.finding.specs.Rows.{rowsFor}
 

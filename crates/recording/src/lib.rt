@@ -6,7 +6,7 @@ ghost use mathlib.Core.Path.{_≡_};
 ghost use mathlib.Core.Bool.{true};
 ghost use lib.ListN.{take};
 ghost use Rattle.layout.specs.Store.{splitsHeldAt};
-ghost use Rattle.store.specs.WholeStore.{wholeAt};
+ghost use Rattle.layout.specs.WholeStore.{wholeAt};
 ghost use Rattle.recording.specs.Recording.{Recordable, Recorded, Grown};
 
 // Records the tree of the first n masks, whose places, identifiers and rows stand beside them.

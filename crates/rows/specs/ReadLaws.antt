@@ -16,10 +16,11 @@ use mathlib.Core.List.{List}
 use lib.ListN.{length, getD}
 use Rattle.fields.specs.Field.{number}
 use Rattle.fields.specs.FieldLaws.{number-below}
+use Rattle.head.specs.Head.{numbersAt}
 use Rattle.layout.specs.Store.{treesHeldAt, splitsHeldAt, treeFrom, masksFrom, countsFrom, orderFrom, maskAt, countAt, orderAt, listAt, treeAt}
 use Rattle.layout.specs.StoreLaws.{count-is, entryAt}
-use Rattle.store.specs.WholeStore.{goodHead, wholeAt}
-use Rattle.store.specs.WholeFacts.{WholeAt, whole-at-facts, facts-head}
+use Rattle.layout.specs.WholeStore.{goodHead, wholeAt}
+use Rattle.layout.specs.WholeFacts.{WholeAt, whole-at-facts, facts-head}
 use Rattle.store.specs.GoodHeadLaws.{good-head as fields-head, order-fits, mask-fits}
 use Rattle.store.specs.RoomLaws.{GoodHead, good-head, counts-inside}
 use Rattle.store.specs.RoomLaws as room
@@ -45,13 +46,13 @@ module _ (s : List ℕ) (w : wholeAt s ≡ true) where
     pub split-small : k < 4096
     split-small = omega (arith, head-at .splits, head-at .ranges .most-splits)
 
-    pub row-inside : orderFrom s + 2 * k + 2 ≤ length s
+    pub row-inside : orderFrom (numbersAt s) + 2 * k + 2 ≤ length s
     row-inside = order-fits s (fields-head s head-passes) k h
 
-    pub mask-inside : masksFrom s + 8 * k + 8 ≤ length s
+    pub mask-inside : masksFrom (numbersAt s) + 8 * k + 8 ≤ length s
     mask-inside = mask-fits s (fields-head s head-passes) k h
 
-    pub count-inside : countsFrom s + 4 * k + 4 ≤ length s
+    pub count-inside : countsFrom (numbersAt s) + 4 * k + 4 ≤ length s
     count-inside = omega (arith, counts-inside s head-at)
 
     pub row-below : orderAt s k < splitsHeldAt s
@@ -63,14 +64,14 @@ module _ (s : List ℕ) (w : wholeAt s ≡ true) where
     pub tree-small : i < 65536
     tree-small = omega (arith, head-at .trees, head-at .ranges .most-trees)
 
-    pub tree-inside : treeFrom s i + 128 ≤ length s
+    pub tree-inside : treeFrom (numbersAt s) i + 128 ≤ length s
     tree-inside = room.tree-inside s head-at i h
 
     pub tree-most : length (treeAt s i) ≤ 62
     tree-most = omega (arith, tree-length s i, facts .lists i h .few)
 
     module _ (j : ℕ) (l : j < length (treeAt s i)) where
-      in-list : j < number 2 s (treeFrom s i)
+      in-list : j < number 2 s (treeFrom (numbersAt s) i)
       in-list = omega (arith, tree-length s i)
 
       pub entry-below : entryAt s i j < splitsHeldAt s
@@ -86,11 +87,11 @@ module _ (s : List ℕ) (w : wholeAt s ≡ true) where
 -- ---- what the code reads
 
 module _ (s : List ℕ) (k at x : ℕ) where
-  pub count-read : at ≡ countsFrom s → x ≡ number 4 s (at + 4 * k) → x ≡ countAt s k
+  pub count-read : at ≡ countsFrom (numbersAt s) → x ≡ number 4 s (at + 4 * k) → x ≡ countAt s k
   count-read e q = rw (count-is s k, ← e) q
 
-  pub length-read : at ≡ treeFrom s k → x ≡ number 2 s at → x ≡ length (treeAt s k)
+  pub length-read : at ≡ treeFrom (numbersAt s) k → x ≡ number 2 s at → x ≡ length (treeAt s k)
   length-read e q = rw (tree-length s k, ← e) q
 
 pub count-small : (s : List ℕ) (k x : ℕ) → ((i : ℕ) → getD s i 0 < 256) → x ≡ countAt s k → x < 2 ^ 32
-count-small s k x bytes e = omega (arith, e, count-is s k, number-below 4 s (countsFrom s + 4 * k) bytes)
+count-small s k x bytes e = omega (arith, e, count-is s k, number-below 4 s (countsFrom (numbersAt s) + 4 * k) bytes)

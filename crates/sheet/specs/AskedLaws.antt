@@ -17,7 +17,7 @@ use Rattle.trees.specs.Plain.{bytes, Answer, refused}
 use Rattle.trees.specs.Questions.{ifRoom}
 use Rattle.fields.specs.Run.{copied}
 use Rattle.layout.specs.Store.{treesHeldAt, splitsHeldAt, heldAt}
-use Rattle.store.specs.WholeStore.{wholeAt}
+use Rattle.layout.specs.WholeStore.{wholeAt}
 use Rattle.table.specs.declared.Number.{Number}
 use Rattle.table.specs.declared.Number.the-variants as number
 use Rattle.table.specs.declared.Refusal.the-variants as why

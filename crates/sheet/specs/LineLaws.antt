@@ -36,9 +36,9 @@ use Rattle.head.specs.Head.{fromTo, upTo, numbersAt, namesAt, openingAt}
 use Rattle.head.specs.HeadLaws.{upTo-length}
 use Rattle.layout.specs.Store.{treesHeldAt, splitsHeldAt, maskAt, countAt, orderAt, splitAt, treeAt, heldAt}
 use Rattle.layout.specs.StoreLaws.{split-is}
-use Rattle.store.specs.WholeStore.{wholeAt}
-use Rattle.store.specs.WholeFacts.{whole-at-facts}
-use Rattle.store.specs.UpToLaws.{upTo-more}
+use Rattle.layout.specs.WholeStore.{wholeAt}
+use Rattle.layout.specs.WholeFacts.{whole-at-facts}
+use Rattle.layout.specs.UpToLaws.{upTo-more}
 use Rattle.store.specs.RecordedAtLaws.{held-trees, trees-length, recorded-length}
 use Rattle.store.specs.HeldWholeLaws.{held-numbers, opening-facts}
 use Rattle.table.specs.declared.Refusal.{Refusal}

@@ -30,8 +30,8 @@ use Rattle.theorems.specs.WrittenLaws.{written-length}
 use Rattle.theorems.specs.ConsensusLaws.{count-most, good-proper, strict-good, majority-good}
 use Rattle.head.specs.Head.{numbersAt, namesAt, openingAt}
 use Rattle.layout.specs.Store.{heldAt}
-use Rattle.store.specs.WholeStore.{wholeAt}
-use Rattle.store.specs.WholeFacts.{whole-at-facts}
+use Rattle.layout.specs.WholeStore.{wholeAt}
+use Rattle.layout.specs.WholeFacts.{whole-at-facts}
 use Rattle.store.specs.RecordedAtLaws.{trees-length, recorded-length}
 use Rattle.store.specs.HeldWholeLaws.{held-numbers, opening-facts}
 use Rattle.distances.specs.LackLaws.{oneSided-most}

@@ -13,7 +13,7 @@ use lib.Seq.{getD-append-add}
 use Rattle.trees.specs.Consensus.{recorded}
 use Rattle.trees.specs.Held.{Held}
 use Rattle.layout.specs.Store.{treesHeldAt, splitsHeldAt, splitAt, treeAt, heldAt}
-use Rattle.store.specs.WholeStore.{wholeAt}
+use Rattle.layout.specs.WholeStore.{wholeAt}
 use Rattle.store.specs.RecordedAtLaws.{trees-length, tree-at, recorded-length, recorded-mask}
 use Rattle.sheet.specs.Sheet.{countsLine, splitLine, rowLine, majorityLine, strictLine, sheetLines}
 

@@ -7,7 +7,7 @@ ghost use mathlib.Core.List.{[], _∷_, _++_};
 ghost use Prim.Native.Nat.{_+_, _≤_, _<_};
 ghost use lib.ListN.{getD};
 ghost use Rattle.layout.specs.Store.{treesHeldAt, splitsHeldAt, treeAt, splitAt, heldAt};
-ghost use Rattle.store.specs.WholeStore.{wholeAt};
+ghost use Rattle.layout.specs.WholeStore.{wholeAt};
 ghost use Rattle.writer.specs.Branch.{Put};
 ghost use Rattle.sheet.specs.Sheet.{countsLine, splitLine, rowLine, majorityLine, strictLine, sheetLines};
 ghost use Rattle.sheet.specs.Lines.{answerText, Shown};

@@ -24,10 +24,10 @@ use Rattle.trees.specs.Hash.{place}
 use Rattle.theorems.specs.ListLaws.{by-test, if-true, if-false, Mem, member-not, not-member}
 use Rattle.head.specs.Head.{numbersAt, openingAt}
 use Rattle.layout.specs.Store.{splitsHeldAt, maskAt, masksAt, linkAt, startAt}
-use Rattle.store.specs.WholeStore.{highestBelow, wholeAt}
-use Rattle.store.specs.WholeFacts.{ChainsAt, whole-at-facts}
-use Rattle.store.specs.UpToLaws.{less-or-not}
-use Rattle.store.specs.OrderLaws.{masks-mem, mem-masks, mask-same}
+use Rattle.layout.specs.WholeStore.{highestBelow, wholeAt}
+use Rattle.layout.specs.WholeFacts.{ChainsAt, whole-at-facts}
+use Rattle.layout.specs.UpToLaws.{less-or-not}
+use Rattle.layout.specs.OrderLaws.{masks-mem, mem-masks, mask-same}
 use Rattle.store.specs.HeldWholeLaws.{opening-facts}
 use Rattle.store.specs.Chain.{placeIn, metFrom, met, ofPlace, Falling, lookFrom, lookAt, look}
 

@@ -24,7 +24,7 @@ use Rattle.theorems.specs.ListLaws.{if-true, if-false}
 use Rattle.fields.specs.Field.{number}
 use Rattle.head.specs.Head.{numbersAt, firstAt}
 use Rattle.layout.specs.Store.{splitsHeldAt, linksFrom, placesFrom, maskAt, linkAt, startAt}
-use Rattle.store.specs.WholeStore.{allBelow, highestBelow, goodLink, goodStart, goodChains}
+use Rattle.layout.specs.WholeStore.{allBelow, highestBelow, goodLink, goodStart, goodChains}
 use Rattle.store.specs.Splits.{placeAt, Highest}
 
 pub equal-or-not : (a b : ℕ) → (a ≡ b) ⊎ (a ≡ b → ⊥)
@@ -67,15 +67,15 @@ module _ (s : List ℕ) where
   -- ---- links and starts
 
   module _ (k at x : ℕ) where
-    pub link-read : at ≡ linksFrom s → x ≡ number 2 s (at + 2 * k) → x ≡ linkAt s k
+    pub link-read : at ≡ linksFrom (numbersAt s) → x ≡ number 2 s (at + 2 * k) → x ≡ linkAt s k
     unfolding linkAt
     link-read a i = i ∙ rw a
 
-    pub start-read : at ≡ placesFrom s → x ≡ number 2 s (at + 2 * k) → x ≡ startAt s k
+    pub start-read : at ≡ placesFrom (numbersAt s) → x ≡ number 2 s (at + 2 * k) → x ≡ startAt s k
     unfolding startAt
     start-read a i = i ∙ rw a
 
-  module _ (k at x p y : ℕ) (a : at ≡ linksFrom s) (i : x ≡ number 2 s (at + 2 * k)) (e : p ≡ placeAt s k) (j : y ≡ highestBelow s p k) where
+  module _ (k at x p y : ℕ) (a : at ≡ linksFrom (numbersAt s)) (i : x ≡ number 2 s (at + 2 * k)) (e : p ≡ placeAt s k) (j : y ≡ highestBelow s p k) where
     pub link-good : x ≡ y → goodLink s k ≡ true
     unfolding goodLink placeAt
     link-good d = eq-eqb _ _ (sym (link-read k at x a i) ∙ d ∙ j ∙ rw e)
@@ -84,7 +84,7 @@ module _ (s : List ℕ) where
     unfolding goodLink placeAt
     link-bad f = ne-eqb _ _ (λ d. f (link-read k at x a i ∙ d ∙ sym (j ∙ rw e)))
 
-  module _ (p at x y : ℕ) (a : at ≡ placesFrom s) (i : x ≡ number 2 s (at + 2 * p)) (j : y ≡ highestBelow s p (splitsHeldAt s)) where
+  module _ (p at x y : ℕ) (a : at ≡ placesFrom (numbersAt s)) (i : x ≡ number 2 s (at + 2 * p)) (j : y ≡ highestBelow s p (splitsHeldAt s)) where
     pub start-good : x ≡ y → goodStart s p ≡ true
     unfolding goodStart
     start-good d = eq-eqb _ _ (sym (start-read p at x a i) ∙ d ∙ j)

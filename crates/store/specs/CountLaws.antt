@@ -26,13 +26,14 @@ use Rattle.theorems.specs.ListLaws.{Mem, member-not}
 use Rattle.theorems.specs.RisingLaws.{Rising}
 use Rattle.fields.specs.Field.{number}
 use Rattle.head.specs.HeadLaws.{upTo-same}
+use Rattle.head.specs.Head.{numbersAt}
 use Rattle.layout.specs.Store.{treesHeldAt, splitsHeldAt, countsFrom, maskAt, countAt, listAt, treeAt}
 use Rattle.layout.specs.StoreLaws.{tree-is}
-use Rattle.store.specs.WholeStore.{listed, goodCount}
+use Rattle.layout.specs.WholeStore.{listed, goodCount}
 use Rattle.store.specs.ListTests.{oneIf, CountedPart, Counted}
 use Rattle.store.specs.ListTestLaws.{mem-getD}
 use Rattle.store.specs.ChainTests.{equal-or-not}
-use Rattle.store.specs.UpToLaws.{mem-map, listed-nil, listed-next}
+use Rattle.layout.specs.UpToLaws.{mem-map, listed-nil, listed-next}
 
 -- ---- one tree more
 
@@ -131,7 +132,7 @@ counted-none s = record { size = length-replicate {A = ℕ} 4096 0; entries = λ
 
 -- ---- a count's test, in the order of the code
 
-module _ (s : List ℕ) (k first x : ℕ) (d : first ≡ countsFrom s) (q : x ≡ number 4 s (first + 4 * k)) where
+module _ (s : List ℕ) (k first x : ℕ) (d : first ≡ countsFrom (numbersAt s)) (q : x ≡ number 4 s (first + 4 * k)) where
   count-at : countAt s k ≡ x
   unfolding countAt
   count-at = rw (← d) (sym q)

@@ -18,9 +18,9 @@ use Rattle.fields.specs.Field.{number}
 use Rattle.head.specs.Head.{numbersAt, openingAt, firstAt, secondAt, upTo}
 use Rattle.head.specs.HeadLaws.{upTo-same, numbers-same, first-same, second-same, head-same}
 use Rattle.layout.specs.Store.{treesHeldAt, splitsHeldAt, laneFrom, treeFrom, sizeAt, laneAt, maskAt, orderAt, splitAt, masksAt, listAt, treeAt, heldAt}
-use Rattle.store.specs.WholeStore.{highestBelow, wholeAt}
-use Rattle.store.specs.WholeFacts.{HeadAt, SplitsAt, ListAt, CountAt, ChainsAt, WholeAt, whole-at-facts, facts-whole-at}
-use Rattle.store.specs.UpToLaws.{bool-same}
+use Rattle.layout.specs.WholeStore.{highestBelow, wholeAt}
+use Rattle.layout.specs.WholeFacts.{HeadAt, SplitsAt, ListAt, CountAt, ChainsAt, WholeAt, whole-at-facts, facts-whole-at}
+use Rattle.layout.specs.UpToLaws.{bool-same}
 use Rattle.store.specs.Chain.{placeIn}
 use Rattle.store.specs.ChainLaws.{highest-same}
 use Rattle.store.specs.CountLaws.{listed-same}
@@ -39,9 +39,9 @@ module _ (s t : List ℕ) (h : (i : ℕ) → i < 4096 → getD s i 0 ≡ getD t 
   pub splits-held-frame : splitsHeldAt s ≡ splitsHeldAt t
   splits-held-frame = splits-held-is s ∙ number-frame s t 2 12 12 refl (λ i p q. h i (omega arith)) ∙ sym (splits-held-is t)
 
-  module _ (b : SameBetween s t (treeFrom s 0) (sizeAt s)) (long : sizeAt s ≤ length t) (bytes : (i : ℕ) → getD s i 0 < 256) (w : WholeAt s) where
+  module _ (b : SameBetween s t (treeFrom (numbersAt s) 0) (sizeAt s)) (long : sizeAt s ≤ length t) (bytes : (i : ℕ) → getD s i 0 < 256) (w : WholeAt s) where
     long-head : 4096 ≤ length t
-    long-head = omega (arith, masks-from s, size-is s)
+    long-head = omega (arith, masks-from (numbersAt s), size-is s)
 
     few : numbersAt s .taxa ≤ 64
     unfolding openingAt
@@ -165,13 +165,13 @@ module _ (s t : List ℕ) (h : (i : ℕ) → i < 4096 → getD s i 0 ≡ getD t 
 
 module _ (s t : List ℕ) (h : (i : ℕ) → i < sizeAt s → getD s i 0 ≡ getD t i 0) where
   head-kept : (i : ℕ) → i < 4096 → getD s i 0 ≡ getD t i 0
-  head-kept i l = h i (omega (arith, masks-from s, size-is s))
+  head-kept i l = h i (omega (arith, masks-from (numbersAt s), size-is s))
 
-  behind-kept : SameBetween s t (treeFrom s 0) (sizeAt s)
+  behind-kept : SameBetween s t (treeFrom (numbersAt s) 0) (sizeAt s)
   behind-kept i a b = h i b
 
   lane-kept : (l : ℕ) → l < numbersAt s .lanes → SameBetween s t (laneFrom l) (laneFrom l + 4104)
-  lane-kept l m i a b = h i (omega (arith, lane-from l, masks-from s, size-is s))
+  lane-kept l m i a b = h i (omega (arith, lane-from l, masks-from (numbersAt s), size-is s))
 
   pub size-kept : sizeAt s ≡ sizeAt t
   size-kept = size-same s t (numbers s t head-kept)
@@ -189,7 +189,7 @@ module _ (s t : List ℕ) (h : (i : ℕ) → i < sizeAt s → getD s i 0 ≡ get
     text-kept : (l : ℕ) → l < numbersAt s .lanes → laneAt s l ≡ laneAt t l
     text-kept l m =
         let a = lane-from l in
-        let b = masks-from s in
+        let b = masks-from (numbersAt s) in
         let c = size-is s in
         let d = facts .head .reached in
         lane-frame s t l (lane-kept l m) (omega arith) (omega arith) (facts .lanes l m)

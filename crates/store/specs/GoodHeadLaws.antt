@@ -24,7 +24,7 @@ use Rattle.theorems.specs.OpeningLaws.{both, InRange, GoodOpening, good-opening
 use Rattle.head.specs.Head.{numbersAt, firstAt, openingAt}
 use Rattle.head.specs.HeadLaws.{first-length}
 use Rattle.layout.specs.Store.{treesHeldAt, splitsHeldAt, laneFrom, treeFrom, masksFrom, identifiersFrom, linksFrom, orderFrom, placesFrom, sizeAt}
-use Rattle.store.specs.WholeStore.{goodHead}
+use Rattle.layout.specs.WholeStore.{goodHead}
 use Rattle.store.specs.Sums.{constantsAt, Sums, SumBy}
 use Rattle.store.specs.SumLaws.{sumOver-most, first-sum}
 
@@ -35,10 +35,10 @@ pub record GoodHead (s : List ℕ) : Type 0 where
   pub size : sizeAt s ≤ length s
   pub trees-fit : treesHeldAt s ≤ numbersAt s .treeRoom
   pub splits-fit : splitsHeldAt s ≤ numbersAt s .splitRoom
-  pub end : placesFrom s + 2 * numbersAt s .places ≤ length s
+  pub end : placesFrom (numbersAt s) + 2 * numbersAt s .places ≤ length s
 
 module _ (s : List ℕ) where
-  pub places-end : placesFrom s + 2 * numbersAt s .places ≡ sizeAt s
+  pub places-end : placesFrom (numbersAt s) + 2 * numbersAt s .places ≡ sizeAt s
   unfolding placesFrom masksFrom treeFrom laneFrom sizeAt storeSize
   places-end = refl
 
@@ -79,23 +79,23 @@ module _ (s : List ℕ) where
   sum-read g t m r h d = omega (arith, first-sum s t m r h d, sum-most g m)
 
   module _ (g : GoodHead s) (k : ℕ) (h : k < splitsHeldAt s) where
-    pub mask-fits : masksFrom s + 8 * k + 8 ≤ length s
+    pub mask-fits : masksFrom (numbersAt s) + 8 * k + 8 ≤ length s
     unfolding placesFrom
     mask-fits = omega (arith, g .end, g .splits-fit)
 
-    pub identifier-fits : identifiersFrom s + 8 * k + 8 ≤ length s
+    pub identifier-fits : identifiersFrom (numbersAt s) + 8 * k + 8 ≤ length s
     unfolding placesFrom identifiersFrom
     identifier-fits = omega (arith, g .end, g .splits-fit)
 
-    pub order-fits : orderFrom s + 2 * k + 2 ≤ length s
+    pub order-fits : orderFrom (numbersAt s) + 2 * k + 2 ≤ length s
     unfolding placesFrom orderFrom
     order-fits = omega (arith, g .end, g .splits-fit)
 
-    pub link-fits : linksFrom s + 2 * k + 2 ≤ length s
+    pub link-fits : linksFrom (numbersAt s) + 2 * k + 2 ≤ length s
     unfolding placesFrom linksFrom
     link-fits = omega (arith, g .end, g .splits-fit)
 
-  pub start-fits : GoodHead s → (p : ℕ) → p < numbersAt s .places → placesFrom s + 2 * p + 2 ≤ length s
+  pub start-fits : GoodHead s → (p : ℕ) → p < numbersAt s .places → placesFrom (numbersAt s) + 2 * p + 2 ≤ length s
   start-fits g p h = omega (arith, g .end)
 
   module _ (g : GoodHead s) (m p : ℕ) (e : p ≡ place (firstAt s) (numbersAt s .places) m) where

@@ -32,7 +32,7 @@ use Rattle.head.specs.HeadLaws.{upTo-length, upTo-at, names-length, first-lengt
 use Rattle.opening.specs.Given.{numbersOf}
 use Rattle.opening.specs.GivenLaws.{constants-below}
 use Rattle.layout.specs.Store.{treesHeldAt, splitsHeldAt, sizeAt}
-use Rattle.store.specs.WholeStore.{goodHead}
+use Rattle.layout.specs.WholeStore.{goodHead}
 
 -- ---- a list of numbers that are all below a bound
 

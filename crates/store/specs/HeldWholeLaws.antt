@@ -27,10 +27,10 @@ use Rattle.fields.specs.Field.{number}
 use Rattle.head.specs.Head.{numbersAt, openingAt}
 use Rattle.head.specs.HeadLaws.{upTo-length}
 use Rattle.layout.specs.Store.{treesHeldAt, laneFrom, treeAt, laneAt, heldAt}
-use Rattle.store.specs.WholeStore.{wholeAt}
-use Rattle.store.specs.WholeFacts.{WholeAt, whole-at-facts}
-use Rattle.store.specs.UpToLaws.{upTo-mem}
-use Rattle.store.specs.OrderLaws.{mask-proper}
+use Rattle.layout.specs.WholeStore.{wholeAt}
+use Rattle.layout.specs.WholeFacts.{WholeAt, whole-at-facts}
+use Rattle.layout.specs.UpToLaws.{upTo-mem}
+use Rattle.layout.specs.OrderLaws.{mask-proper}
 use Rattle.store.specs.RecordedAtLaws.{trees-length, trees-mem, tree-mem, recorded-length}
 
 -- ---- what any bytes are read as

@@ -1,11 +1,4 @@
 -- The definitions that the contracts cite, the laws of what a store holds, and the laws of the tests' code.
-pub mod WholeStore
-pub mod AllLaws
-pub mod WholeFacts
-pub mod UpToLaws
-pub mod PigeonLaws
-pub mod OrderLaws
-pub mod Sound
 pub mod RecordedAtLaws
 pub mod HeldWholeLaws
 pub mod Chain

@@ -26,10 +26,10 @@ use Rattle.trees.specs.Whole.{rising, agreeInPairs}
 use Rattle.theorems.specs.ListLaws.{and-left, and-right, Mem, every-at}
 use Rattle.theorems.specs.RisingLaws.{Rising, rising-true, true-rising}
 use Rattle.fields.specs.Field.{number}
-use Rattle.head.specs.Head.{upTo}
+use Rattle.head.specs.Head.{numbersAt, upTo}
 use Rattle.head.specs.HeadLaws.{upTo-length, upTo-at}
 use Rattle.layout.specs.Store.{laneFrom, treeFrom, splitsHeldAt, masksFrom, maskAt, listAt, treeAt}
-use Rattle.store.specs.WholeStore.{goodList, goodLaneAt}
+use Rattle.layout.specs.WholeStore.{goodList, goodLaneAt}
 use Rattle.store.specs.ListTests.{numberIn, allRows}
 use Rattle.store.specs.NeighbourLaws.{rise-neighbours, neighbours-rise}
 
@@ -44,19 +44,19 @@ map-at f [] j h = absurd (omega arith)
 map-at f (x ∷ l) zero h = refl
 map-at f (x ∷ l) (suc j) h = map-at f l j (omega arith)
 
-pub list-length : (s : List ℕ) (i : ℕ) → length (listAt s i) ≡ number 2 s (treeFrom s i)
+pub list-length : (s : List ℕ) (i : ℕ) → length (listAt s i) ≡ number 2 s (treeFrom (numbersAt s) i)
 unfolding listAt
-list-length s i = upTo-length _ (number 2 s (treeFrom s i))
+list-length s i = upTo-length _ (number 2 s (treeFrom (numbersAt s) i))
 
-pub list-at : (s : List ℕ) (i j : ℕ) → j < number 2 s (treeFrom s i) → getD (listAt s i) j 0 ≡ numberIn s i j
+pub list-at : (s : List ℕ) (i j : ℕ) → j < number 2 s (treeFrom (numbersAt s) i) → getD (listAt s i) j 0 ≡ numberIn s i j
 unfolding listAt numberIn
-list-at s i j h = upTo-at _ (number 2 s (treeFrom s i)) j 0 h
+list-at s i j h = upTo-at _ (number 2 s (treeFrom (numbersAt s) i)) j 0 h
 
-pub tree-length : (s : List ℕ) (i : ℕ) → length (treeAt s i) ≡ number 2 s (treeFrom s i)
+pub tree-length : (s : List ℕ) (i : ℕ) → length (treeAt s i) ≡ number 2 s (treeFrom (numbersAt s) i)
 unfolding treeAt
 tree-length s i = length-map (maskAt s) (listAt s i) ∙ list-length s i
 
-pub tree-at : (s : List ℕ) (i j : ℕ) → j < number 2 s (treeFrom s i) → getD (treeAt s i) j 0 ≡ maskAt s (numberIn s i j)
+pub tree-at : (s : List ℕ) (i j : ℕ) → j < number 2 s (treeFrom (numbersAt s) i) → getD (treeAt s i) j 0 ≡ maskAt s (numberIn s i j)
 unfolding treeAt
 tree-at s i j h = let l = list-length s i in map-at (maskAt s) (listAt s i) j (omega arith) ∙ ap (maskAt s) (list-at s i j h)
 
@@ -109,14 +109,14 @@ module _ (l : List ℕ) (n : ℕ) (h : n ≤ length l) where
 -- ---- what the code reads
 
 -- the number that lies 2 and twice j bytes behind where tree i begins
-pub list-number : (s : List ℕ) (i j from x : ℕ) → j < number 2 s (treeFrom s i) → from ≡ treeFrom s i + 2 → x ≡ number 2 s (from + 2 * j)
+pub list-number : (s : List ℕ) (i j from x : ℕ) → j < number 2 s (treeFrom (numbersAt s) i) → from ≡ treeFrom (numbersAt s) i + 2 → x ≡ number 2 s (from + 2 * j)
     → getD (listAt s i) j 0 ≡ x
 unfolding numberIn
 list-number s i j from x h e q = list-at s i j h ∙ rw (← e) (sym q)
 
 -- it is a recorded split's
 pub number-recorded : (s : List ℕ) (i j from x : ℕ) → allRows (splitsHeldAt s) (listAt s i) ≡ true
-    → j < number 2 s (treeFrom s i) → from ≡ treeFrom s i + 2 → x ≡ number 2 s (from + 2 * j) → x < splitsHeldAt s
+    → j < number 2 s (treeFrom (numbersAt s) i) → from ≡ treeFrom (numbersAt s) i + 2 → x ≡ number 2 s (from + 2 * j) → x < splitsHeldAt s
 unfolding allRows
 number-recorded s i j from x r h e q =
     let n = list-length s i in
@@ -124,8 +124,8 @@ number-recorded s i j from x r h e q =
     rw (← list-number s i j from x h e q) (ltb-true _ _ (every-at (λ k. ltb k (splitsHeldAt s)) (listAt s i) r _ m))
 
 -- and the mask of that split is the tree's mask j
-pub tree-mask : (s : List ℕ) (i j from x first m : ℕ) → j < number 2 s (treeFrom s i) → from ≡ treeFrom s i + 2
-    → x ≡ number 2 s (from + 2 * j) → first ≡ masksFrom s → m ≡ number 8 s (first + 8 * x) → getD (treeAt s i) j 0 ≡ m
+pub tree-mask : (s : List ℕ) (i j from x first m : ℕ) → j < number 2 s (treeFrom (numbersAt s) i) → from ≡ treeFrom (numbersAt s) i + 2
+    → x ≡ number 2 s (from + 2 * j) → first ≡ masksFrom (numbersAt s) → m ≡ number 8 s (first + 8 * x) → getD (treeAt s i) j 0 ≡ m
 unfolding maskAt
 tree-mask s i j from x first m h e q d p = tree-at s i j h ∙ rw (← list-at s i j h, list-number s i j from x h e q, ← d) (sym p)
 
@@ -148,19 +148,19 @@ lane-short s l h = le-leb _ _ h
 -- ---- a list's test, in the order of the code
 
 module _ (s : List ℕ) (i : ℕ) where
-  pub list-long : 62 < number 2 s (treeFrom s i) → goodList s i ≡ false
+  pub list-long : 62 < number 2 s (treeFrom (numbersAt s) i) → goodList s i ≡ false
   unfolding goodList
   list-long h = rw (lt-leb _ _ h)
 
-  list-parts : number 2 s (treeFrom s i) ≤ 62
+  list-parts : number 2 s (treeFrom (numbersAt s) i) ≤ 62
       → goodList s i ≡ (allRows (splitsHeldAt s) (listAt s i) && (rising (treeAt s i) && agreeInPairs (treeAt s i)))
   unfolding goodList allRows
   list-parts h = rw (le-leb _ _ h)
 
-  pub list-foreign : number 2 s (treeFrom s i) ≤ 62 → allRows (splitsHeldAt s) (listAt s i) ≡ false → goodList s i ≡ false
+  pub list-foreign : number 2 s (treeFrom (numbersAt s) i) ≤ 62 → allRows (splitsHeldAt s) (listAt s i) ≡ false → goodList s i ≡ false
   list-foreign h e = list-parts h ∙ rw e
 
-  module _ (h : number 2 s (treeFrom s i) ≤ 62) (e : allRows (splitsHeldAt s) (listAt s i) ≡ true) where
+  module _ (h : number 2 s (treeFrom (numbersAt s) i) ≤ 62) (e : allRows (splitsHeldAt s) (listAt s i) ≡ true) where
     pub list-falls : rising (treeAt s i) ≡ false → goodList s i ≡ false
     list-falls f = list-parts h ∙ rw (e, f)
 
@@ -168,9 +168,9 @@ module _ (s : List ℕ) (i : ℕ) where
     list-rest f = list-parts h ∙ rw (e, f)
 
   -- a list that passes
-  pub list-few : goodList s i ≡ true → number 2 s (treeFrom s i) ≤ 62
+  pub list-few : goodList s i ≡ true → number 2 s (treeFrom (numbersAt s) i) ≤ 62
   unfolding goodList
-  list-few e = leb-true _ _ (and-left (leb (number 2 s (treeFrom s i)) 62) _ e)
+  list-few e = leb-true _ _ (and-left (leb (number 2 s (treeFrom (numbersAt s) i)) 62) _ e)
 
   passes : goodList s i ≡ true → (allRows (splitsHeldAt s) (listAt s i) && (rising (treeAt s i) && agreeInPairs (treeAt s i))) ≡ true
   passes e = sym (list-parts (list-few e)) ∙ e

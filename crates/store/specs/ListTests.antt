@@ -13,12 +13,13 @@ use lib.Dec.{ltb}
 use lib.ListN.{length, getD, take}
 use Rattle.trees.specs.Plain.{if_then_else_, every, member}
 use Rattle.fields.specs.Field.{number}
+use Rattle.head.specs.Head.{numbersAt}
 use Rattle.layout.specs.Store.{splitsHeldAt, treeFrom, listAt}
-use Rattle.store.specs.WholeStore.{listed}
+use Rattle.layout.specs.WholeStore.{listed}
 
 unfoldable pub numberIn : List ℕ → ℕ → ℕ → ℕ
 unfolding number treeFrom
-numberIn s i j = number 2 s (treeFrom s i + 2 + 2 * j)
+numberIn s i j = number 2 s (treeFrom (numbersAt s) i + 2 + 2 * j)
 
 unfoldable pub allRows : ℕ → List ℕ → Bool
 unfolding every

@@ -71,26 +71,26 @@ module _ (s t : List ℕ) (l : ℕ) (h : SameBetween s t (laneFrom l) (laneFrom 
 -- ---- where the opening's numbers are equal
 
 module _ (s t : List ℕ) (n : numbersAt s ≡ numbersAt t) where
-  pub tree-from-same : (i : ℕ) → treeFrom s i ≡ treeFrom t i
-  tree-from-same i = tree-from s i ∙ rw (n, ← tree-from t i)
+  pub tree-from-same : (i : ℕ) → treeFrom (numbersAt s) i ≡ treeFrom (numbersAt t) i
+  tree-from-same i = tree-from (numbersAt s) i ∙ rw (n, ← tree-from (numbersAt t) i)
 
-  pub masks-from-same : masksFrom s ≡ masksFrom t
-  masks-from-same = masks-from s ∙ rw (n, ← masks-from t)
+  pub masks-from-same : masksFrom (numbersAt s) ≡ masksFrom (numbersAt t)
+  masks-from-same = masks-from (numbersAt s) ∙ rw (n, ← masks-from (numbersAt t))
 
   pub size-same : sizeAt s ≡ sizeAt t
   size-same = size-is s ∙ rw (n, masks-from-same, ← size-is t)
 
   -- ---- a tree, by its own 128 bytes
 
-  module _ (i : ℕ) (b : SameBetween s t (treeFrom s i) (treeFrom s i + 128)) where
-    entry : (j : ℕ) → j + 2 ≤ 128 → number 2 s (treeFrom s i + j) ≡ number 2 t (treeFrom t i + j)
-    entry j l = number-frame s t 2 (treeFrom s i + j) (treeFrom t i + j) (rw (tree-from-same i)) (λ x p q. b x (omega arith) (omega arith))
+  module _ (i : ℕ) (b : SameBetween s t (treeFrom (numbersAt s) i) (treeFrom (numbersAt s) i + 128)) where
+    entry : (j : ℕ) → j + 2 ≤ 128 → number 2 s (treeFrom (numbersAt s) i + j) ≡ number 2 t (treeFrom (numbersAt t) i + j)
+    entry j l = number-frame s t 2 (treeFrom (numbersAt s) i + j) (treeFrom (numbersAt t) i + j) (rw (tree-from-same i)) (λ x p q. b x (omega arith) (omega arith))
 
     pub entries-same : entriesAt s i ≡ entriesAt t i
-    entries-same = rw (add-zero (treeFrom s i), add-zero (treeFrom t i)) at (entry 0 (omega arith))
+    entries-same = rw (add-zero (treeFrom (numbersAt s) i), add-zero (treeFrom (numbersAt t) i)) at (entry 0 (omega arith))
 
     entry-same : (j : ℕ) → j < 63 → entryAt s i j ≡ entryAt t i j
-    entry-same j l = rw (add-assoc (treeFrom s i), add-assoc (treeFrom t i)) (entry (2 + 2 * j) (omega arith))
+    entry-same j l = rw (add-assoc (treeFrom (numbersAt s) i), add-assoc (treeFrom (numbersAt t) i)) (entry (2 + 2 * j) (omega arith))
 
     pub list-same : entriesAt s i ≤ 62 → listAt s i ≡ listAt t i
     list-same l =
@@ -101,54 +101,54 @@ module _ (s t : List ℕ) (n : numbersAt s ≡ numbersAt t) where
 
   -- ---- the bytes behind the lanes
 
-  module _ (b : SameBetween s t (treeFrom s 0) (sizeAt s)) where
-    behind : (k a c : ℕ) → a ≡ c → treeFrom s 0 ≤ a → a + k ≤ sizeAt s → number k s a ≡ number k t c
+  module _ (b : SameBetween s t (treeFrom (numbersAt s) 0) (sizeAt s)) where
+    behind : (k a c : ℕ) → a ≡ c → treeFrom (numbersAt s) 0 ≤ a → a + k ≤ sizeAt s → number k s a ≡ number k t c
     behind k a c e f g = number-frame s t k a c e (λ i p q. b i (omega arith) (omega arith))
 
     -- a number among the splits' lists and the places
-    field : (k a c : ℕ) → a ≡ c → masksFrom s ≤ a → a + k ≤ masksFrom s + 24 * numbersAt s .splitRoom + 2 * numbersAt s .places → number k s a ≡ number k t c
-    field k a c e f g = behind k a c e (omega (arith, tree-from s 0, masks-from s)) (omega (arith, size-is s))
+    field : (k a c : ℕ) → a ≡ c → masksFrom (numbersAt s) ≤ a → a + k ≤ masksFrom (numbersAt s) + 24 * numbersAt s .splitRoom + 2 * numbersAt s .places → number k s a ≡ number k t c
+    field k a c e f g = behind k a c e (omega (arith, tree-from (numbersAt s) 0, masks-from (numbersAt s))) (omega (arith, size-is s))
 
     pub mask-frame : (k : ℕ) → k < numbersAt s .splitRoom → maskAt s k ≡ maskAt t k
-    mask-frame k h = mask-is s k ∙ field 8 (masksFrom s + 8 * k) (masksFrom t + 8 * k) (rw masks-from-same) (omega arith) (omega arith) ∙ sym (mask-is t k)
+    mask-frame k h = mask-is s k ∙ field 8 (masksFrom (numbersAt s) + 8 * k) (masksFrom (numbersAt t) + 8 * k) (rw masks-from-same) (omega arith) (omega arith) ∙ sym (mask-is t k)
 
     pub identifier-frame : (k : ℕ) → k < numbersAt s .splitRoom → identifierAt s k ≡ identifierAt t k
     identifier-frame k h =
-        let b = identifiers-from s in
-        let e : identifiersFrom s ≡ identifiersFrom t = rw (identifiers-from s, identifiers-from t, n, masks-from-same) in
-        identifier-is s k ∙ field 8 (identifiersFrom s + 8 * k) (identifiersFrom t + 8 * k) (rw e) (omega arith) (omega arith) ∙ sym (identifier-is t k)
+        let b = identifiers-from (numbersAt s) in
+        let e : identifiersFrom (numbersAt s) ≡ identifiersFrom (numbersAt t) = rw (identifiers-from (numbersAt s), identifiers-from (numbersAt t), n, masks-from-same) in
+        identifier-is s k ∙ field 8 (identifiersFrom (numbersAt s) + 8 * k) (identifiersFrom (numbersAt t) + 8 * k) (rw e) (omega arith) (omega arith) ∙ sym (identifier-is t k)
 
     pub count-frame : (k : ℕ) → k < numbersAt s .splitRoom → countAt s k ≡ countAt t k
     count-frame k h =
-        let b = counts-from s in
-        let e : countsFrom s ≡ countsFrom t = rw (counts-from s, counts-from t, n, masks-from-same) in
-        count-is s k ∙ field 4 (countsFrom s + 4 * k) (countsFrom t + 4 * k) (rw e) (omega arith) (omega arith) ∙ sym (count-is t k)
+        let b = counts-from (numbersAt s) in
+        let e : countsFrom (numbersAt s) ≡ countsFrom (numbersAt t) = rw (counts-from (numbersAt s), counts-from (numbersAt t), n, masks-from-same) in
+        count-is s k ∙ field 4 (countsFrom (numbersAt s) + 4 * k) (countsFrom (numbersAt t) + 4 * k) (rw e) (omega arith) (omega arith) ∙ sym (count-is t k)
 
     pub link-frame : (k : ℕ) → k < numbersAt s .splitRoom → linkAt s k ≡ linkAt t k
     link-frame k h =
-        let b = links-from s in
-        let e : linksFrom s ≡ linksFrom t = rw (links-from s, links-from t, n, masks-from-same) in
-        link-is s k ∙ field 2 (linksFrom s + 2 * k) (linksFrom t + 2 * k) (rw e) (omega arith) (omega arith) ∙ sym (link-is t k)
+        let b = links-from (numbersAt s) in
+        let e : linksFrom (numbersAt s) ≡ linksFrom (numbersAt t) = rw (links-from (numbersAt s), links-from (numbersAt t), n, masks-from-same) in
+        link-is s k ∙ field 2 (linksFrom (numbersAt s) + 2 * k) (linksFrom (numbersAt t) + 2 * k) (rw e) (omega arith) (omega arith) ∙ sym (link-is t k)
 
     pub order-frame : (k : ℕ) → k < numbersAt s .splitRoom → orderAt s k ≡ orderAt t k
     order-frame k h =
-        let b = order-from s in
-        let e : orderFrom s ≡ orderFrom t = rw (order-from s, order-from t, n, masks-from-same) in
-        order-is s k ∙ field 2 (orderFrom s + 2 * k) (orderFrom t + 2 * k) (rw e) (omega arith) (omega arith) ∙ sym (order-is t k)
+        let b = order-from (numbersAt s) in
+        let e : orderFrom (numbersAt s) ≡ orderFrom (numbersAt t) = rw (order-from (numbersAt s), order-from (numbersAt t), n, masks-from-same) in
+        order-is s k ∙ field 2 (orderFrom (numbersAt s) + 2 * k) (orderFrom (numbersAt t) + 2 * k) (rw e) (omega arith) (omega arith) ∙ sym (order-is t k)
 
     pub start-frame : (p : ℕ) → p < numbersAt s .places → startAt s p ≡ startAt t p
     start-frame p h =
-        let b = places-from s in
-        let e : placesFrom s ≡ placesFrom t = rw (places-from s, places-from t, n, masks-from-same) in
-        start-is s p ∙ field 2 (placesFrom s + 2 * p) (placesFrom t + 2 * p) (rw e) (omega arith) (omega arith) ∙ sym (start-is t p)
+        let b = places-from (numbersAt s) in
+        let e : placesFrom (numbersAt s) ≡ placesFrom (numbersAt t) = rw (places-from (numbersAt s), places-from (numbersAt t), n, masks-from-same) in
+        start-is s p ∙ field 2 (placesFrom (numbersAt s) + 2 * p) (placesFrom (numbersAt t) + 2 * p) (rw e) (omega arith) (omega arith) ∙ sym (start-is t p)
 
     -- ---- a tree
 
-    tree-bytes : (i : ℕ) → i < numbersAt s .treeRoom → SameBetween s t (treeFrom s i) (treeFrom s i + 128)
+    tree-bytes : (i : ℕ) → i < numbersAt s .treeRoom → SameBetween s t (treeFrom (numbersAt s) i) (treeFrom (numbersAt s) i + 128)
     tree-bytes i h j p q =
-        let a = tree-from s 0 in
-        let c = tree-from s i in
-        let d = masks-from s in
+        let a = tree-from (numbersAt s) 0 in
+        let c = tree-from (numbersAt s) i in
+        let d = masks-from (numbersAt s) in
         b j (omega arith) (omega (arith, size-is s))
 
     pub entries-frame : (i : ℕ) → i < numbersAt s .treeRoom → entriesAt s i ≡ entriesAt t i

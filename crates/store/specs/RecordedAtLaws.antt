@@ -22,10 +22,10 @@ use Rattle.theorems.specs.ConsensusLaws.{count-nil}
 use Rattle.head.specs.Head.{upTo}
 use Rattle.head.specs.HeadLaws.{upTo-length, upTo-at}
 use Rattle.layout.specs.Store.{treesHeldAt, splitsHeldAt, maskAt, splitAt, masksAt, countAt, listAt, treeAt, heldAt}
-use Rattle.store.specs.WholeStore.{listed, wholeAt}
-use Rattle.store.specs.WholeFacts.{SplitsAt, WholeAt, whole-at-facts}
-use Rattle.store.specs.OrderLaws.{masks-length, number-mask, masks-rise, masks-mem, mem-masks, mask-same}
-use Rattle.store.specs.UpToLaws.{bool-same, upTo-mem, mem-upTo, upTo-more, map-mem, mem-map, count-append, listed-nil, listed-next}
+use Rattle.layout.specs.WholeStore.{listed, wholeAt}
+use Rattle.layout.specs.WholeFacts.{SplitsAt, WholeAt, whole-at-facts}
+use Rattle.layout.specs.OrderLaws.{masks-length, number-mask, masks-rise, masks-mem, mem-masks, mask-same}
+use Rattle.layout.specs.UpToLaws.{bool-same, upTo-mem, mem-upTo, upTo-more, map-mem, mem-map, count-append, listed-nil, listed-next}
 
 -- ---- what any bytes are read as
 

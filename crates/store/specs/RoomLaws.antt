@@ -16,7 +16,7 @@ use Rattle.trees.specs.Whole.{goodOpening}
 use Rattle.theorems.specs.OpeningLaws.{both, InRange, good-opening}
 use Rattle.head.specs.Head.{numbersAt, openingAt}
 use Rattle.layout.specs.Store.{treesHeldAt, splitsHeldAt, laneFrom, treeFrom, masksFrom, countsFrom, sizeAt}
-use Rattle.store.specs.WholeStore.{goodHead}
+use Rattle.layout.specs.WholeStore.{goodHead}
 
 pub record GoodHead (s : List ℕ) : Type 0 where
   pub head : 4096 ≤ length s
@@ -45,14 +45,14 @@ module _ (s : List ℕ) (g : GoodHead s) where
   unfolding laneFrom sizeAt storeSize
   lane-inside l h = omega (arith, g .size)
 
-  pub tree-inside : (i : ℕ) → i < treesHeldAt s → treeFrom s i + 128 ≤ length s
+  pub tree-inside : (i : ℕ) → i < treesHeldAt s → treeFrom (numbersAt s) i + 128 ≤ length s
   unfolding treeFrom laneFrom sizeAt storeSize
   tree-inside i h = omega (arith, g .size, g .trees)
 
-  pub masks-inside : masksFrom s + 8 * splitsHeldAt s ≤ length s
+  pub masks-inside : masksFrom (numbersAt s) + 8 * splitsHeldAt s ≤ length s
   unfolding masksFrom treeFrom laneFrom sizeAt storeSize
   masks-inside = omega (arith, g .size, g .splits)
 
-  pub counts-inside : countsFrom s + 4 * splitsHeldAt s ≤ length s
+  pub counts-inside : countsFrom (numbersAt s) + 4 * splitsHeldAt s ≤ length s
   unfolding countsFrom masksFrom treeFrom laneFrom sizeAt storeSize
   counts-inside = omega (arith, g .size, g .splits)

@@ -26,10 +26,10 @@ use Rattle.theorems.specs.RisingLaws.{rising-true, true-rising}
 use Rattle.fields.specs.Field.{number}
 use Rattle.head.specs.Head.{upTo, numbersAt, secondAt}
 use Rattle.layout.specs.Store.{splitsHeldAt, masksFrom, identifiersFrom, orderFrom, maskAt, orderAt, splitAt, masksAt, identifierAt}
-use Rattle.store.specs.WholeStore.{allBelow, goodOrder, goodIdentifier, goodSplits}
-use Rattle.store.specs.UpToLaws.{bool-same}
+use Rattle.layout.specs.WholeStore.{allBelow, goodOrder, goodIdentifier, goodSplits}
+use Rattle.layout.specs.UpToLaws.{bool-same}
 use Rattle.store.specs.Splits.{maskBefore, goodMask}
-use Rattle.store.specs.AllLaws.{all-at, all-intro}
+use Rattle.layout.specs.AllLaws.{all-at, all-intro}
 use Rattle.store.specs.NeighbourLaws.{mem-from, from-mem, rise-neighbours, neighbours-rise}
 
 -- ---- a proper mask
@@ -50,15 +50,15 @@ unfolding maskBefore
 before-more s k = rw (add-one k)
 
 module _ (s : List ℕ) (k at m : ℕ) where
-  pub mask-read : at ≡ masksFrom s → m ≡ number 8 s (at + 8 * k) → m ≡ maskAt s k
+  pub mask-read : at ≡ masksFrom (numbersAt s) → m ≡ number 8 s (at + 8 * k) → m ≡ maskAt s k
   unfolding maskAt
   mask-read e q = q ∙ rw e
 
-  pub identifier-read : at ≡ identifiersFrom s → m ≡ number 8 s (at + 8 * k) → m ≡ identifierAt s k
+  pub identifier-read : at ≡ identifiersFrom (numbersAt s) → m ≡ number 8 s (at + 8 * k) → m ≡ identifierAt s k
   unfolding identifierAt
   identifier-read e q = q ∙ rw e
 
-  pub row-read : at ≡ orderFrom s → m ≡ number 2 s (at + 2 * k) → m ≡ orderAt s k
+  pub row-read : at ≡ orderFrom (numbersAt s) → m ≡ number 2 s (at + 2 * k) → m ≡ orderAt s k
   unfolding orderAt
   row-read e q = q ∙ rw e
 

@@ -14,7 +14,7 @@ use Rattle.trees.specs.Mask.{proper}
 use Rattle.trees.specs.Hash.{place}
 use Rattle.head.specs.Head.{numbersAt, firstAt}
 use Rattle.layout.specs.Store.{maskAt, splitAt}
-use Rattle.store.specs.WholeStore.{goodOrder, highestBelow}
+use Rattle.layout.specs.WholeStore.{goodOrder, highestBelow}
 
 unfoldable pub maskBefore : List ℕ → ℕ → ℕ
 unfolding splitAt

@@ -24,7 +24,7 @@ use Rattle.theorems.specs.HashLaws.{sumOver-zero, sumOver-one}
 use Rattle.fields.specs.Field.{number}
 use Rattle.head.specs.Head.{numbersAt, firstAt, secondAt}
 use Rattle.head.specs.HeadLaws.{first-length, second-length, first-at, second-at}
-use Rattle.store.specs.UpToLaws.{less-or-not}
+use Rattle.layout.specs.UpToLaws.{less-or-not}
 use Rattle.store.specs.Sums.{constantsAt, byteSum, Sums, SumBy, ByteSums, Doubled}
 
 -- ---- the sum over a mask

@@ -5,7 +5,7 @@ use Prim.Native.Nat.{ℕ}
 use mathlib.Core.List.{List}
 use Rattle.head.specs.Head.{numbersAt}
 use Rattle.layout.specs.Store.{treesHeldAt, splitsHeldAt}
-use Rattle.store.specs.WholeStore.{allBelow, goodHead, goodSplits, goodList, goodCount, goodChains, goodLaneAt, wholeAt}
+use Rattle.layout.specs.WholeStore.{allBelow, goodHead, goodSplits, goodList, goodCount, goodChains, goodLaneAt, wholeAt}
 
 -- six tests, one after another
 chain : (a b c d e f : Bool) → Bool

@@ -3,7 +3,7 @@
 // Read crate layout, specs/Store.antt, for every byte, and specs/WholeStore.antt for what "whole" means of bytes; `wholeAt` is
 // what `is_whole` answers.
 ghost use mathlib.Core.Path.{_≡_};
-ghost use Rattle.store.specs.WholeStore.{wholeAt};
+ghost use Rattle.layout.specs.WholeStore.{wholeAt};
 
 mod header;
 mod lists;

@@ -10,7 +10,7 @@ ghost use Rattle.trees.specs.Whole.{rising, agreeInPairs};
 ghost use Rattle.fields.specs.Field.{number};
 ghost use Rattle.head.specs.Head.{numbersAt};
 ghost use Rattle.layout.specs.Store.{treesHeldAt, splitsHeldAt, treeFrom, listAt, treeAt};
-ghost use Rattle.store.specs.WholeStore.{allBelow, goodHead, goodList, goodCount, goodLaneAt};
+ghost use Rattle.layout.specs.WholeStore.{allBelow, goodHead, goodList, goodCount, goodLaneAt};
 ghost use Rattle.store.specs.ListTests.{allRows, Counted};
 ghost use Rattle.store.specs.Outer.{UnionAt};
 
@@ -55,7 +55,7 @@ pub(crate) fn list_good(s: &[u8], i: usize) -> bool
 fn rows_below(s: &[u8], i: usize, n: usize) -> bool
     requires { ⌜ goodHead (now s) ≡ true ⌝ }
     requires { ⌜ i < treesHeldAt (now s) ⌝ }
-    requires { ⌜ n ≡ number 2 (now s) (treeFrom (now s) i) ⌝ }
+    requires { ⌜ n ≡ number 2 (now s) (treeFrom (numbersAt (now s)) i) ⌝ }
     requires { ⌜ n ≤ 62 ⌝ }
     ensures { λ r. ⌜ r ≡ allRows (splitsHeldAt (now (s .entry))) (listAt (now (s .entry)) i) ⌝ }
 {
@@ -91,7 +91,7 @@ fn masks_rise(masks: &[u64; 64], n: usize) -> bool
 fn copy_masks(s: &[u8], i: usize, n: usize, masks: &mut [u64; 64])
     requires { ⌜ goodHead (now s) ≡ true ⌝ }
     requires { ⌜ i < treesHeldAt (now s) ⌝ }
-    requires { ⌜ n ≡ number 2 (now s) (treeFrom (now s) i) ⌝ }
+    requires { ⌜ n ≡ number 2 (now s) (treeFrom (numbersAt (now s)) i) ⌝ }
     requires { ⌜ n ≤ 62 ⌝ }
     requires { ⌜ allRows (splitsHeldAt (now s)) (listAt (now s) i) ≡ true ⌝ }
     requires { ⌜ length (now masks) ≡ 64 ⌝ }
@@ -245,7 +245,7 @@ pub(crate) fn lanes_good(s: &[u8]) -> bool
 fn tree_from(s: &[u8], i: usize) -> usize
     requires { ⌜ goodHead (now s) ≡ true ⌝ }
     requires { ⌜ i < treesHeldAt (now s) ⌝ }
-    ensures { λ r. ⌜ r ≡ treeFrom (now (s .entry)) i ⌝ }
+    ensures { λ r. ⌜ r ≡ treeFrom (numbersAt (now (s .entry))) i ⌝ }
     ensures { λ r. ⌜ r + 128 ≤ length (now (s .entry)) ⌝ }
 {
     layout::tree_from(s, Tree(i))

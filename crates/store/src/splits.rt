@@ -7,7 +7,7 @@ ghost use mathlib.Core.Bool.{true, false};
 ghost use Rattle.trees.specs.Hash.{place};
 ghost use Rattle.head.specs.Head.{numbersAt, firstAt};
 ghost use Rattle.layout.specs.Store.{splitsHeldAt};
-ghost use Rattle.store.specs.WholeStore.{allBelow, goodHead, goodIdentifier, goodSplits, goodStart, goodChains};
+ghost use Rattle.layout.specs.WholeStore.{allBelow, goodHead, goodIdentifier, goodSplits, goodStart, goodChains};
 ghost use Rattle.store.specs.Splits.{goodMask, Highest};
 ghost use Rattle.store.specs.Sums.{constantsAt, Sums};
 use crate::sums::fill_sums;

@@ -6,7 +6,7 @@ ghost use mathlib.Core.Path.{_≡_};
 ghost use mathlib.Core.Bool.{true};
 ghost use Prim.Native.Nat.{_+_, _*_, _≤_, _<_};
 ghost use lib.ListN.{length, getD};
-ghost use Rattle.store.specs.WholeStore.{goodHead};
+ghost use Rattle.layout.specs.WholeStore.{goodHead};
 ghost use Rattle.store.specs.Sums.{constantsAt, Sums, SumBy, ByteSums, Doubled};
 use masks::Taxon;
 

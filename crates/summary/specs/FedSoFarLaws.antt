@@ -18,7 +18,7 @@ use Rattle.trees.specs.Held.{Held, holding, Fed, opened, laneOf, withLane, long
 use Rattle.trees.specs.Batch.{semicolons, Batched, batching}
 use Rattle.theorems.specs.PieceLaws.{set-replicate, getD-all}
 use Rattle.layout.specs.Store.{heldAt}
-use Rattle.store.specs.WholeStore.{wholeAt}
+use Rattle.layout.specs.WholeStore.{wholeAt}
 use Rattle.table.specs.Answers.{numberGiven}
 use Rattle.table.specs.Promises.{Holds}
 use Rattle.table.specs.QuestionLaws.{when-whole}

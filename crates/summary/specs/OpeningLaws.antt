@@ -21,7 +21,7 @@ use Rattle.trees.specs.Names.{namesIn, goodNames}
 use Rattle.trees.specs.Opening.{Opening, storeSize, between, inRange, goodConstants, opening}
 use Rattle.head.specs.Head.{fromTo, upTo}
 use Rattle.head.specs.HeadLaws.{upTo-length, upTo-at}
-use Rattle.store.specs.UpToLaws.{less-or-not}
+use Rattle.layout.specs.UpToLaws.{less-or-not}
 use Rattle.opening.specs.Given.{numbersOf}
 use Rattle.opening.specs.GivenLaws.{range-not-taxa}
 use Rattle.table.specs.declared.Finish.{Finish}

@@ -26,7 +26,7 @@ use Rattle.trees.specs.Held.{Held}
 use Rattle.trees.specs.Batch.{semicolons, Batched, batching, batch}
 use Rattle.head.specs.Head.{openingAt}
 use Rattle.layout.specs.Store.{heldAt}
-use Rattle.store.specs.WholeStore.{wholeAt}
+use Rattle.layout.specs.WholeStore.{wholeAt}
 use Rattle.store.specs.HeldWholeLaws.{held-numbers, texts-length, opening-facts}
 use Rattle.table.specs.Answers.{numberGiven}
 use Rattle.table.specs.Promises.{Holds}

@@ -28,7 +28,7 @@ use Rattle.trees.specs.Held.{opened, closing}
 use Rattle.trees.specs.Batch.{semicolons, batching, Batched}
 use Rattle.trees.specs.Questions.{ifRoom}
 use Rattle.layout.specs.Store.{heldAt}
-use Rattle.store.specs.WholeStore.{wholeAt}
+use Rattle.layout.specs.WholeStore.{wholeAt}
 use Rattle.table.specs.Answers.{refusalNumber}
 use Rattle.table.specs.Promises.{OpenedAs}
 use Rattle.table.specs.Filled.{FilledAs}

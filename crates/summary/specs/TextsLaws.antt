@@ -18,8 +18,8 @@ use Rattle.trees.specs.Plain.{if_then_else_, keep, Answer, refused, gives}
 use Rattle.trees.specs.Held.{Closed, closing}
 use Rattle.head.specs.Head.{numbersAt}
 use Rattle.layout.specs.Store.{heldAt}
-use Rattle.store.specs.UpToLaws.{less-or-not}
-use Rattle.store.specs.WholeStore.{wholeAt}
+use Rattle.layout.specs.UpToLaws.{less-or-not}
+use Rattle.layout.specs.WholeStore.{wholeAt}
 use Rattle.store.specs.HeldWholeLaws.{opening-facts}
 use Rattle.head.specs.Head.{openingAt}
 use Rattle.table.specs.declared.Number.the-variants as number

@@ -16,8 +16,8 @@ use Rattle.head.specs.Head.{fromTo, upTo}
 use Rattle.head.specs.HeadLaws.{upTo-length, upTo-at, upTo-same}
 use Rattle.layout.specs.Store.{splitsHeldAt, countAt, orderAt, splitAt, heldAt}
 use Rattle.layout.specs.StoreLaws.{split-is, masks-is}
-use Rattle.store.specs.WholeStore.{wholeAt}
-use Rattle.store.specs.WholeFacts.{whole-at-facts}
+use Rattle.layout.specs.WholeStore.{wholeAt}
+use Rattle.layout.specs.WholeFacts.{whole-at-facts}
 use Rattle.store.specs.RecordedAtLaws.{count-at, recorded-at}
 use Rattle.table.specs.Counts.{splitCount, countsAt}
 

@@ -26,9 +26,9 @@ use Rattle.head.specs.Head.{numbersAt, openingAt, upTo, fromTo}
 use Rattle.head.specs.HeadLaws.{numbers-same, head-same, upTo-length, upTo-at}
 use Rattle.layout.specs.Store.{treesHeldAt, splitsHeldAt, laneFrom, masksFrom, placesFrom, sizeAt, laneAt, startAt, masksAt, heldAt}
 use Rattle.layout.specs.StoreLaws.{lane-from, masks-from, places-from, size-is, start-is, lane-is}
-use Rattle.store.specs.WholeStore.{wholeAt}
-use Rattle.store.specs.WholeFacts.{SplitsAt, ListAt, CountAt, ChainsAt, facts-whole-at}
-use Rattle.store.specs.UpToLaws.{less-or-not}
+use Rattle.layout.specs.WholeStore.{wholeAt}
+use Rattle.layout.specs.WholeFacts.{SplitsAt, ListAt, CountAt, ChainsAt, facts-whole-at}
+use Rattle.layout.specs.UpToLaws.{less-or-not}
 use Rattle.store.specs.ChainLaws.{highest-none}
 use Rattle.store.specs.PartFrameLaws.{masks-from-same, size-same}
 use Rattle.store.specs.FrameLaws.{trees-held-frame, splits-held-frame}
@@ -72,52 +72,52 @@ module _ (s t : List ℕ) (p : LanesEmptied s (numbersAt s .lanes) t) where
   numbers-kept = numbers-same s t (p .head)
 
   -- the places lie behind the lanes, and end where the store does
-  places-at : placesFrom t ≡ masksFrom s + 24 * numbersAt s .splitRoom
-  places-at = places-from t ∙ rw (← masks-from-same s t numbers-kept, ← numbers-kept)
+  places-at : placesFrom (numbersAt t) ≡ masksFrom (numbersAt s) + 24 * numbersAt s .splitRoom
+  places-at = places-from (numbersAt t) ∙ rw (← masks-from-same s t numbers-kept, ← numbers-kept)
 
-  places-end : placesFrom t + 2 * numbersAt t .places ≡ sizeAt s
+  places-end : placesFrom (numbersAt t) + 2 * numbersAt t .places ≡ sizeAt s
   places-end = omega (arith, places-at, size-is s, ap (λ (x : Numbers). x .places) numbers-kept)
 
   module _ (f : sizeAt s ≤ length s) where
     pub head-inside : 4096 ≤ length t
-    head-inside = omega (arith, p .size, masks-from s, size-is s)
+    head-inside = omega (arith, p .size, masks-from (numbersAt s), size-is s)
 
-    pub places-inside : placesFrom t + 2 * numbersAt t .places ≤ length t
+    pub places-inside : placesFrom (numbersAt t) + 2 * numbersAt t .places ≤ length t
     places-inside = omega (arith, p .size, places-end)
 
-    module _ (u : List ℕ) (e : u ≡ cleared t (placesFrom t) (2 * numbersAt t .places)) where
-      clear-kept : (i : ℕ) → (i < placesFrom t) ⊎ (placesFrom t + 2 * numbersAt t .places ≤ i) → getD u i 0 ≡ getD t i 0
-      clear-kept i h = rw e (cleared-outside t (placesFrom t) (2 * numbersAt t .places) i h)
+    module _ (u : List ℕ) (e : u ≡ cleared t (placesFrom (numbersAt t)) (2 * numbersAt t .places)) where
+      clear-kept : (i : ℕ) → (i < placesFrom (numbersAt t)) ⊎ (placesFrom (numbersAt t) + 2 * numbersAt t .places ≤ i) → getD u i 0 ≡ getD t i 0
+      clear-kept i h = rw e (cleared-outside t (placesFrom (numbersAt t)) (2 * numbersAt t .places) i h)
 
       head-clear : (i : ℕ) → i < 4096 → getD t i 0 ≡ getD u i 0
-      head-clear i h = sym (clear-kept i (inl (omega (arith, places-at, masks-from s))))
+      head-clear i h = sym (clear-kept i (inl (omega (arith, places-at, masks-from (numbersAt s)))))
 
       lane-clear : (l : ℕ) → l < numbersAt s .lanes → number 2 u (laneFrom l) ≡ 0
       lane-clear l h =
-          let a : laneFrom l + 2 ≤ placesFrom t = omega (arith, places-at, masks-from s, lane-from l) in
-          rw e (number-cleared-outside t (placesFrom t) (2 * numbersAt t .places) 2 (laneFrom l) (inl a)) ∙ p .lanes l h
+          let a : laneFrom l + 2 ≤ placesFrom (numbersAt t) = omega (arith, places-at, masks-from (numbersAt s), lane-from l) in
+          rw e (number-cleared-outside t (placesFrom (numbersAt t)) (2 * numbersAt t .places) 2 (laneFrom l) (inl a)) ∙ p .lanes l h
 
-      same-places : placesFrom u ≡ placesFrom t
+      same-places : placesFrom (numbersAt u) ≡ placesFrom (numbersAt t)
       same-places =
           let v : numbersAt t ≡ numbersAt u = numbers-same t u head-clear in
-          places-from u ∙ rw (← masks-from-same t u v, ← v, ← places-from t)
+          places-from (numbersAt u) ∙ rw (← masks-from-same t u v, ← v, ← places-from (numbersAt t))
 
       start-clear : (k : ℕ) → k < numbersAt s .places → startAt u k ≡ 0
       start-clear k h =
           let n : k < numbersAt t .places = rw (← numbers-kept) h in
           start-is u k
-          ∙ rw (same-places, e) (number-cleared-inside t (placesFrom t) (2 * numbersAt t .places) 2 (placesFrom t + 2 * k) places-inside (omega arith) (omega arith))
+          ∙ rw (same-places, e) (number-cleared-inside t (placesFrom (numbersAt t)) (2 * numbersAt t .places) 2 (placesFrom (numbersAt t) + 2 * k) places-inside (omega arith) (omega arith))
 
       pub emptied-places : Emptied s u
       emptied-places =
           record {
-            size = rw e (cleared-length t (placesFrom t) (2 * numbersAt t .places)) ∙ p .size;
+            size = rw e (cleared-length t (placesFrom (numbersAt t)) (2 * numbersAt t .places)) ∙ p .size;
             head = λ i h. p .head i h ∙ head-clear i h;
             lanes = lane-clear;
             starts = start-clear;
             behind =
                 λ i h.
-                let a : laneFrom (numbersAt s .lanes) ≤ i = omega (arith, lane-from (numbersAt s .lanes), masks-from s, size-is s) in
+                let a : laneFrom (numbersAt s .lanes) ≤ i = omega (arith, lane-from (numbersAt s .lanes), masks-from (numbersAt s), size-is s) in
                 clear-kept i (inr (omega (arith, places-end))) ∙ p .behind i a;
           }
 

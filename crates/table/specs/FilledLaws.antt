@@ -13,8 +13,8 @@ use borrow.Author.Tests.{lt-ltb, le-ltb}
 use Rattle.trees.specs.Questions.{ifRoom, ifTree, tree, splitList, treeNumber}
 use Rattle.theorems.specs.ListLaws.{or-left, or-right}
 use Rattle.layout.specs.Store.{treesHeldAt, splitsHeldAt, masksAt, treeAt}
-use Rattle.store.specs.WholeStore.{wholeAt}
-use Rattle.store.specs.OrderLaws.{masks-length}
+use Rattle.layout.specs.WholeStore.{wholeAt}
+use Rattle.layout.specs.OrderLaws.{masks-length}
 use Rattle.store.specs.RecordedAtLaws.{trees-length, tree-at, recorded-at, recorded-length}
 use Rattle.table.specs.declared.Number.the-variants as number
 use Rattle.table.specs.declared.Refusal.the-variants as why

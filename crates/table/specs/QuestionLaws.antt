@@ -14,7 +14,7 @@ use Rattle.trees.specs.Held.{Held}
 use Rattle.trees.specs.Questions.{treesHeld, splitsHeld, splitNumber}
 use Rattle.layout.specs.Store.{treesHeldAt, splitsHeldAt, maskAt, countAt, orderAt, splitAt, heldAt}
 use Rattle.layout.specs.StoreLaws.{split-is}
-use Rattle.store.specs.WholeStore.{wholeAt}
+use Rattle.layout.specs.WholeStore.{wholeAt}
 use Rattle.store.specs.RecordedAtLaws.{trees-length, recorded-length, recorded-mask}
 use Rattle.table.specs.declared.Number.the-variants as number
 use Rattle.table.specs.declared.Recorded.the-variants as recorded

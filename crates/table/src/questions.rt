@@ -8,7 +8,7 @@ ghost use mathlib.Core.List.{_++_};
 ghost use Prim.Native.Nat.{_≤_, _<_};
 ghost use lib.ListN.{length, drop};
 ghost use Rattle.layout.specs.Store.{treesHeldAt, splitsHeldAt, masksAt, treeAt};
-ghost use Rattle.store.specs.WholeStore.{wholeAt};
+ghost use Rattle.layout.specs.WholeStore.{wholeAt};
 ghost use Rattle.table.specs.Answers.{numberGiven, splitGiven};
 ghost use Rattle.table.specs.Promises.{lengthGiven, front};
 ghost use Rattle.table.specs.Asked.{treesAsked, splitsAsked, splitAsked, splitListAsked, treeAsked, masksOf, countsOf};

@@ -1,6 +1,6 @@
 -- `consensus::write_list` meets its contract. Assumes nothing.
 use borrow.Author.Needs.{needs}
-use Rattle.store.specs.WholeFacts.{whole-at-facts}
+use Rattle.layout.specs.WholeFacts.{whole-at-facts}
 use Rattle.rows.specs.ReadLaws.{long}
 use Rattle.consensus.specs.AskedLaws.{text-written, text-short}
 use Rattle.head.specs.Head.{openingAt}

@@ -2,7 +2,7 @@
 use native.Mathlib.Omega.{arith}
 use borrow.Author.Needs.{needs}
 use Rattle.opening.specs.GivenLaws.{failed, passed}
-use Rattle.store.specs.WholeFacts.{whole-at-facts}
+use Rattle.layout.specs.WholeFacts.{whole-at-facts}
 use Rattle.feeding.specs.FedLaws.{few-taxa}
 use Rattle.feeding.specs.BatchLaws.{batched-length, batch-not-whole, batch-no-lane, batch-short, batch-done}
 use Rattle.feeding.proofs.batch.Statement.{statement}

@@ -2,7 +2,7 @@
 use native.Mathlib.Omega.{arith}
 use borrow.Author.Needs.{needs}
 use Rattle.opening.specs.GivenLaws.{failed, passed}
-use Rattle.store.specs.WholeFacts.{whole-at-facts}
+use Rattle.layout.specs.WholeFacts.{whole-at-facts}
 use Rattle.feeding.specs.FedLaws.{few-taxa, feed-not-whole, feed-no-lane, feed-well}
 use Rattle.feeding.proofs.feed.Statement.{statement}
 use Rattle.feeding.proofs.feed.Tie as tie

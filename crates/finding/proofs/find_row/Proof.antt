@@ -4,8 +4,9 @@ use Prim.Native.Nat.{_<_}
 use mathlib.Core.Path.{_≡_}
 use mathlib.Core.Bool.{true}
 use native.Mathlib.Omega.{arith}
+use Rattle.head.specs.Head.{numbersAt}
 use Rattle.layout.specs.Store.{masksFrom, linksFrom}
-use Rattle.store.specs.WholeStore.{wholeAt}
+use Rattle.layout.specs.WholeStore.{wholeAt}
 use Rattle.store.specs.GoodHeadLaws.{mask-fits, link-fits, start-fits, place-below, place-small}
 use Rattle.finding.specs.Invariants.{Walk}
 use Rattle.finding.specs.WalkLaws.{head-good, walk-starts, walk-row, walk-falls, walk-next, walk-here, walk-ends}
@@ -14,7 +15,7 @@ use Rattle.finding.proofs.find_row.Tie as tie
 
 abbrev Inv-loop : tie.InvT-loop
 Inv-loop s p m masks links entry₀ entry =
-    (wholeAt s ≡ true) × (masks ≡ masksFrom s) × (links ≡ linksFrom s) × (entry < 65536) × Walk s m entry
+    (wholeAt s ≡ true) × (masks ≡ masksFrom (numbersAt s)) × (links ≡ linksFrom (numbersAt s)) × (entry < 65536) × Walk s m entry
 
 abbrev μ-loop : tie.MeasureT-loop
 μ-loop s p m masks links entry₀ entry = entry

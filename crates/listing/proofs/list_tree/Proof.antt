@@ -6,7 +6,7 @@ use mathlib.Core.List.{List}
 use lib.ListN.{length, getD, take}
 use lib.Seq.{length-take-le, getD-take}
 use borrow.Author.Needs.{needs}
-use Rattle.store.specs.WholeFacts.{HeadAt}
+use Rattle.layout.specs.WholeFacts.{HeadAt}
 use Rattle.listing.specs.Listed.{Rows}
 use Rattle.listing.specs.RowLaws.{row-small}
 use Rattle.listing.specs.NextTreeLaws.{few-trees, next-inside}

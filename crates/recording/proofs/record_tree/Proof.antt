@@ -1,6 +1,6 @@
 -- `recording::record_tree` meets its contract: the new splits, then the tree. Assumes nothing.
 use mathlib.Core.Path.{_∙_}
-use Rattle.store.specs.WholeFacts.{whole-at-facts}
+use Rattle.layout.specs.WholeFacts.{whole-at-facts}
 use Rattle.recording.specs.RecordedLaws.{rows-listed, tree-fits, recorded}
 use Rattle.recording.proofs.record_tree.Statement.{statement}
 use Rattle.recording.proofs.record_tree.Tie as tie

@@ -6,7 +6,7 @@ use lib.ListN.{length, take, drop, length-take}
 use borrow.Author.Needs.{needs}
 use Rattle.layout.specs.Store.{laneFrom}
 use Rattle.layout.specs.StoreLaws.{lane-from}
-use Rattle.store.specs.WholeFacts.{whole-at-facts}
+use Rattle.layout.specs.WholeFacts.{whole-at-facts}
 use Rattle.lanes.specs.LaneLaws.{lane-few, lane-end}
 use Rattle.feeding.proofs.verdicts.judge_lane.Statement.{statement}
 use Rattle.feeding.proofs.verdicts.judge_lane.Tie as tie

@@ -5,8 +5,9 @@ use mathlib.Core.Bool.{true}
 use mathlib.Core.List.{List}
 use native.Mathlib.Omega.{arith}
 use Rattle.fields.specs.Field.{number}
+use Rattle.head.specs.Head.{numbersAt}
 use Rattle.layout.specs.Store.{splitsHeldAt, treeFrom}
-use Rattle.store.specs.WholeStore.{goodHead, goodList}
+use Rattle.layout.specs.WholeStore.{goodHead, goodList}
 use Rattle.store.specs.RoomLaws.{good-head}
 use Rattle.store.specs.ListTests.{CountedPart}
 use Rattle.store.specs.ListTestLaws.{list-length, list-few, list-numbers, list-rises, list-number, number-recorded}
@@ -15,7 +16,7 @@ use Rattle.store.proofs.lists.count_list.Statement.{statement}
 use Rattle.store.proofs.lists.count_list.Tie as tie
 
 abbrev Inv-loop : tie.InvT-loop
-Inv-loop s i counts₀ from n j₀ counts j = (j ≤ n) × (n ≡ number 2 s (treeFrom s i)) × (n ≤ 62) × CountedPart s i j counts
+Inv-loop s i counts₀ from n j₀ counts j = (j ≤ n) × (n ≡ number 2 s (treeFrom (numbersAt s) i)) × (n ≤ 62) × CountedPart s i j counts
 
 abbrev μ-loop : tie.MeasureT-loop
 μ-loop s i counts₀ from n j₀ counts j = n - j
@@ -28,7 +29,7 @@ loop-holds c =
     (omega arith, n, omega arith, part-none _ _ _ (d .pre .1 .1 .1))
 
 -- the number that is read is that of a split, of which there are at most 4,096
-recorded : (s : List ℕ) (i j from k : ℕ) → goodHead s ≡ true → goodList s i ≡ true → j < number 2 s (treeFrom s i) → from ≡ treeFrom s i
+recorded : (s : List ℕ) (i j from k : ℕ) → goodHead s ≡ true → goodList s i ≡ true → j < number 2 s (treeFrom (numbersAt s) i) → from ≡ treeFrom (numbersAt s) i
     → k ≡ number 2 s (from + 2 + 2 * j) → (k < splitsHeldAt s) × (k < 4096)
 recorded s i j from k g l h e q =
     let r = number-recorded s i j (from + 2) k (list-numbers s i l) h (omega arith) q in

@@ -3,8 +3,8 @@ use Prim.Native.Nat.{_≤_, _-_}
 use mathlib.Core.Path.{_≡_}
 use native.Mathlib.Omega.{arith}
 use Rattle.layout.specs.Store.{treesHeldAt}
-use Rattle.store.specs.WholeStore.{goodList}
-use Rattle.store.specs.AllLaws.{all-at}
+use Rattle.layout.specs.WholeStore.{goodList}
+use Rattle.layout.specs.AllLaws.{all-at}
 use Rattle.store.specs.RoomLaws.{good-head}
 use Rattle.store.specs.ListTests.{Counted}
 use Rattle.store.proofs.lists.count_lists.Statement.{statement}

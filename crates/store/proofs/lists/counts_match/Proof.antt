@@ -5,8 +5,8 @@ use mathlib.Core.Bool.{true}
 use native.Mathlib.Omega.{arith}
 use borrow.Author.Needs.{needs}
 use Rattle.layout.specs.Store.{splitsHeldAt}
-use Rattle.store.specs.WholeStore.{allBelow, goodCount}
-use Rattle.store.specs.AllLaws.{all-none, all-more, all-fails}
+use Rattle.layout.specs.WholeStore.{allBelow, goodCount}
+use Rattle.layout.specs.AllLaws.{all-none, all-more, all-fails}
 use Rattle.store.specs.RoomLaws.{good-head, counts-inside}
 use Rattle.store.specs.CountLaws.{count-zero, count-wrong, count-right}
 use Rattle.store.proofs.lists.counts_match.Statement.{statement}

@@ -5,8 +5,8 @@ use mathlib.Core.Bool.{true}
 use native.Mathlib.Omega.{arith}
 use Rattle.head.specs.Head.{numbersAt}
 use Rattle.layout.specs.Store.{laneFrom}
-use Rattle.store.specs.WholeStore.{allBelow, goodLaneAt}
-use Rattle.store.specs.AllLaws.{all-none, all-more, all-fails}
+use Rattle.layout.specs.WholeStore.{allBelow, goodLaneAt}
+use Rattle.layout.specs.AllLaws.{all-none, all-more, all-fails}
 use Rattle.store.specs.RoomLaws.{good-head, lane-inside}
 use Rattle.store.specs.ListTestLaws.{lane-long, lane-short}
 use Rattle.store.proofs.lists.lanes_good.Statement.{statement}

@@ -5,8 +5,8 @@ use mathlib.Core.Bool.{true}
 use native.Mathlib.Omega.{arith}
 use Rattle.opening.specs.GivenLaws.{failed, passed}
 use Rattle.layout.specs.Store.{treesHeldAt}
-use Rattle.store.specs.WholeStore.{allBelow, goodList}
-use Rattle.store.specs.AllLaws.{all-none, all-more, all-fails}
+use Rattle.layout.specs.WholeStore.{allBelow, goodList}
+use Rattle.layout.specs.AllLaws.{all-none, all-more, all-fails}
 use Rattle.store.specs.RoomLaws.{good-head}
 use Rattle.store.proofs.lists.lists_good.Statement.{statement}
 use Rattle.store.proofs.lists.lists_good.Tie as tie

@@ -6,8 +6,8 @@ use mathlib.Core.Bool.{true, false}
 use native.Mathlib.Omega.{arith}
 use lib.ListN.{length, length-set}
 use Rattle.layout.specs.Store.{splitsHeldAt}
-use Rattle.store.specs.WholeStore.{allBelow, goodLink}
-use Rattle.store.specs.AllLaws.{all-none, all-more, all-fails}
+use Rattle.layout.specs.WholeStore.{allBelow, goodLink}
+use Rattle.layout.specs.AllLaws.{all-none, all-more, all-fails}
 use Rattle.store.specs.GoodHeadLaws.{good-head, mask-fits, link-fits, place-small}
 use Rattle.store.specs.Splits.{Highest}
 use Rattle.store.specs.SplitLaws.{mask-read}

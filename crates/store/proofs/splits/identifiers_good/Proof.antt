@@ -4,8 +4,8 @@ use mathlib.Core.Path.{_≡_, refl, sym}
 use mathlib.Core.Bool.{true}
 use native.Mathlib.Omega.{arith}
 use Rattle.layout.specs.Store.{splitsHeldAt}
-use Rattle.store.specs.WholeStore.{allBelow, goodIdentifier}
-use Rattle.store.specs.AllLaws.{all-none, all-more, all-fails}
+use Rattle.layout.specs.WholeStore.{allBelow, goodIdentifier}
+use Rattle.layout.specs.AllLaws.{all-none, all-more, all-fails}
 use Rattle.store.specs.GoodHeadLaws.{good-head, mask-fits, identifier-fits}
 use Rattle.store.specs.Sums.{constantsAt, Sums}
 use Rattle.store.specs.SumLaws.{identifier-sum}

@@ -7,8 +7,8 @@ use native.Mathlib.Omega.{arith}
 use borrow.Author.Needs.{needs}
 use borrow.Author.Tests.{not-true, not-false}
 use Rattle.layout.specs.Store.{splitsHeldAt}
-use Rattle.store.specs.WholeStore.{allBelow}
-use Rattle.store.specs.AllLaws.{all-none, all-more, all-fails}
+use Rattle.layout.specs.WholeStore.{allBelow}
+use Rattle.layout.specs.AllLaws.{all-none, all-more, all-fails}
 use Rattle.store.specs.GoodHeadLaws.{good-head, order-fits}
 use Rattle.store.specs.RoomLaws.{good-head as room, masks-inside}
 use Rattle.store.specs.Splits.{maskBefore, goodMask}

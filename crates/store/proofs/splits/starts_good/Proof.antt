@@ -5,8 +5,8 @@ use mathlib.Core.Bool.{true}
 use native.Mathlib.Omega.{arith}
 use borrow.Author.Needs.{needs}
 use Rattle.head.specs.Head.{numbersAt}
-use Rattle.store.specs.WholeStore.{allBelow, goodStart}
-use Rattle.store.specs.AllLaws.{all-none, all-more, all-fails}
+use Rattle.layout.specs.WholeStore.{allBelow, goodStart}
+use Rattle.layout.specs.AllLaws.{all-none, all-more, all-fails}
 use Rattle.store.specs.GoodHeadLaws.{good-head, start-fits}
 use Rattle.store.specs.ChainTests.{start-good, start-bad}
 use Rattle.store.proofs.splits.starts_good.Statement.{statement}

@@ -17,19 +17,19 @@ abbrev μ-loop : tie.MeasureT-loop
 μ-loop s₀ n l₀ s l = n - l
 
 lanes-requires : tie.Need-lanes-requires Inv-loop μ-loop
-lanes-requires c κs = let s = c .before .before .args .s .now in omega (arith, c .before .before .pre, masks-from s, size-is s)
+lanes-requires c κs = let s = c .before .before .args .s .now in omega (arith, c .before .before .pre, masks-from (numbersAt s), size-is s)
 
 put16-requires : tie.Need-put16-requires Inv-loop μ-loop
 put16-requires c κs =
     let b = c .before .before .before .before .before .before in
     let v = c .before .before .loop .inv in
-    omega (arith, b .pre, masks-from (b .args .s .now), size-is (b .args .s .now), v .1, v .2 .size)
+    omega (arith, b .pre, masks-from (numbersAt (b .args .s .now)), size-is (b .args .s .now), v .1, v .2 .size)
 
 loop-again : tie.Need-loop-again Inv-loop μ-loop
 loop-again c =
     let l = c .before .before .before .before .before .loop in
     let b = c .before .before .before .before .before .before .before .before .before in
-    let f : 4096 + 4104 * l .l + 2 ≤ length (l .s) = omega (arith, b .pre, masks-from (b .args .s .now), size-is (b .args .s .now), l .inv .1, l .inv .2 .size) in
+    let f : 4096 + 4104 * l .l + 2 ≤ length (l .s) = omega (arith, b .pre, masks-from (numbersAt (b .args .s .now)), size-is (b .args .s .now), l .inv .1, l .inv .2 .size) in
     (omega arith, l .inv .1, lanes-more _ _ _ (l .l) (l .inv .2) (c .before .before .put16 .ensures) f)
 
 returns : tie.Need-returns Inv-loop μ-loop

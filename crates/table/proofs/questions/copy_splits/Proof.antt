@@ -5,7 +5,7 @@ use mathlib.Core.List.{_++_}
 use native.Mathlib.Omega.{arith}
 use lib.ListN.{take, drop}
 use Rattle.layout.specs.Store.{splitsHeldAt, masksAt}
-use Rattle.store.specs.OrderLaws.{masks-length, number-mask}
+use Rattle.layout.specs.OrderLaws.{masks-length, number-mask}
 use Rattle.store.specs.SplitLaws.{split-read}
 use Rattle.table.specs.Counts.{countsAt}
 use Rattle.table.specs.CountsLaws.{counts-length, number-count, row-count}

@@ -11,7 +11,7 @@ use mathlib.Core.Path.{_≡_, refl}
 use mathlib.Core.Logic.{_⊎_, inl, inr, ⊎-elim}
 use mathlib.Core.Bool.{Bool, true, false, _&&_}
 use Rattle.theorems.specs.ListLaws.{and-left, and-right, and-true}
-use Rattle.store.specs.WholeStore.{allBelow}
+use Rattle.layout.specs.WholeStore.{allBelow}
 
 below-suc : (i n : ℕ) → i < suc n → (i < n) ⊎ (i ≡ n)
 below-suc i n h = ⊎-elim (λ e. inr e) (λ l. inl l) (eq-or-lt-of-le (le-of-suc-le-suc h))

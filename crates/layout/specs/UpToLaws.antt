@@ -2,20 +2,22 @@
 --
 --   less-or-not                   two numbers compared
 --   upTo-mem, mem-upTo            the members of a list made by `upTo`
---   upTo-more                     one more at the end
 --   upTo-rises                    where such a list rises, the function does
---   map-mem, mem-map              a list whose members are replaced
+--   length-map, map-at, map-mem, mem-map     a list with a function on each
+--   mem-getD, mem-at              what stands in a list is a member, and each member stands somewhere
+--   rising-at                     what stands earlier in a rising list is less
 --   bool-same                     two tests are equal where each passes with the other
 --   count-append                  the count behind one more tree
 --   listed-nil, listed-next       how many of no trees list a split, and of one tree more
 use Prim.Native.Nat.{ℕ, zero, suc, _+_, _≤_, _<_}
-use native.Mathlib.Nat.{add-zero, zero-add}
 use native.Mathlib.Omega.{arith}
 use mathlib.Core.Path.{_≡_, refl, sym, ap, _∙_}
 use mathlib.Core.Logic.{_⊎_, inl, inr}
 use mathlib.Core.Bool.{Bool, true, false}
 use mathlib.Core.List.{List, [], _∷_, _++_, map}
 use lib.Dec.{ltb}
+use lib.ListN.{length, getD, take}
+use lib.Seq.{take-suc}
 use borrow.Author.Tests.{ltb-true, ltb-false}
 use Rattle.trees.specs.Plain.{if_then_else_, member}
 use Rattle.trees.specs.Consensus.{count}
@@ -23,8 +25,8 @@ use Rattle.theorems.specs.ListLaws.{Mem}
 use Rattle.theorems.specs.RisingLaws.{Rising}
 use Rattle.theorems.specs.ConsensusLaws.{count-step}
 use Rattle.head.specs.Head.{fromTo, upTo}
-use Rattle.layout.specs.Store.{listAt}
-use Rattle.store.specs.WholeStore.{listed}
+use Rattle.layout.specs.Store.{Parts, treesIn, listIn}
+use Rattle.layout.specs.WholeStore.{listedIn}
 
 -- ---- two numbers, two tests
 
@@ -39,6 +41,17 @@ pub bool-same : (a b : Bool) → (a ≡ true → b ≡ true) → (b ≡ true →
 bool-same true b f g = sym (f refl)
 bool-same false true f g = g refl
 bool-same false false f g = refl
+
+-- ---- the members of a list
+
+pub mem-getD : (l : List ℕ) (j : ℕ) → j < length l → Mem (getD l j 0) l
+mem-getD [] j h = absurd (omega arith)
+mem-getD (x ∷ l) zero h = inl refl
+mem-getD (x ∷ l) (suc j) h = inr (mem-getD l j (omega arith))
+
+pub mem-at : (l : List ℕ) (k : ℕ) → Mem k l → (i : ℕ) × (i < length l) × (getD l i 0 ≡ k)
+mem-at (x ∷ l) k (inl e) = (0, omega arith, sym e)
+mem-at (x ∷ l) k (inr h) = let r = mem-at l k h in (suc (r .0), omega (arith, r .1), r .2)
 
 -- ---- the members of a list made by a function
 
@@ -57,13 +70,6 @@ module _ {A : Type 0} (f : ℕ → A) where
       go (inl l) g = inr (g l (omega arith))
       go (inr l) g = let e : i ≡ k = omega arith in inl (ap f e)
 
-  from-more : (k n : ℕ) → fromTo f k (suc n) ≡ fromTo f k n ++ f (k + n) ∷ []
-  unfolding fromTo
-  from-more k zero = rw add-zero
-  from-more k (suc n) =
-      let e : suc k + n ≡ k + suc n = omega arith in
-      ap (λ (l : List A). f k ∷ l) (from-more (suc k) n ∙ rw e)
-
   pub upTo-mem : (n : ℕ) (x : A) → Mem x (upTo f n) → (i : ℕ) × (i < n) × (x ≡ f i)
   unfolding upTo
   upTo-mem n x h = let r = from-mem 0 n x h in (r .0, omega (arith, r .2), r .3)
@@ -71,10 +77,6 @@ module _ {A : Type 0} (f : ℕ → A) where
   pub mem-upTo : (n i : ℕ) → i < n → Mem (f i) (upTo f n)
   unfolding upTo
   mem-upTo n i h = mem-from 0 n i (omega arith) (omega arith)
-
-  pub upTo-more : (n : ℕ) → upTo f (suc n) ≡ upTo f n ++ f n ∷ []
-  unfolding upTo
-  upTo-more n = from-more 0 n ∙ rw zero-add
 
 -- ---- order
 
@@ -92,9 +94,24 @@ module _ (f : ℕ → ℕ) where
   unfolding upTo
   upTo-rises n r i j a b = from-rises 0 n r i j (omega arith) a (omega arith)
 
--- ---- a list whose members are replaced
+pub rising-at : (l : List ℕ) → Rising l → (i j : ℕ) → i < j → j < length l → getD l i 0 < getD l j 0
+rising-at [] r i j a b = absurd (omega arith)
+rising-at (x ∷ l) r i zero a b = absurd (omega arith)
+rising-at (x ∷ l) r zero (suc j) a b = r .0 (getD l j 0) (mem-getD l j (omega arith))
+rising-at (x ∷ l) r (suc i) (suc j) a b = rising-at l (r .1) i j (omega arith) (omega arith)
+
+-- ---- a list with a function on each
 
 module _ (f : ℕ → ℕ) where
+  pub length-map : (l : List ℕ) → length (map f l) ≡ length l
+  length-map [] = refl
+  length-map (x ∷ l) = ap suc (length-map l)
+
+  pub map-at : (l : List ℕ) (j : ℕ) → j < length l → getD (map f l) j 0 ≡ f (getD l j 0)
+  map-at [] j h = absurd (omega arith)
+  map-at (x ∷ l) zero h = refl
+  map-at (x ∷ l) (suc j) h = map-at l j (omega arith)
+
   pub map-mem : (l : List ℕ) (y : ℕ) → Mem y (map f l) → (k : ℕ) × Mem k l × (y ≡ f k)
   map-mem (x ∷ l) y (inl e) = (x, inl refl, e)
   map-mem (x ∷ l) y (inr h) = let r = map-mem l y h in (r .0, inr (r .1), r .2)
@@ -117,10 +134,10 @@ count-append (u ∷ ts) t m =
     go false true e = e
     go false false e = e
 
-pub listed-nil : (s : List ℕ) (k : ℕ) → listed s k 0 ≡ 0
-unfolding listed
-listed-nil s k = refl
+pub listed-nil : (p : Parts) (k : ℕ) → listedIn p k 0 ≡ 0
+unfolding listedIn
+listed-nil p k = refl
 
-pub listed-next : (s : List ℕ) (k t : ℕ) → listed s k (suc t) ≡ (if member k (listAt s t) then suc (listed s k t) else listed s k t)
-unfolding listed
-listed-next s k t = ap (λ (ls : List (List ℕ)). count ls k) (upTo-more (listAt s) t) ∙ count-append (upTo (listAt s) t) (listAt s t) k
+pub listed-next : (p : Parts) (k t : ℕ) → t < treesIn p → listedIn p k (suc t) ≡ (if member k (listIn p t) then suc (listedIn p k t) else listedIn p k t)
+unfolding listedIn
+listed-next p k t h = ap (λ (ls : List (List ℕ)). count ls k) (take-suc (p .lists) t [] h) ∙ count-append (take t (p .lists)) (listIn p t) k
