@@ -11,7 +11,7 @@ ghost use Rattle.head.specs.Head.{numbersAt};
 ghost use Rattle.layout.specs.Store.{treesHeldAt, treeFrom, listAt, treeAt};
 ghost use Rattle.layout.specs.WholeStore.{wholeAt};
 ghost use Rattle.distances.specs.Marks.{marked, marksOf, markSum};
-use layout::Tree;
+use answers::Tree;
 
 // Puts v at each row that tree i lists.
 pub(crate) fn mark_tree(s: &[u8], i: usize, v: u8, marks: &mut [u8; 4096])
