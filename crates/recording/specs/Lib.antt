@@ -1,4 +1,4 @@
--- What recording a tree asks and gives, and its laws.
+-- The definitions that the contracts cite, and their laws.
+pub mod Added
+pub mod Listed
 pub mod Recording
-pub mod GrownLaws
-pub mod RecordedLaws

@@ -1,33 +1,65 @@
 -- What recording a tree asks and gives.
 --
---   Recordable s n ms ps is rs     the first n of ms are the splits of a tree; ps, is and rs have their places, identifiers and rows; and
---                                  the store s has room for it
---   Recorded s t u                 the lent bytes u are whole and hold what s holds, and the tree t
---   Grown s ms rs j u              of the first j of ms, those that are new to s stand in u, in their rows, listed by no tree
-use Prim.Native.Nat.{ℕ, _+_, _≤_, _<_}
+--   masksOf n rs         the masks of the first n records, of three words each: mask, place, identifier
+--   SplitsOf s n rs      the first n records are those of a tree's splits, with their places and identifiers
+--   newIn p ms           those of the masks ms that are new to the parts p
+--   rowOf l m            where m stands in l; behind it, where it does not
+--   rowsOf p ms          the rows of the masks ms, those of new ones behind the others
+--   withNew o ms p       the parts p with the splits ms, listed by no tree
+--   Recorded s t u       the lent bytes u are whole and hold what s holds, and the tree t
+--   Grown s ms u         the lent bytes u are s with those of ms that are new, listed by no tree
+--   Accepts a s r t      the verdict a as to room: refused and nothing changed, or the tree recorded
+use Prim.Native.Nat.{ℕ, suc, _+_, _*_, _≤_, _<_}
 use mathlib.Core.Path.{_≡_}
-use mathlib.Core.Bool.{true}
-use mathlib.Core.List.{List}
-use lib.ListN.{length, getD, take}
+use mathlib.Core.Bool.{true, not}
+use mathlib.Core.List.{List, [], _∷_, _++_, map}
+use lib.Dec.{eqb}
+use lib.ListN.{length, getD}
+use Rattle.trees.specs.Plain.{if_then_else_, keep, member, Answer, refused, gives}
 use Rattle.trees.specs.Hash.{identifier}
-use Rattle.trees.specs.Held.{newSplits, withTree}
+use Rattle.trees.specs.Opening.{Opening}
+use Rattle.trees.specs.Held.{withTree, accepted}
 use Rattle.trees.specs.Whole.{goodTree}
-use Rattle.head.specs.Head.{numbersAt, secondAt}
-use Rattle.layout.specs.Store.{treesHeldAt, splitsHeldAt, sizeAt, maskAt, countAt, heldAt}
-use Rattle.layout.specs.WholeStore.{wholeAt}
-use Rattle.layout.specs.Sound.{Sound}
-use Rattle.store.specs.Chain.{placeIn}
-use Rattle.finding.specs.Rows.{rowsFor}
+use Rattle.answers.specs.Answers.{progressGiven}
+use Rattle.answers.specs.declared.Progress.{Progress}
+use Rattle.head.specs.Head.{upTo, numbersAt, secondAt, openingAt}
+use Rattle.layout.specs.Store.{sizeAt, Parts, partsAt, masksIn, treesHeldAt, heldAt}
+use Rattle.layout.specs.WholeStore.{wholeAt, placeIn}
+use Rattle.recording.specs.Added.{withSplit}
 
-pub record Recordable (s : List ℕ) (n : ℕ) (ms ps is rs : List ℕ) : Type 0 where
+unfoldable pub masksOf : ℕ → List ℕ → List ℕ
+unfolding upTo
+masksOf n rs = upTo (λ j. getD rs (3 * j) 0) n
+
+pub record SplitsOf (s : List ℕ) (n : ℕ) (rs : List ℕ) : Type 0 where
   pub few : n ≤ 62
-  pub reach : (n ≤ length ms) × (n ≤ length ps) × (n ≤ length is) × (n ≤ length rs)
-  pub good : goodTree (numbersAt s .taxa) (take n ms) ≡ true
-  pub placed : (j : ℕ) → j < n → getD ps j 0 ≡ placeIn s (getD ms j 0)
-  pub identified : (j : ℕ) → j < n → getD is j 0 ≡ identifier (secondAt s) (getD ms j 0)
-  pub rowed : take n rs ≡ rowsFor s (splitsHeldAt s) (take n ms)
-  pub tree-room : treesHeldAt s < numbersAt s .treeRoom
-  pub split-room : splitsHeldAt s + length (newSplits (heldAt s) (take n ms)) ≤ numbersAt s .splitRoom
+  pub reach : 3 * n ≤ length rs
+  pub good : goodTree (numbersAt s .taxa) (masksOf n rs) ≡ true
+  pub placed : (j : ℕ) → j < n → getD rs (3 * j + 1) 0 ≡ placeIn s (getD rs (3 * j) 0)
+  pub identified : (j : ℕ) → j < n → getD rs (3 * j + 2) 0 ≡ identifier (secondAt s) (getD rs (3 * j) 0)
+
+unfoldable pub newIn : Parts → List ℕ → List ℕ
+unfolding keep member
+newIn p ms = keep (λ m. not (member m (masksIn p))) ms
+
+unfoldable pub rowOf : List ℕ → ℕ → ℕ
+rowOf [] m = 0
+rowOf (x ∷ l) m = if eqb x m then 0 else suc (rowOf l m)
+
+unfoldable pub rowsOf : Parts → List ℕ → List ℕ
+unfolding newIn rowOf
+rowsOf p ms = map (rowOf (p .masks ++ newIn p ms)) ms
+
+unfoldable pub withNew : Opening → List ℕ → Parts → Parts
+unfolding withSplit member
+withNew o [] p = p
+withNew o (m ∷ ms) p = withNew o ms (if member m (masksIn p) then p else withSplit o m p)
+
+pub record Grown (s ms u : List ℕ) : Type 0 where
+  pub parts : partsAt u ≡ withNew (openingAt s) ms (partsAt s)
+  pub opening : openingAt u ≡ openingAt s
+  pub size : length u ≡ length s
+  pub behind : (i : ℕ) → sizeAt s ≤ i → getD u i 0 ≡ getD s i 0
 
 pub record Recorded (s t u : List ℕ) : Type 0 where
   pub whole : wholeAt u ≡ true
@@ -35,14 +67,7 @@ pub record Recorded (s t u : List ℕ) : Type 0 where
   pub size : length u ≡ length s
   pub behind : (i : ℕ) → sizeAt s ≤ i → getD u i 0 ≡ getD s i 0
 
-pub record Grown (s ms rs : List ℕ) (j : ℕ) (u : List ℕ) : Type 0 where
-  pub sound : Sound u
-  pub held : heldAt u ≡ heldAt s
-  pub number : splitsHeldAt u ≡ splitsHeldAt s + length (newSplits (heldAt s) (take j ms))
-  pub old-masks : (k : ℕ) → k < splitsHeldAt s → maskAt u k ≡ maskAt s k
-  pub old-counts : (k : ℕ) → k < splitsHeldAt s → countAt u k ≡ countAt s k
-  pub below : (i : ℕ) → i < j → getD rs i 0 < splitsHeldAt u
-  pub stands : (i : ℕ) → i < j → maskAt u (getD rs i 0) ≡ getD ms i 0
-  pub fresh : (k : ℕ) → splitsHeldAt s ≤ k → k < splitsHeldAt u → (i : ℕ) × (i < j) × (getD rs i 0 ≡ k)
-  pub size : length u ≡ length s
-  pub behind : (i : ℕ) → sizeAt s ≤ i → getD u i 0 ≡ getD s i 0
+unfoldable pub Accepts : Answer (List ℕ) → List ℕ → Progress → List ℕ → Type 0
+unfolding progressGiven
+Accepts (refused k) s r t = (progressGiven r ≡ refused k) × (t ≡ s)
+Accepts (gives x) s r t = (progressGiven r ≡ gives (accepted (treesHeldAt s))) × Recorded s x t

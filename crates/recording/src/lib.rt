@@ -1,51 +1,57 @@
-// Recording an accepted tree: its new splits first, then the tree itself. Whether there is room for
-// it is known before the first byte is stored.
+// The tree of a text that was judged: whether there is room for it and for its new splits, and recording it. Whether there is
+// room is known before the first byte is stored.
 //
-// Its contracts cite `specs/Recording.antt`.
+// Its contracts cite `specs/Recording.antt`; what one split more and one tree more make of a store's parts stands in `specs/Added.antt`
+// and `specs/Listed.antt`.
 ghost use mathlib.Core.Path.{_≡_};
 ghost use mathlib.Core.Bool.{true};
-ghost use lib.ListN.{take};
-ghost use Rattle.layout.specs.Store.{splitsHeldAt};
+ghost use Prim.Native.Nat.{_+_, _≤_};
+ghost use lib.ListN.{length, take};
+ghost use Rattle.trees.specs.Held.{roomFor};
+ghost use Rattle.layout.specs.Store.{partsAt, splitsHeldAt, heldAt};
 ghost use Rattle.layout.specs.WholeStore.{wholeAt};
-ghost use Rattle.recording.specs.Recording.{Recordable, Recorded, Grown};
+ghost use Rattle.recording.specs.Recording.{masksOf, SplitsOf, newIn, rowsOf, Accepts, Grown};
+use answers::Progress;
+use answers::Refusal;
+use answers::Tree;
 
-// Records the tree of the first n masks, whose places, identifiers and rows stand beside them.
-pub fn record_tree(
-    s: &mut [u8],
-    n: usize,
-    masks: &[u64],
-    places: &[u64],
-    identifiers: &[u64],
-    rows: &[u64],
-)
+mod adding;
+mod finding;
+mod listing;
+
+// Records the tree whose splits stand in the first n records, unless there is no room for it (11) or for its new splits (12).
+pub fn accept(s: &mut [u8], n: usize, records: &[u64]) -> Progress
     requires { ⌜ wholeAt (now s) ≡ true ⌝ }
-    requires { ⌜ Recordable (now s) n (now masks) (now places) (now identifiers) (now rows) ⌝ }
-    ensures { λ r. ⌜ Recorded (now (s .entry)) (take n (now (masks .entry))) (now (s .exit)) ⌝ }
+    requires { ⌜ SplitsOf (now s) n (now records) ⌝ }
+    ensures { λ r. ⌜ Accepts (roomFor (heldAt (now (s .entry))) (masksOf n (now (records .entry)))) (now (s .entry)) r (now (s .exit)) ⌝ }
 {
-    let held = layout::splits_held(s) as u64;
-    add_new(s, n, held, masks, places, identifiers, rows);
-    listing::list_tree(s, n, rows);
+    let trees = layout::trees_held(s);
+    if trees == head::tree_room(s) as usize {
+        return Progress::Refused(Refusal::NoTreeRoom);
+    }
+    let mut rows = [0u64; 64];
+    let new = finding::find_rows(s, n, records, &mut rows);
+    if (head::split_room(s) as usize) < layout::splits_held(s) + new {
+        return Progress::Refused(Refusal::NoSplitRoom);
+    }
+    add_new(s, n, records, &rows);
+    listing::list_tree(s, n, &rows);
+    Progress::Accepted(Tree(trees))
 }
 
-// Puts in the new ones of the first n masks: those whose rows the store does not have yet.
-fn add_new(
-    s: &mut [u8],
-    n: usize,
-    held: u64,
-    masks: &[u64],
-    places: &[u64],
-    identifiers: &[u64],
-    rows: &[u64],
-)
+// Puts in the new ones of the first n splits: those whose rows the store does not have yet.
+fn add_new(s: &mut [u8], n: usize, records: &[u64], rows: &[u64])
     requires { ⌜ wholeAt (now s) ≡ true ⌝ }
-    requires { ⌜ Recordable (now s) n (now masks) (now places) (now identifiers) (now rows) ⌝ }
-    requires { ⌜ held ≡ splitsHeldAt (now s) ⌝ }
-    ensures { λ r. ⌜ Grown (now (s .entry)) (now (masks .entry)) (now (rows .entry)) n (now (s .exit)) ⌝ }
+    requires { ⌜ SplitsOf (now s) n (now records) ⌝ }
+    requires { ⌜ (n ≤ length (now rows)) × (take n (now rows) ≡ rowsOf (partsAt (now s)) (masksOf n (now records))) ⌝ }
+    requires { ⌜ splitsHeldAt (now s) + length (newIn (partsAt (now s)) (masksOf n (now records))) ≤ numbersAt (now s) .splitRoom ⌝ }
+    ensures { λ r. ⌜ Grown (now (s .entry)) (masksOf n (now (records .entry))) (now (s .exit)) ⌝ }
 {
+    let held = layout::splits_held(s) as u64;
     let mut j = 0;
     while j < n {
         if held <= rows[j] {
-            adding::add_split(s, masks[j], places[j], identifiers[j]);
+            adding::add_split(s, records[3 * j], records[3 * j + 1], records[3 * j + 2]);
         }
         j += 1;
     }

@@ -1,0 +1,27 @@
+// Entering one more tree, given by the rows of its splits, into a store in lent bytes.
+ghost use mathlib.Core.Path.{_≡_};
+ghost use Prim.Native.Nat.{_≤_, _<_};
+ghost use lib.ListN.{length, take};
+ghost use Rattle.head.specs.Head.{numbersAt, openingAt};
+ghost use Rattle.layout.specs.Store.{partsAt, treesHeldAt};
+ghost use Rattle.layout.specs.WholeFacts.{HeadAt};
+ghost use Rattle.layout.specs.Sound.{Sound};
+ghost use Rattle.recording.specs.Listed.{Listed, Rows};
+use answers::Tree;
+
+// Enters the tree whose splits stand in the first n of the rows.
+pub(crate) fn list_tree(s: &mut [u8], n: usize, rows: &[u64])
+    requires { ⌜ HeadAt (now s) × Sound (openingAt (now s)) (partsAt (now s)) ⌝ }
+    requires { ⌜ treesHeldAt (now s) < numbersAt (now s) .treeRoom ⌝ }
+    requires { ⌜ (n ≤ 62) × (n ≤ length (now rows)) ⌝ }
+    requires { ⌜ Rows (partsAt (now s)) (take n (now rows)) ⌝ }
+    ensures { λ r. ⌜ Listed (now (s .entry)) (take n (now (rows .entry))) (now (s .exit)) ⌝ }
+{
+    let trees = layout::trees_held(s);
+    let from = layout::tree_from(s, Tree(trees));
+    let counts = layout::counts_from(s);
+    write_rows(s, from + 2, n, rows);
+    fields::put16(s, from, n as u16);
+    add_counts(s, counts, n, rows);
+    fields::put16(s, 10, (trees + 1) as u16);
+}
