@@ -28,6 +28,7 @@ use Rattle.fields.specs.FieldLaws.{put-length, put-outside, number-same, number
 use Rattle.fields.specs.Run.{copied}
 use Rattle.fields.specs.RunLaws.{copied-length, copied-inside, copied-outside}
 use Rattle.head.specs.Head.{nameAt}
+use Rattle.head.specs.HeadLaws.{run-slice}
 use Rattle.opening.specs.Walk.{namesFrom, NameEnd}
 use Rattle.opening.specs.WalkLaws.{names-all, names-none}
 use Rattle.opening.specs.Writing.{puts, withName, withNames, inOrder, Lies, Reached}
@@ -210,11 +211,6 @@ module _ (list s : List ℕ) where
   reached-all t at i p h = sym (ap (withNames t i) (names-none list at h)) ∙ p .rest
 
 -- ---- a name of a list
-
-run-slice : (b n : ℕ) (t : List ℕ) → take n (drop b t) ≡ slice b (b + n) t
-run-slice zero n t = rw zero-add
-run-slice (suc b) n [] = rw (take-nil, take-nil, drop-nil)
-run-slice (suc b) n (x ∷ t) = rw suc-add (run-slice b n t)
 
 pub copied-name : (s t : List ℕ) (i b e : ℕ) → b ≤ e → e ≤ length t
     → copied (set s (16 + 33 * i) (e - b)) (17 + 33 * i) t b (e - b) ≡ withName s i (slice b e t)

@@ -2,17 +2,35 @@
 --
 --   Mem x l         x is a member of l, as a type
 --   by-test P b     what holds of both ways of a choice holds of the choice
+--   less-or-not, equal-or-not     two numbers compared
+--   mem-getD        what stands in a list is a member
 --   keep-step, keep-most     how many pass a test: one member more, and never more than there are
-use Prim.Native.Nat.{ℕ, suc, _≤_}
+use Prim.Native.Nat.{ℕ, zero, suc, _≤_, _<_}
 use native.Mathlib.Omega.{arith}
 use mathlib.Core.Path.{_≡_, refl, ap, sym, _∙_}
 use mathlib.Core.Logic.{_⊎_, inl, inr, ⊎-map}
 use mathlib.Core.Bool.{Bool, true, false, _&&_, _||_, true≢false}
 use mathlib.Core.List.{List, [], _∷_, _++_}
-use lib.Dec.{eqb}
-use lib.ListN.{length}
-use borrow.Author.Tests.{eqb-true, eq-eqb}
+use lib.Dec.{ltb, eqb}
+use lib.ListN.{length, getD}
+use borrow.Author.Tests.{ltb-true, ltb-false, eqb-true, eqb-false, eq-eqb}
 use Rattle.trees.specs.Plain.{if_then_else_, every, keep, member}
+
+-- ---- two numbers
+
+pub less-or-not : (a b : ℕ) → (a < b) ⊎ (b ≤ a)
+less-or-not a b = go (ltb a b) refl
+  where
+    go : (t : Bool) → ltb a b ≡ t → (a < b) ⊎ (b ≤ a)
+    go true e = inl (ltb-true a b e)
+    go false e = inr (ltb-false a b e)
+
+pub equal-or-not : (a b : ℕ) → (a ≡ b) ⊎ (a ≡ b → ⊥)
+equal-or-not a b = go (eqb a b) refl
+  where
+    go : (t : Bool) → eqb a b ≡ t → (a ≡ b) ⊎ (a ≡ b → ⊥)
+    go true e = inl (eqb-true a b e)
+    go false e = inr (eqb-false a b e)
 
 -- ---- choices and tests
 
@@ -54,6 +72,11 @@ or-right false b e = e
 abbrev pub Mem : {A : Type 0} → A → List A → Type 0
 Mem x [] = ⊥
 Mem x (y ∷ l) = (x ≡ y) ⊎ Mem x l
+
+pub mem-getD : (l : List ℕ) (j : ℕ) → j < length l → Mem (getD l j 0) l
+mem-getD [] j h = absurd (omega arith)
+mem-getD (x ∷ l) zero h = inl refl
+mem-getD (x ∷ l) (suc j) h = inr (mem-getD l j (omega arith))
 
 pub mem-left : {A : Type 0} (x : A) (l k : List A) → Mem x l → Mem x (l ++ k)
 mem-left x (y ∷ l) k (inl e) = inl e

@@ -75,9 +75,6 @@ same-bool true q f g = sym (f refl)
 same-bool false true f g = g refl
 same-bool false false f g = refl
 
-pub agree-sym : (a b : ℕ) → agree a b ≡ agree b a
-agree-sym a b = same-bool (agree a b) (agree b a) (λ e. true-agree b a (ag-sym a b (agree-true a b e))) (λ e. true-agree a b (ag-sym b a (agree-true b a e)))
-
 -- ---- the mask of all taxa
 
 pub every-on : (n i : ℕ) → i < n → On (everyTaxon n) i
