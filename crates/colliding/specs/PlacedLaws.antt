@@ -14,16 +14,15 @@ use lib.Dec.{eqb}
 use lib.ListN.{getD, set, replicate, length-set, length-replicate}
 use lib.Seq.{getD-set-same, getD-set-other}
 use borrow.Author.Tests.{eqb-true, eqb-false}
+use Rattle.theorems.specs.ListLaws.{less-or-not, equal-or-not}
 use Rattle.trees.specs.Plain.{if_then_else_}
 use Rattle.head.specs.Head.{numbersAt}
 use Rattle.layout.specs.Store.{splitsHeldAt, maskAt, linkAt, startAt}
 use Rattle.layout.specs.WholeStore.{highestBelow, wholeAt}
 use Rattle.layout.specs.WholeFacts.{ChainsAt, whole-at-facts, facts-head}
 use Rattle.store.specs.GoodHeadLaws.{GoodHead, good-head}
-use Rattle.layout.specs.UpToLaws.{less-or-not}
 use Rattle.store.specs.Chain.{placeIn}
 use Rattle.store.specs.ChainLaws.{highest-most, place-below}
-use Rattle.store.specs.ChainTests.{equal-or-not}
 use Rattle.colliding.specs.Collisions.{Placed, PlacedPart}
 
 -- ---- a whole store

@@ -9,16 +9,15 @@
 use Prim.Native.Nat.{ℕ, zero, suc, _+_, _-_, _*_, _%_, _≤_, _<_}
 use native.Mathlib.Numerals.{add-one}
 use native.Mathlib.Omega.{arith}
-use mathlib.Core.Path.{_≡_, refl, sym, ap, ap₂, _∙_}
+use mathlib.Core.Path.{_≡_, refl, sym, ap, _∙_}
 use mathlib.Core.Logic.{_⊎_, inl, inr}
-use mathlib.Core.Bool.{Bool, true, false, true≢false}
-use mathlib.Core.List.{List, [], _∷_}
-use lib.Dec.{eqb, ltb}
+use mathlib.Core.Bool.{Bool, true, false}
+use mathlib.Core.List.{List, []}
 use lib.ListN.{length, getD, set, drop, drop-of-length-le, replicate, getD-replicate}
 use lib.Seq.{slice, slice-empty, slice-cons, drop-cons, getD-set-same, getD-set-other}
-use borrow.Author.Tests.{ltb-true, ltb-false, eqb-true, eqb-false, eq-eqb, ne-eqb}
+use borrow.Author.Tests.{eq-eqb, ne-eqb}
 use Rattle.trees.specs.Plain.{sameBytes}
-use Rattle.theorems.specs.ListLaws.{less-or-not, equal-or-not, if-true, if-false, and-left, and-right}
+use Rattle.theorems.specs.ListLaws.{less-or-not, equal-or-not, if-true, if-false}
 use Rattle.theorems.specs.NameLaws.{same-true}
 use Rattle.head.specs.Index.{keyFrom, key, nextFrom, nextWith, Indexed, IndexedFrom, left}
 

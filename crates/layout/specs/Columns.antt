@@ -10,14 +10,12 @@
 use Prim.Native.Nat.{ℕ, zero, suc, _+_, _*_, _^_, _≤_, _<_}
 use native.Mathlib.Nat.{mul-le-mul-left, mul-suc, add-zero, zero-add}
 use native.Mathlib.Omega.{arith}
-use mathlib.Core.Path.{_≡_, refl, sym, ap, ap₂, _∙_}
+use mathlib.Core.Path.{_≡_, sym, ap, ap₂, _∙_}
 use mathlib.Core.Logic.{_⊎_, inl, inr}
-use mathlib.Core.Bool.{Bool, true, false}
 use mathlib.Core.List.{List, [], _∷_, _++_}
-use lib.Dec.{ltb}
 use lib.ListN.{length, getD, set, length-set}
 use lib.Seq.{ext-getD, getD-set-same, getD-set-other}
-use borrow.Author.Tests.{ltb-true, ltb-false}
+use Rattle.theorems.specs.ListLaws.{less-or-not}
 use Rattle.fields.specs.Field.{number, put}
 use Rattle.fields.specs.FieldLaws.{put-outside, number-put, number-put-outside, number-same}
 use Rattle.head.specs.Head.{fromTo, upTo}
@@ -88,11 +86,4 @@ module _ (w a n v : ℕ) (s : List ℕ) (l : v < 256 ^ w) where
     column-set =
         ext-getD 0 _ _ (column-length w a n _ ∙ sym (length-set (columnAt w a n s) k v ∙ column-length w a n s)) (λ i q.
         let b : i < n = omega (arith, column-length w a n (put w s (a + w * k) v)) in
-        column-at w a n _ i b ∙ at-set i b (less i k) (less k i))
-      where
-        less : (x y : ℕ) → (x < y) ⊎ (y ≤ x)
-        less x y = go (ltb x y) refl
-          where
-            go : (t : Bool) → ltb x y ≡ t → (x < y) ⊎ (y ≤ x)
-            go true e = inl (ltb-true x y e)
-            go false e = inr (ltb-false x y e)
+        column-at w a n _ i b ∙ at-set i b (less-or-not i k) (less-or-not k i))

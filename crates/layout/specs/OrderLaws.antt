@@ -15,11 +15,11 @@ use mathlib.Core.Bool.{true}
 use mathlib.Core.List.{List}
 use lib.ListN.{length, getD}
 use Rattle.trees.specs.Mask.{proper}
-use Rattle.theorems.specs.ListLaws.{Mem, every-at}
+use Rattle.theorems.specs.ListLaws.{Mem, every-at, less-or-not, mem-getD}
 use Rattle.theorems.specs.RisingLaws.{Rising, rising-true}
 use Rattle.layout.specs.Store.{Parts, splitsIn, maskIn, orderIn, splitIn, masksIn}
 use Rattle.layout.specs.WholeFacts.{SplitsIn}
-use Rattle.layout.specs.UpToLaws.{less-or-not, length-map, map-at, map-mem, mem-map, mem-getD, mem-at, rising-at}
+use Rattle.layout.specs.UpToLaws.{length-map, map-at, map-mem, mem-map, mem-at, rising-at}
 use Rattle.layout.specs.PigeonLaws.{each-stands}
 
 module _ (p : Parts) (long : length (p .order) ≡ splitsIn p) where

@@ -19,7 +19,6 @@ use borrow.Author.Tests.{leb-true, lt-ltb, eq-eqb, ne-eqb, not-true, not-false}
 use Rattle.trees.specs.Plain.{every}
 use Rattle.trees.specs.Opening.{Numbers, between, inRange, storeSize, goodConstants}
 use Rattle.theorems.specs.ListLaws.{and-right}
-use Rattle.theorems.specs.OpeningLaws.{in-range}
 
 -- ---- the size of a store
 

@@ -13,10 +13,10 @@ use mathlib.Core.Path.{_≡_, refl, sym, ap, _∙_}
 use mathlib.Core.Bool.{Bool, true, false, _&&_, _||_, not}
 use mathlib.Core.List.{List, _∷_}
 use lib.Dec.{leb, eqb, eqb·suc-suc, eqb·suc-zero, eqb·zero-suc}
-use lib.ListN.{length, getD, drop, drop-of-length-le}
-use lib.Seq.{slice, slice-cons, slice-empty, length-slice, drop-cons}
-use borrow.Author.Tests.{le-leb, lt-leb, eq-eqb, ne-eqb}
-use Rattle.trees.specs.Plain.{every, member, sameBytes, inNames}
+use lib.ListN.{length, getD}
+use lib.Seq.{slice, slice-cons, slice-empty, length-slice}
+use borrow.Author.Tests.{le-leb, lt-leb}
+use Rattle.trees.specs.Plain.{every, sameBytes, inNames}
 use Rattle.trees.specs.Text.{isLabelByte}
 use Rattle.trees.specs.Names.{isName, different, goodNames}
 use Rattle.opening.specs.Walk.{namesFrom, NameEnd}

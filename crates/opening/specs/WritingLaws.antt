@@ -9,7 +9,7 @@
 --   reached-none, reached-name, reached-more, reached-all     names as the loop writes them
 --   copied-name                         a name of a list, as the code copies it
 use Prim.Native.Nat.{ℕ, zero, suc, _+_, _*_, _-_, _^_, _≤_, _<_}
-use native.Mathlib.Nat.{add-zero, zero-add, suc-add, mul-zero, mul-suc}
+use native.Mathlib.Nat.{add-zero, mul-zero, mul-suc}
 use native.Mathlib.Numerals.{add-one}
 use native.Mathlib.Omega.{arith}
 use mathlib.Core.Path.{_≡_, refl, sym, ap, _∙_}
@@ -17,7 +17,7 @@ use mathlib.Core.Logic.{_⊎_, inl, inr}
 use mathlib.Core.Bool.{true, _&&_}
 use mathlib.Core.List.{List, [], _∷_}
 use lib.ListN.{length, getD, set, take, drop, length-set, length-drop, drop-of-length-le}
-use lib.Seq.{slice, length-slice, length-take-le, take-nil, drop-nil, take-length, drop-cons, getD-set-same, getD-set-other, getD-take, getD-drop, ext-getD}
+use lib.Seq.{slice, length-slice, length-take-le, take-length, drop-cons, getD-set-same, getD-set-other, getD-take, getD-drop, ext-getD}
 use Rattle.trees.specs.Plain.{every}
 use Rattle.trees.specs.Names.{namesIn, isName}
 use Rattle.trees.specs.Opening.{Numbers}

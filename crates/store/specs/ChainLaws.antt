@@ -20,13 +20,12 @@ use lib.Dec.{eqb}
 use borrow.Author.Tests.{eqb-true, eqb-false, eq-eqb, ne-eqb}
 use Rattle.trees.specs.Plain.{if_then_else_, member}
 use Rattle.trees.specs.Hash.{place}
-use Rattle.theorems.specs.ListLaws.{by-test, if-true, if-false, Mem, member-not, not-member}
+use Rattle.theorems.specs.ListLaws.{by-test, if-true, if-false, Mem, member-not, not-member, less-or-not}
 use Rattle.head.specs.Head.{numbersAt, openingAt}
 use Rattle.layout.specs.Store.{partsAt, splitsHeldAt, maskAt, masksAt, linkAt, startAt}
 use Rattle.layout.specs.StoreLaws.{shaped-at}
 use Rattle.layout.specs.WholeStore.{placeIn, highestBelow, wholeAt, highestIn}
 use Rattle.layout.specs.WholeFacts.{ChainsAt, whole-at-facts}
-use Rattle.layout.specs.UpToLaws.{less-or-not}
 use Rattle.layout.specs.OrderLaws.{masks-mem, mem-masks, mask-same}
 use Rattle.store.specs.HeldWholeLaws.{opening-facts}
 use Rattle.store.specs.Chain.{metFrom, met, ofPlace, Falling, lookFrom, lookAt, look}

@@ -1,6 +1,5 @@
 -- Laws of the chains of the places: how the loops test them. Assumes nothing.
 --
---   equal-or-not                         two numbers compared
 --   link-read, start-read                a link and a start, as they are read
 --   place-read                           the place of split k, as it is computed
 --   highest-none, highest-here, highest-other     `highestBelow`, a split at a time
@@ -13,27 +12,19 @@ use native.Mathlib.Numerals.{add-one}
 use native.Mathlib.Omega.{arith}
 use mathlib.Core.Path.{_≡_, refl, sym, _∙_}
 use mathlib.Core.Logic.{_⊎_, inl, inr}
-use mathlib.Core.Bool.{Bool, true, false, _&&_}
+use mathlib.Core.Bool.{true, false, _&&_}
 use mathlib.Core.List.{List}
-use lib.Dec.{eqb}
 use lib.ListN.{length, getD, set, replicate, getD-replicate}
 use lib.Seq.{getD-set-same, getD-set-other}
-use borrow.Author.Tests.{eqb-true, eqb-false, eq-eqb, ne-eqb}
+use borrow.Author.Tests.{eq-eqb, ne-eqb}
 use Rattle.trees.specs.Hash.{place}
-use Rattle.theorems.specs.ListLaws.{if-true, if-false}
+use Rattle.theorems.specs.ListLaws.{equal-or-not, if-true, if-false}
 use Rattle.fields.specs.Field.{number}
 use Rattle.head.specs.Head.{numbersAt, firstAt}
 use Rattle.layout.specs.Store.{splitsHeldAt, linksFrom, placesFrom, maskAt, linkAt, startAt}
 use Rattle.layout.specs.StoreLaws.{link-is, start-is}
 use Rattle.layout.specs.WholeStore.{allBelow, highestBelow, goodLink, goodStart, goodChains, chainsGood, highestIn, linkGood, startGood}
 use Rattle.store.specs.Splits.{placeAt, Highest}
-
-pub equal-or-not : (a b : ℕ) → (a ≡ b) ⊎ (a ≡ b → ⊥)
-equal-or-not a b = go (eqb a b) refl
-  where
-    go : (t : Bool) → eqb a b ≡ t → (a ≡ b) ⊎ (a ≡ b → ⊥)
-    go true e = inl (eqb-true a b e)
-    go false e = inr (eqb-false a b e)
 
 module _ (s : List ℕ) where
   pub place-read : (k m p : ℕ) → m ≡ maskAt s k → p ≡ place (firstAt s) (numbersAt s .places) m → p ≡ placeAt s k

@@ -18,16 +18,15 @@ use lib.ListN.{length, getD, set, take, replicate, length-set, length-replicate}
 use lib.Seq.{take-suc, take-all, getD-set-same, getD-set-other}
 use borrow.Author.Tests.{eq-eqb, ne-eqb, le-leb}
 use Rattle.trees.specs.Plain.{member}
-use Rattle.theorems.specs.ListLaws.{Mem, member-not}
+use Rattle.theorems.specs.ListLaws.{Mem, member-not, mem-getD, equal-or-not}
 use Rattle.theorems.specs.RisingLaws.{Rising}
 use Rattle.fields.specs.Field.{number}
 use Rattle.head.specs.Head.{numbersAt}
 use Rattle.layout.specs.Store.{partsAt, treesHeldAt, splitsHeldAt, countsFrom, maskAt, countAt, listAt, treeAt}
 use Rattle.layout.specs.StoreLaws.{count-is}
-use Rattle.layout.specs.WholeStore.{listed, goodCount, countGood, listedIn}
-use Rattle.layout.specs.UpToLaws.{mem-getD, mem-map, oneIf, one-most, listed-nil, listed-step, listed-most}
+use Rattle.layout.specs.WholeStore.{listed, goodCount, countGood}
+use Rattle.layout.specs.UpToLaws.{mem-map, oneIf, one-most, listed-nil, listed-step, listed-most}
 use Rattle.store.specs.ListTests.{CountedPart, Counted}
-use Rattle.store.specs.ChainTests.{equal-or-not}
 
 -- ---- the first numbers of a list
 

@@ -19,7 +19,7 @@ use lib.Seq.{drop-cons, take-suc, take-suc-set}
 use borrow.Author.Tests.{le-leb, lt-leb, lt-ltb, le-ltb, ltb-true}
 use Rattle.trees.specs.Plain.{every}
 use Rattle.trees.specs.Whole.{rising, agreeInPairs}
-use Rattle.theorems.specs.ListLaws.{and-left, every-at}
+use Rattle.theorems.specs.ListLaws.{and-left, every-at, mem-getD}
 use Rattle.theorems.specs.RisingLaws.{Rising, rising-true}
 use Rattle.fields.specs.Field.{number}
 use Rattle.head.specs.Head.{numbersAt}
@@ -27,7 +27,7 @@ use Rattle.layout.specs.Store.{treeFrom, masksFrom, partsAt, treesHeldAt, split
 use Rattle.layout.specs.StoreLaws.{lane-from, mask-is, entriesAt, entryAt, list-length, list-at, length-is}
 use Rattle.layout.specs.WholeStore.{goodList, goodLaneAt, listGood, laneGood}
 use Rattle.layout.specs.WholeFacts.{list-facts}
-use Rattle.layout.specs.UpToLaws.{mem-getD, length-map, map-at}
+use Rattle.layout.specs.UpToLaws.{length-map, map-at}
 use Rattle.store.specs.ListTests.{allRows}
 
 -- ---- one by one

@@ -17,7 +17,7 @@ use lib.ListN.{length, getD, List·getD-map}
 use lib.Seq.{ext-getD}
 use Rattle.trees.specs.Plain.{if_then_else_, member}
 use Rattle.trees.specs.Consensus.{recorded, count}
-use Rattle.theorems.specs.ListLaws.{Mem, member-mem, mem-member}
+use Rattle.theorems.specs.ListLaws.{Mem, member-mem, mem-member, same-bool}
 use Rattle.theorems.specs.RisingLaws.{rising-same, recorded-rising, recorded-mem, mem-recorded}
 use Rattle.theorems.specs.ConsensusLaws.{count-nil}
 use Rattle.head.specs.Head.{upTo}
@@ -28,7 +28,7 @@ use Rattle.layout.specs.StoreLaws.{shaped-at}
 use Rattle.layout.specs.WholeStore.{listed, wholeAt}
 use Rattle.layout.specs.WholeFacts.{SplitsAt, WholeAt, whole-at-facts}
 use Rattle.layout.specs.OrderLaws.{masks-length, number-mask, masks-rise, masks-mem, mem-masks, mask-same}
-use Rattle.layout.specs.UpToLaws.{bool-same, upTo-mem, mem-upTo, map-mem, mem-map, count-append, listed-nil, listed-next}
+use Rattle.layout.specs.UpToLaws.{upTo-mem, mem-upTo, map-mem, mem-map, count-append, listed-nil, listed-next}
 
 -- ---- what any bytes are read as
 
@@ -86,7 +86,7 @@ module _ (s : List ℕ) (whole : wholeAt s ≡ true) where
 
   pub member-at : (k i : ℕ) → k < splitsHeldAt s → i < treesHeldAt s → member (maskAt s k) (treeAt s i) ≡ member k (listAt s i)
   member-at k i a b =
-      bool-same _ _
+      same-bool _ _
       (λ e.
       let r = tree-mem s i (maskAt s k) (member-mem _ _ e) in
       let q : k ≡ r .0 = mask-same (partsAt s) (shaped-at s .order) splits k (r .0) a (facts .lists i b .numbers-below (r .0) (r .1)) (r .2) in

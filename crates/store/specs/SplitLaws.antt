@@ -20,7 +20,7 @@ use Rattle.trees.specs.Plain.{every}
 use Rattle.trees.specs.Mask.{proper}
 use Rattle.trees.specs.Hash.{identifier}
 use Rattle.trees.specs.Whole.{rising}
-use Rattle.theorems.specs.ListLaws.{and-left, and-right, and-true, every-at, every-intro}
+use Rattle.theorems.specs.ListLaws.{and-left, and-right, and-true, every-at, every-intro, mem-getD, same-bool}
 use Rattle.theorems.specs.OpeningLaws.{both}
 use Rattle.theorems.specs.ProperLaws.{proper-two}
 use Rattle.theorems.specs.RisingLaws.{rising-true, true-rising}
@@ -30,7 +30,7 @@ use Rattle.layout.specs.Store.{partsAt, splitsHeldAt, masksFrom, identifiersFro
 use Rattle.layout.specs.WholeStore.{allBelow, goodOrder, goodIdentifier, goodSplits, identifierGood, orderGood, splitsGood}
 use Rattle.layout.specs.StoreLaws.{shaped-at, mask-is, identifier-is, order-is}
 use Rattle.layout.specs.AllLaws.{all-at, all-intro}
-use Rattle.layout.specs.UpToLaws.{bool-same, mem-getD, mem-at, rising-at}
+use Rattle.layout.specs.UpToLaws.{mem-at, rising-at}
 use Rattle.layout.specs.OrderLaws.{masks-length, number-mask}
 use Rattle.store.specs.NeighbourLaws.{neighbours-rise}
 use Rattle.store.specs.Splits.{maskBefore, goodMask}
@@ -166,4 +166,4 @@ module _ (s : List ℕ) where
       and-true (all-ordered (h .0)) (and-true (all-proper (h .0)) (and-true (all-rising (h .0)) (h .1)))
 
   pub good-splits : goodSplits s ≡ (allBelow (goodMask s) (splitsHeldAt s) && allBelow (goodIdentifier s) (splitsHeldAt s))
-  good-splits = bool-same _ _ good-apart good-together
+  good-splits = same-bool _ _ good-apart good-together

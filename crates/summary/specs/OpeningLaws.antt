@@ -16,6 +16,7 @@ use mathlib.Core.List.{List, _∷_, _++_, append-nil}
 use lib.ListN.{length, set, take, drop, drop-of-length-le}
 use lib.Seq.{take-all}
 use borrow.Author.Tests.{le-leb, lt-leb}
+use Rattle.theorems.specs.ListLaws.{less-or-not}
 use Rattle.trees.specs.Plain.{if_then_else_, Answer, refused, gives}
 use Rattle.trees.specs.Names.{namesIn, goodNames}
 use Rattle.trees.specs.Opening.{Opening, storeSize, between, inRange, goodConstants, opening}
@@ -25,7 +26,6 @@ use Rattle.answers.specs.declared.Refusal.the-variants as why
 use Rattle.answers.specs.Answers.{refusalNumber}
 use Rattle.head.specs.Head.{fromTo, upTo}
 use Rattle.head.specs.HeadLaws.{upTo-length, upTo-at}
-use Rattle.layout.specs.UpToLaws.{less-or-not}
 use Rattle.opening.specs.Given.{numbersOf}
 use Rattle.opening.specs.GivenLaws.{range-not-taxa}
 use Rattle.table.specs.Promises.{OpenedAs}

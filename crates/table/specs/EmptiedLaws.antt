@@ -13,6 +13,7 @@ use mathlib.Core.Bool.{true}
 use mathlib.Core.List.{List, []}
 use lib.ListN.{length, getD, replicate, length-replicate, getD-replicate}
 use lib.Seq.{ext-getD}
+use Rattle.theorems.specs.ListLaws.{less-or-not}
 use Rattle.trees.specs.Plain.{every}
 use Rattle.trees.specs.Opening.{Numbers}
 use Rattle.trees.specs.Held.{holding, opened}
@@ -28,7 +29,6 @@ use Rattle.layout.specs.Store.{treesHeldAt, splitsHeldAt, laneFrom, masksFrom, 
 use Rattle.layout.specs.StoreLaws.{lane-from, masks-from, places-from, size-is, start-is, lane-is}
 use Rattle.layout.specs.WholeStore.{wholeAt}
 use Rattle.layout.specs.WholeFacts.{SplitsAt, ListAt, CountAt, ChainsAt, facts-whole-at}
-use Rattle.layout.specs.UpToLaws.{less-or-not}
 use Rattle.store.specs.ChainLaws.{highest-none}
 use Rattle.store.specs.PartFrameLaws.{masks-from-same, size-same}
 use Rattle.store.specs.FrameLaws.{trees-held-frame, splits-held-frame}

@@ -25,7 +25,7 @@ use Rattle.trees.specs.Grammar.{IsNode, is-leaf, is-inner, IsNodes, is-one, is-
 use Rattle.trees.specs.Names.{taxonOf}
 use Rattle.trees.specs.Splits.{bitOf, taxon, taxa, clusters, insert, counted, splitsOf}
 use Rattle.trees.specs.Reading.{reading}
-use Rattle.trees.specs.Verdict.{leafFault, judgedTree, judged}
+use Rattle.trees.specs.Verdict.{leafFault, judged}
 use Rattle.theorems.specs.ListLaws.{by-test}
 use Rattle.theorems.specs.BitLaws.{On, Sub, on?, on-or-l, only-on, dis-and, less-add, off-zero}
 use Rattle.theorems.specs.MaskLaws.{side-even}

@@ -19,7 +19,7 @@ use Rattle.trees.specs.Plain.{if_then_else_}
 use Rattle.trees.specs.Text.{Symbol, openBracket, closeBracket, comma, colon, stray, token, symbols}
 use Rattle.trees.specs.Length.{isLength}
 use Rattle.trees.specs.Tree.{Nodes, nil, leaf, inner, beside, width, nesting}
-use Rattle.trees.specs.Grammar.{MayHaveLength, no-length, a-length, MayHaveLabel, no-label, a-label, IsNode, is-leaf, is-inner, IsNodes, is-one, is-more, IsTree, mostNesting}
+use Rattle.trees.specs.Grammar.{MayHaveLength, no-length, a-length, MayHaveLabel, no-label, a-label, IsNode, is-leaf, is-inner, IsNodes, is-one, is-more, IsTree}
 use Rattle.trees.specs.Reading.{Read, readLength, readLabel, readClosing, bracketed, joined, readComma, followed, readNode, readNodes, alone, reading}
 use Rattle.theorems.specs.TextLaws.{symbols-length}
 

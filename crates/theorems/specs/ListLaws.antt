@@ -3,6 +3,7 @@
 --   Mem x l         x is a member of l, as a type
 --   by-test P b     what holds of both ways of a choice holds of the choice
 --   less-or-not, equal-or-not     two numbers compared
+--   same-bool       two tests are equal where each passes with the other
 --   mem-getD        what stands in a list is a member
 --   keep-step, keep-most     how many pass a test: one member more, and never more than there are
 use Prim.Native.Nat.{ℕ, zero, suc, _≤_, _<_}
@@ -33,6 +34,11 @@ equal-or-not a b = go (eqb a b) refl
     go false e = inr (eqb-false a b e)
 
 -- ---- choices and tests
+
+pub same-bool : (p q : Bool) → (p ≡ true → q ≡ true) → (q ≡ true → p ≡ true) → p ≡ q
+same-bool true q f g = sym (f refl)
+same-bool false true f g = g refl
+same-bool false false f g = refl
 
 pub by-test : {A : Type 0} (P : A → Type 0) (b : Bool) {x y : A} → (b ≡ true → P x) → (b ≡ false → P y) → P (if b then x else y)
 by-test P true f g = f refl

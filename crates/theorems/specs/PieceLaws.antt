@@ -4,7 +4,7 @@
 --   text w                 the lane that was empty and got the bytes w
 --   text-held   it holds them up to 4,096, and past that it ran over
 --   unended w              the bytes w have no semicolon
-use Prim.Native.Nat.{ℕ, zero, suc, _≤_, _<_}
+use Prim.Native.Nat.{ℕ, zero, suc, _≤_}
 use native.Mathlib.Omega.{arith}
 use mathlib.Core.Path.{_≡_, refl, ap, sym}
 use mathlib.Core.Logic.{inl, ⊎-elim}

@@ -11,7 +11,7 @@ use Prim.Native.Nat.{ℕ, zero, suc, _+_, _*_, _≤_, _<_}
 use native.Mathlib.Omega.{arith}
 use mathlib.Core.Path.{_≡_, refl, ap, sym, _∙_, subst}
 use mathlib.Core.Logic.{_⊎_, inl, inr}
-use mathlib.Core.Bool.{true, false}
+use mathlib.Core.Bool.{true}
 use mathlib.Core.List.{List, [], _∷_, _++_}
 use mathlib.Core.Option.{none, some}
 use lib.Count.{ones}
@@ -28,7 +28,7 @@ use Rattle.trees.specs.Consensus.{strict, majority}
 use Rattle.trees.specs.Written.{branches, treeOf, shown, parted, written}
 use Rattle.trees.specs.Held.{beforeSemicolon}
 use Rattle.trees.specs.Whole.{goodTree}
-use Rattle.theorems.specs.ListLaws.{if-true, if-false, Mem, mem-member, member-mem, member-not}
+use Rattle.theorems.specs.ListLaws.{if-true, if-false, Mem, mem-member, member-mem}
 use Rattle.theorems.specs.RisingLaws.{rising-true, rising-same}
 use Rattle.theorems.specs.BitLaws.{On, off-zero, sub-le}
 use Rattle.theorems.specs.OnesLaws.{ones-lt}

@@ -5,7 +5,7 @@ use mathlib.Core.Logic.{_⊎_, inl, inr}
 use mathlib.Core.List.{List}
 use native.Mathlib.Omega.{arith}
 use lib.ListN.{getD}
-use Rattle.layout.specs.UpToLaws.{less-or-not}
+use Rattle.theorems.specs.ListLaws.{less-or-not}
 use Rattle.store.specs.NeighbourLaws.{front-rises, front-falls}
 use Rattle.store.proofs.lists.masks_rise.Statement.{statement}
 use Rattle.store.proofs.lists.masks_rise.Tie as tie
