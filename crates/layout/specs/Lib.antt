@@ -9,3 +9,4 @@ pub mod Sound
 pub mod UpToLaws
 pub mod PigeonLaws
 pub mod OrderLaws
+pub mod HighestLaws
