@@ -1,7 +1,7 @@
 -- What a head in order says: its numbers are in range, and what the store holds lies inside the lent bytes. Assumes nothing.
 --
 --   ranges                      the opening's numbers are in their ranges
---   trees-few, splits-few       there are at most 1,024 trees and 4,096 splits
+--   trees-few, splits-few, places-few     there are at most 1,024 trees, 4,096 splits and 8,192 places
 --   lane-inside, tree-inside    where lane l and tree i end
 --   mask-inside, identifier-inside, count-inside, link-inside, order-inside, start-inside     where the fields of split k and of place q end
 --   place-below, place-small    a place is below their number, and below 8,192
@@ -28,6 +28,9 @@ module _ (s : List ℕ) (h : HeadAt s) where
 
   pub splits-few : splitsHeldAt s ≤ 4096
   splits-few = omega (arith, h .splits-fit, ranges .most-splits)
+
+  pub places-few : numbersAt s .places ≤ 8192
+  places-few = omega (arith, ranges .most-splits, ranges .most-places)
 
   -- ---- lanes and trees
 
@@ -63,4 +66,4 @@ module _ (s : List ℕ) (h : HeadAt s) where
   place-below m = mod-lt (sumOver (firstAt s) m) (ranges .least-places)
 
   pub place-small : (m : ℕ) → placeIn s m < 8192
-  place-small m = omega (arith, place-below m, ranges .most-splits, ranges .most-places)
+  place-small m = omega (arith, place-below m, places-few)

@@ -1,5 +1,5 @@
 // What is read of a store whose head is in order: the row of a split, by its number or by its place in
-// a tree, the mask and the count in a row, and the masks of a tree.
+// a tree, the fields of a row, where the chain of a place starts, and the masks of a tree.
 //
 // Its contracts cite crate layout, `specs/Store.antt`.
 ghost use mathlib.Core.Path.{_≡_};
@@ -7,7 +7,7 @@ ghost use mathlib.Core.List.{_++_};
 ghost use Prim.Native.Nat.{_+_, _≤_, _<_};
 ghost use lib.ListN.{length, getD, drop};
 ghost use Rattle.head.specs.Head.{numbersAt};
-ghost use Rattle.layout.specs.Store.{treeFrom, treesHeldAt, splitsHeldAt, maskAt, countAt, orderAt, listAt, treeAt};
+ghost use Rattle.layout.specs.Store.{treeFrom, treesHeldAt, splitsHeldAt, maskAt, identifierAt, countAt, linkAt, startAt, orderAt, listAt, treeAt};
 ghost use Rattle.layout.specs.WholeFacts.{HeadAt};
 ghost use Rattle.rows.specs.Rows.{RowsAt};
 use answers::Split;
@@ -31,6 +31,15 @@ pub fn mask_at(s: &[u8], row: usize) -> u64
     fields::get64(s, layout::masks_from(s) + 8 * row)
 }
 
+// The identifier of the split in a row.
+pub fn identifier_at(s: &[u8], row: usize) -> u64
+    requires { ⌜ HeadAt (now s) ⌝ }
+    requires { ⌜ row < splitsHeldAt (now s) ⌝ }
+    ensures { λ r. ⌜ r ≡ identifierAt (now (s .entry)) row ⌝ }
+{
+    fields::get64(s, layout::identifiers_from(s) + 8 * row)
+}
+
 // The count of the split in a row.
 pub fn count_at(s: &[u8], row: usize) -> usize
     requires { ⌜ HeadAt (now s) ⌝ }
@@ -38,6 +47,24 @@ pub fn count_at(s: &[u8], row: usize) -> usize
     ensures { λ r. ⌜ r ≡ countAt (now (s .entry)) row ⌝ }
 {
     fields::get32(s, layout::counts_from(s) + 4 * row) as usize
+}
+
+// The link of the split in a row.
+pub fn link_at(s: &[u8], row: usize) -> usize
+    requires { ⌜ HeadAt (now s) ⌝ }
+    requires { ⌜ row < splitsHeldAt (now s) ⌝ }
+    ensures { λ r. ⌜ r ≡ linkAt (now (s .entry)) row ⌝ }
+{
+    layout::number16(s, layout::links_from(s) + 2 * row)
+}
+
+// Where the chain of place p starts.
+pub fn start_at(s: &[u8], p: usize) -> usize
+    requires { ⌜ HeadAt (now s) ⌝ }
+    requires { ⌜ p < numbersAt (now s) .places ⌝ }
+    ensures { λ r. ⌜ r ≡ startAt (now (s .entry)) p ⌝ }
+{
+    layout::number16(s, layout::places_from(s) + 2 * p)
 }
 
 // Where tree i begins, 128 bytes of which are lent.
