@@ -1,46 +1,35 @@
+-- `lanes::text_of` meets its contract: the bytes behind the lane's first 8. Assumes nothing.
+use Prim.Native.Nat.{_+_, _-_}
+use mathlib.Core.Path.{_≡_}
+use native.Mathlib.Omega.{arith}
 use borrow.Author.Needs.{needs}
+use Rattle.lanes.specs.LaneLaws.{lane-few, lane-end}
 use Rattle.lanes.proofs.text_of.Statement.{statement}
 use Rattle.lanes.proofs.text_of.Tie as tie
-use Rattle.lanes.proofs.text_of.Reads as reads
-use Rattle.lanes.proofs.text_of.Lts as lts
-use Rattle.layout.proofs.lane_from.Reads as lane-from-reads
 
--- src/lib.rt:70:16
-lane-from-requires : tie.Need-lane-from-requires
-lane-from-requires c κs = ?
+few : tie.Need-lane-from-requires
+few c κs = let k = c .before in lane-few _ (k .pre .0) _ (k .pre .1 .0)
 
--- src/lib.rt:70:16
-add-from : tie.Need-add-from
-add-from c = search needs
+inside : tie.Need-part-result-end
+inside c =
+    let k = c .before .before in
+    omega (arith, c .lane-from .ensures .0, k .pre .1 .1, lane-end _ (k .pre .0) _ (k .pre .1 .0))
 
--- src/lib.rt:71:15
-add-end : tie.Need-add-end
-add-end c = search needs
-
--- src/lib.rt:72:5
-sub-result : tie.Need-sub-result
-sub-result c = search needs
-
--- src/lib.rt:72:5
-part-result-start : tie.Need-part-result-start
-part-result-start c = search needs
-
--- src/lib.rt:72:5
-part-result-end : tie.Need-part-result-end
-part-result-end c = ?
-
--- src/lib.rt:64:1
 returns : tie.Need-returns
-returns c = ?
+returns c =
+    let f = c .before .lane-from .result in
+    let n = c .before .before .before .args .n in
+    let e : f + 8 + n - (f + 8) ≡ n = omega arith in
+    rw (e, c .before .lane-from .ensures .0)
 
 pub text-of-spec : {M : Type 1} → statement M
 text-of-spec =
     tie.close
     (tie.spec
-    lane-from-requires
-    add-from
-    add-end
-    sub-result
-    part-result-start
-    part-result-end
+    few
+    (λ c. search needs)
+    (λ c. search needs)
+    (λ c. search needs)
+    (λ c. search needs)
+    inside
     returns)
