@@ -1,6 +1,5 @@
 -- A lane of a store, as its bytes have it. Assumes nothing.
 --
---   run-same                   equal bytes, in two lists and at two places
 --   text-over, text-holds      the lane that begins at a: a length of 4,097 says that it ran over, any other how many bytes it holds
 -- of a whole store:
 --   lane-few                   a lane's number is small
@@ -9,11 +8,10 @@
 --   lane-overrun, lane-holding     what the length says of the lane that is held
 use Prim.Native.Nat.{ℕ, _+_, _≤_, _<_}
 use native.Mathlib.Omega.{arith}
-use mathlib.Core.Path.{_≡_, sym, _∙_}
+use mathlib.Core.Path.{_≡_, _∙_}
 use mathlib.Core.Bool.{true}
 use mathlib.Core.List.{List}
-use lib.ListN.{length, getD, take, drop, length-drop}
-use lib.Seq.{length-take-le, getD-take, getD-drop, ext-getD}
+use lib.ListN.{length, take, drop}
 use borrow.Author.Tests.{eq-eqb, ne-eqb}
 use Rattle.trees.specs.Held.{holding, overrun, laneOf}
 use Rattle.theorems.specs.ListLaws.{if-true, if-false}
@@ -26,17 +24,6 @@ use Rattle.layout.specs.WholeStore.{wholeAt}
 use Rattle.layout.specs.WholeFacts.{whole-at-facts}
 
 -- ---- any bytes
-
-pub run-same : (s t : List ℕ) (a b n : ℕ) → a + n ≤ length s → b + n ≤ length t → ((i : ℕ) → i < n → getD s (a + i) 0 ≡ getD t (b + i) 0)
-    → take n (drop a s) ≡ take n (drop b t)
-run-same s t a b n f g h =
-    let p = length-drop a s in
-    let q = length-drop b t in
-    let u : length (take n (drop a s)) ≡ n = length-take-le n (drop a s) (omega arith) in
-    let v : length (take n (drop b t)) ≡ n = length-take-le n (drop b t) (omega arith) in
-    ext-getD 0 _ _ (u ∙ sym v) (λ i l.
-    let k : i < n = omega arith in
-    rw (getD-take n (drop a s), getD-take n (drop b t), getD-drop a s, getD-drop b t) (h i k))
 
 module _ (s : List ℕ) (a : ℕ) where
   pub text-over : number 2 s a ≡ 4097 → textFrom s a ≡ overrun
