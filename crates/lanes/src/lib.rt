@@ -5,10 +5,12 @@
 // (`longer`, `closed`), and crate layout, `specs/Store.antt`; the laws that callers use stand in
 // `specs/LaneLaws.antt`.
 use answers::Lane;
+use layout::lane_from;
 ghost use mathlib.Core.Path.{_≡_};
 ghost use mathlib.Core.Bool.{true};
 ghost use mathlib.Core.List.{[]};
-ghost use Prim.Native.Nat.{_≤_, _<_};
+ghost use Prim.Native.Nat.{_+_, _≤_, _<_};
+ghost use lib.ListN.{take, drop};
 ghost use Rattle.trees.specs.Plain.{every};
 ghost use Rattle.trees.specs.Text.{isBlank};
 ghost use Rattle.trees.specs.Held.{holding, longer, laneOf, closed};
@@ -58,6 +60,18 @@ pub fn lane_length(s: &[u8], l: Lane) -> usize
     layout::number16(s, from)
 }
 
+// The n bytes of text that lane l holds.
+pub fn text_of(s: &[u8], l: Lane, n: usize) -> &[u8]
+    requires { ⌜ wholeAt (now s) ≡ true ⌝ }
+    requires { ⌜ l .0 < numbersAt (now s) .lanes ⌝ }
+    requires { ⌜ n ≤ 4096 ⌝ }
+    ensures { λ r. ⌜ now r ≡ take n (drop (laneFrom (l .0) + 8) (now (s .entry))) ⌝ }
+{
+    let from = lane_from(l) + 8;
+    let end = from + n;
+    &s[from..end]
+}
+
 // What closing lane l answers: 6 where it ran over, 7 where it holds any byte but blanks, else 0.
 pub fn closing_number(s: &[u8], l: Lane) -> u32
     requires { ⌜ wholeAt (now s) ≡ true ⌝ }
@@ -74,15 +88,6 @@ pub fn closing_number(s: &[u8], l: Lane) -> u32
         return 7;
     }
     0
-}
-
-// Where lane l begins.
-fn lane_from(l: Lane) -> usize
-    requires { ⌜ l .0 < 8 ⌝ }
-    ensures { λ r. ⌜ r ≡ laneFrom (l .0) ⌝ }
-    ensures { λ r. ⌜ r < 65536 ⌝ }
-{
-    4096 + 4104 * l.0
 }
 
 // Whether every byte of the text is a blank.

@@ -2,6 +2,7 @@
 pub mod Columns
 pub mod Store
 pub mod StoreLaws
+pub mod KeptLaws
 pub mod WholeStore
 pub mod AllLaws
 pub mod WholeFacts

@@ -23,8 +23,8 @@ use Rattle.theorems.specs.ListLaws.{and-left, every-at, mem-getD}
 use Rattle.theorems.specs.RisingLaws.{Rising, rising-true}
 use Rattle.fields.specs.Field.{number}
 use Rattle.head.specs.Head.{numbersAt}
-use Rattle.layout.specs.Store.{treeFrom, masksFrom, partsAt, treesHeldAt, splitsHeldAt, maskAt, listAt, treeAt, lengthAt}
-use Rattle.layout.specs.StoreLaws.{lane-from, mask-is, entriesAt, entryAt, list-length, list-at, length-is}
+use Rattle.layout.specs.Store.{laneFrom, treeFrom, masksFrom, partsAt, treesHeldAt, splitsHeldAt, maskAt, listAt, treeAt, lengthAt}
+use Rattle.layout.specs.StoreLaws.{mask-is, entriesAt, entryAt, list-length, list-at, length-is}
 use Rattle.layout.specs.WholeStore.{goodList, goodLaneAt, listGood, laneGood}
 use Rattle.layout.specs.WholeFacts.{list-facts}
 use Rattle.layout.specs.UpToLaws.{length-map, map-at}
@@ -83,14 +83,14 @@ copied-more t l j v h f e q = rw (add-one j, take-suc-set t j v h, take-suc l j 
 
 -- ---- a lane
 
-module _ (s : List ℕ) (l : ℕ) (h : l < numbersAt s .lanes) where
-  pub lane-long : 4097 < number 2 s (4096 + 4104 * l) → goodLaneAt s l ≡ false
+module _ (s : List ℕ) (l from n : ℕ) (h : l < numbersAt s .lanes) (at : from ≡ laneFrom l) (is : n ≡ number 2 s from) where
+  pub lane-long : 4097 < n → goodLaneAt s l ≡ false
   unfolding laneGood
-  lane-long q = lt-leb (lengthAt s l) 4097 (rw (length-is s l h, lane-from l) q)
+  lane-long q = lt-leb (lengthAt s l) 4097 (rw (length-is s l h, ← at, ← is) q)
 
-  pub lane-short : number 2 s (4096 + 4104 * l) ≤ 4097 → goodLaneAt s l ≡ true
+  pub lane-short : n ≤ 4097 → goodLaneAt s l ≡ true
   unfolding laneGood
-  lane-short q = le-leb (lengthAt s l) 4097 (rw (length-is s l h, lane-from l) q)
+  lane-short q = le-leb (lengthAt s l) 4097 (rw (length-is s l h, ← at, ← is) q)
 
 -- ---- a list's test, in the order of the code
 

@@ -1,5 +1,6 @@
 // Whether the trees' lists, the counts and the lanes of lent bytes with a good head are in order: the
 // tests of `specs/WholeStore.antt`, exactly.
+use answers::Lane;
 use answers::Tree;
 ghost use mathlib.Core.Path.{_≡_};
 ghost use mathlib.Core.Bool.{true};
@@ -212,7 +213,8 @@ pub(crate) fn lanes_good(s: &[u8]) -> bool
     let lanes = head::lanes(s) as usize;
     let mut l = 0;
     while l < lanes {
-        if 4097 < layout::number16(s, 4096 + 4104 * l) {
+        let from = layout::lane_from(Lane(l));
+        if 4097 < layout::number16(s, from) {
             return false;
         }
         l += 1;
