@@ -12,3 +12,5 @@ pub mod UpToLaws
 pub mod PigeonLaws
 pub mod OrderLaws
 pub mod HighestLaws
+pub mod InsertLaws
+pub mod OpeningKeptLaws
