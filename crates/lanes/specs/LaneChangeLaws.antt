@@ -14,6 +14,7 @@ use lib.Dec.{eqb}
 use lib.ListN.{length, getD, set, length-set}
 use lib.Seq.{getD-set-same, getD-set-other}
 use borrow.Author.Tests.{eqb-true, eqb-false}
+use Rattle.theorems.specs.ListLaws.{less-or-not}
 use Rattle.trees.specs.Plain.{if_then_else_}
 use Rattle.trees.specs.Opening.{Numbers, Opening}
 use Rattle.trees.specs.Held.{Lane, withLane}
@@ -28,7 +29,6 @@ use Rattle.layout.specs.KeptLaws.{Kept, number-kept, list-kept, text-kept}
 use Rattle.layout.specs.WholeStore.{highestIn, listedIn, wholeAt}
 use Rattle.layout.specs.WholeFacts.{HeadAt, WholeAt, whole-at-facts}
 use Rattle.layout.specs.Sound.{Sound, whole-sound, sound-whole}
-use Rattle.layout.specs.UpToLaws.{less-or-not}
 use Rattle.lanes.specs.Lanes.{LaneIs}
 use Rattle.lanes.specs.LaneLaws.{lane-end, lane-fits}
 

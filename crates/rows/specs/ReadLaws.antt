@@ -10,13 +10,14 @@ use mathlib.Core.Path.{_≡_}
 use mathlib.Core.Bool.{true}
 use mathlib.Core.List.{List}
 use lib.ListN.{length, getD}
+use Rattle.theorems.specs.ListLaws.{mem-getD}
 use Rattle.fields.specs.FieldLaws.{number-below}
 use Rattle.head.specs.Head.{numbersAt}
 use Rattle.layout.specs.Store.{countsFrom, treesHeldAt, splitsHeldAt, maskAt, countAt, orderAt, listAt, treeAt}
 use Rattle.layout.specs.StoreLaws.{count-is}
 use Rattle.layout.specs.WholeStore.{wholeAt}
 use Rattle.layout.specs.WholeFacts.{whole-at-facts}
-use Rattle.layout.specs.UpToLaws.{length-map, map-at, mem-getD}
+use Rattle.layout.specs.UpToLaws.{length-map, map-at}
 use Rattle.rows.specs.Rows.{RowsAt}
 
 module _ (s : List ℕ) (i : ℕ) where
