@@ -16,9 +16,8 @@ use Rattle.answers.specs.declared.Number.{Number}
 use Rattle.answers.specs.declared.Number.the-variants as number
 use Rattle.answers.specs.declared.Refusal.{Refusal}
 use Rattle.answers.specs.Answers.{refusalNumber, numberGiven}
+use Rattle.answers.specs.Filled.{lengthGiven, front, FilledAs}
 use Rattle.store.specs.UpToLaws.{less-or-not}
-use Rattle.table.specs.Promises.{lengthGiven, front}
-use Rattle.table.specs.Filled.{FilledAs}
 use Rattle.sheet.specs.Sheet.{refusalLine}
 use Rattle.sheet.specs.LineRoomLaws.{lines-fit}
 use Rattle.summary.specs.Summary.{firstLine, summaryBytes, linesFor}

@@ -7,6 +7,8 @@ pub mod PigeonLaws
 pub mod OrderLaws
 pub mod Sound
 pub mod RecordedAtLaws
+pub mod Lent
+pub mod LentLaws
 pub mod HeldWholeLaws
 pub mod Chain
 pub mod ChainLaws

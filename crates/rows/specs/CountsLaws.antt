@@ -19,7 +19,7 @@ use Rattle.layout.specs.StoreLaws.{split-is, masks-is}
 use Rattle.store.specs.WholeStore.{wholeAt}
 use Rattle.store.specs.WholeFacts.{whole-at-facts}
 use Rattle.store.specs.RecordedAtLaws.{count-at, recorded-at}
-use Rattle.table.specs.Counts.{splitCount, countsAt}
+use Rattle.rows.specs.Counts.{splitCount, countsAt}
 
 module _ (s : List ℕ) where
   pub counts-length : length (countsAt s) ≡ splitsHeldAt s
