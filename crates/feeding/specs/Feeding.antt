@@ -29,7 +29,7 @@ use Rattle.answers.specs.Answers.{finishGiven, numberGiven, progressGiven}
 use Rattle.head.specs.Head.{numbersAt}
 use Rattle.layout.specs.Store.{laneFrom, heldAt}
 use Rattle.layout.specs.WholeStore.{wholeAt}
-use Rattle.table.specs.Promises.{ifWhole, Holds}
+use Rattle.store.specs.Lent.{ifWhole, Holds}
 
 -- the call comes to a lane: "checks 1, then 5"
 unfoldable pub reached : List ℕ → ℕ → Bool
@@ -45,8 +45,7 @@ unfoldable pub closedOf : List ℕ → ℕ → Closed
 unfolding wholeAt heldAt closing
 closedOf s l = if wholeAt s then closing (heldAt s) l else record { answer = refused 1; after = heldAt s }
 
-unfoldable pub batchOf : List ℕ → ℕ → List ℕ → ℕ → Answer Batched
-unfolding ifWhole batch
+abbrev pub batchOf : List ℕ → ℕ → List ℕ → ℕ → Answer Batched
 batchOf s l p room = ifWhole s (λ h. batch h l p room)
 
 -- "accepted, with the tree's number"

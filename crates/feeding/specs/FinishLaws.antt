@@ -39,8 +39,8 @@ use Rattle.newick.specs.Splits.{Stands}
 use Rattle.newick.specs.Judge.{JudgedAs}
 use Rattle.newick.specs.declared.Judged.{Judged}
 use Rattle.newick.specs.declared.Judged.the-variants.{Refused, Splits}
+use Rattle.store.specs.Lent.{Holds}
 use Rattle.recording.specs.Recording.{Recorded}
-use Rattle.table.specs.Promises.{Holds}
 use Rattle.feeding.specs.Feeding.{isAccepted}
 use Rattle.feeding.specs.Texts.{verdictOn, Finished, Judgeable, Accepts}
 use Rattle.feeding.specs.HoldLaws.{size-held, lane-below, lane-holds}

@@ -23,8 +23,8 @@ use Rattle.answers.specs.Answers.{progressGiven}
 use Rattle.head.specs.Head.{numbersAt, secondAt}
 use Rattle.layout.specs.Store.{treesHeldAt, heldAt}
 use Rattle.store.specs.Chain.{placeIn}
+use Rattle.store.specs.Lent.{Holds}
 use Rattle.recording.specs.Recording.{Recorded}
-use Rattle.table.specs.Promises.{Holds}
 use Rattle.feeding.specs.Feeding.{isAccepted, SameOutside}
 
 pub record Left (h : Held) (s : List ℕ) (l : ℕ) (a : Answer held.Progress) (t : List ℕ) : Type 0 where

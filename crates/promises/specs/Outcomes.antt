@@ -31,7 +31,7 @@ use Rattle.answers.specs.declared.Progress.the-variants as progress
 use Rattle.answers.specs.Answers.{refusalNumber, finishGiven, numberGiven, splitGiven, progressGiven}
 use Rattle.head.specs.Head.{openingAt}
 use Rattle.layout.specs.Store.{sizeAt, heldAt}
-use Rattle.table.specs.Promises.{Holds}
+use Rattle.store.specs.Lent.{Holds}
 use Rattle.feeding.specs.Feeding.{SameOutside}
 use Rattle.promises.specs.Once.{SameStore}
 

@@ -17,8 +17,7 @@ use Rattle.answers.specs.declared.Number.{Number}
 use Rattle.answers.specs.declared.Number.the-variants as number
 use Rattle.answers.specs.declared.Refusal.{Refusal}
 use Rattle.answers.specs.Answers.{refusalNumber, numberGiven}
-use Rattle.table.specs.Promises.{lengthGiven, front}
-use Rattle.table.specs.Filled.{FilledAs}
+use Rattle.answers.specs.Filled.{lengthGiven, front, FilledAs}
 use Rattle.sheet.specs.Sheet.{refusalLine}
 use Rattle.sheet.specs.LineRoomLaws.{lines-fit}
 use Rattle.summary.specs.Summary.{firstLine, summaryBytes, linesFor}

@@ -1,5 +1,7 @@
 -- The definitions that the contracts cite, the laws of what a store holds, and the laws of the tests' code.
 pub mod RecordedAtLaws
+pub mod Lent
+pub mod LentLaws
 pub mod HeldWholeLaws
 pub mod Chain
 pub mod ChainLaws
@@ -18,3 +20,5 @@ pub mod OuterLaws
 pub mod CountLaws
 pub mod HeaderLaws
 pub mod WholeTestLaws
+pub mod Counts
+pub mod CountsLaws

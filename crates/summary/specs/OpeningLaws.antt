@@ -24,12 +24,13 @@ use Rattle.answers.specs.declared.Finish.{Finish}
 use Rattle.answers.specs.declared.Finish.the-variants as finish
 use Rattle.answers.specs.declared.Refusal.the-variants as why
 use Rattle.answers.specs.Answers.{refusalNumber}
+use Rattle.answers.specs.FrontLaws.{copied-more, copied-all}
 use Rattle.head.specs.Head.{fromTo, upTo}
 use Rattle.head.specs.HeadLaws.{upTo-length, upTo-at}
 use Rattle.opening.specs.Given.{numbersOf}
 use Rattle.opening.specs.GivenLaws.{range-not-taxa}
 use Rattle.table.specs.Promises.{OpenedAs}
-use Rattle.rows.specs.FrontLaws.{copied-more, copied-all}
+use Rattle.answers.specs.FrontLaws.{copied-more, copied-all}
 use Rattle.table.specs.OpenLaws.{not-in-range, refused-as}
 use Rattle.summary.specs.Summary.{spacesIn, summaryNumbers, firstConstant, secondConstant, namesOpening, summaryOpening, summaryBytes}
 use Rattle.summary.specs.FirstLine.{Kept, keptOpening}

@@ -26,8 +26,8 @@ use Rattle.layout.specs.Store.{heldAt}
 use Rattle.layout.specs.WholeStore.{wholeAt}
 use Rattle.store.specs.HeldWholeLaws.{opening-facts}
 use Rattle.head.specs.Head.{openingAt}
-use Rattle.table.specs.Promises.{Holds}
-use Rattle.table.specs.QuestionLaws.{not-whole, when-whole}
+use Rattle.store.specs.Lent.{Holds}
+use Rattle.store.specs.LentLaws.{not-whole, when-whole}
 use Rattle.feeding.specs.Feeding.{reached, closedOf, isRefusal}
 use Rattle.feeding.specs.Feeding as feeding
 use Rattle.summary.specs.Summary.{refusedIn, refusedAfter}

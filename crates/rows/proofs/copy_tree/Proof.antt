@@ -7,7 +7,7 @@ use lib.ListN.{length, getD, take, drop}
 use Rattle.layout.specs.Store.{listAt, treeAt}
 use Rattle.layout.specs.StoreLaws.{mask-is, list-length}
 use Rattle.layout.specs.InsideLaws.{splits-few, mask-inside}
-use Rattle.rows.specs.FrontLaws.{copied-length, copied-more, copied-all}
+use Rattle.answers.specs.FrontLaws.{copied-length, copied-more, copied-all}
 use Rattle.rows.specs.ReadLaws.{tree-length, tree-entry, row-in-list}
 use Rattle.rows.proofs.copy_tree.Statement.{statement}
 use Rattle.rows.proofs.copy_tree.Tie as tie

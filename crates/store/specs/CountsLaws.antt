@@ -18,8 +18,8 @@ use Rattle.layout.specs.Store.{splitsHeldAt, countAt, orderAt, splitAt, heldAt}
 use Rattle.layout.specs.StoreLaws.{split-is, masks-is}
 use Rattle.layout.specs.WholeStore.{wholeAt}
 use Rattle.layout.specs.WholeFacts.{whole-at-facts}
 use Rattle.store.specs.RecordedAtLaws.{count-at, recorded-at}
-use Rattle.table.specs.Counts.{splitCount, countsAt}
+use Rattle.store.specs.Counts.{splitCount, countsAt}
 
 module _ (s : List ℕ) where
   pub counts-length : length (countsAt s) ≡ splitsHeldAt s
