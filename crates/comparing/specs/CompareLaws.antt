@@ -23,7 +23,7 @@ use Rattle.answers.specs.Answers.{numberGiven}
 use Rattle.answers.specs.Filled.{FilledAs}
 use Rattle.answers.specs.AnswerLaws.{number-refused, number-given, filled-short, filled-given}
 use Rattle.head.specs.Head.{numbersAt, firstAt, secondAt, openingAt}
-use Rattle.layout.specs.Store.{treesHeldAt, treeAt, masksAt, heldAt}
+use Rattle.layout.specs.Store.{treesHeldAt, treeAt, masksAt, heldAt, heldIn}
 use Rattle.layout.specs.WholeStore.{wholeAt}
 use Rattle.store.specs.RecordedAtLaws.{trees-length, tree-at, recorded-at}
 use Rattle.store.specs.Lent.{ifWhole}
@@ -93,7 +93,7 @@ module _ (s out : List ℕ) (w : wholeAt s ≡ true) where
 module _ (s : List ℕ) where
   collisions-held : collisions (heldAt s .opening .first) (heldAt s .opening .second) (heldAt s .opening .numbers .places) (masksAt s)
       ≡ collisions (firstAt s) (secondAt s) (numbersAt s .places) (masksAt s)
-  unfolding heldAt openingAt
+  unfolding heldIn openingAt
   collisions-held = refl
 
   pub collisions-found : wholeAt s ≡ true → collisionsAsked s ≡ gives (collisions (firstAt s) (secondAt s) (numbersAt s .places) (masksAt s))

@@ -22,7 +22,7 @@ use Rattle.answers.specs.Answers.{refusing}
 use Rattle.answers.specs.Filled.{FilledAs}
 use Rattle.answers.specs.AnswerLaws.{filled-refused, filled-short, filled-given, filled-as}
 use Rattle.head.specs.Head.{namesAt, openingAt}
-use Rattle.layout.specs.Store.{treesHeldAt, treeAt, heldAt}
+use Rattle.layout.specs.Store.{treesHeldAt, treeAt, heldAt, heldIn}
 use Rattle.layout.specs.WholeStore.{wholeAt}
 use Rattle.store.specs.RecordedAtLaws.{tree-at}
 use Rattle.store.specs.Lent.{ifWhole}
@@ -44,7 +44,7 @@ module _ (s l before after : List ℕ) where
 
 -- the names that are held are those of the head
 text-held : (s l : List ℕ) (room : ℕ) → ifRoom room (written (heldAt s .opening .names) l) ≡ textAsked s l room
-unfolding heldAt openingAt
+unfolding heldIn openingAt
 text-held s l room = refl
 
 -- ---- the consensus trees

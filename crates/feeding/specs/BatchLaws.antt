@@ -36,7 +36,7 @@ use Rattle.answers.specs.declared.Fed.{Fed}
 use Rattle.answers.specs.Answers.{refusalNumber, refusing, numberGiven, progressGiven}
 use Rattle.head.specs.Head.{numbersAt, namesAt, openingAt}
 use Rattle.head.specs.Index.{Indexed}
-use Rattle.layout.specs.Store.{sizeAt, heldAt}
+use Rattle.layout.specs.Store.{sizeAt, heldAt, heldIn}
 use Rattle.layout.specs.WholeStore.{wholeAt}
 use Rattle.layout.specs.WholeFacts.{whole-at-facts}
 use Rattle.store.specs.RecordedAtLaws.{trees-length}
@@ -136,14 +136,14 @@ going-none s l p n v w e = record {
 
 module _ (s₀ : List ℕ) (l : ℕ) (p : List ℕ) (n : ℕ) (v₀ s v : List ℕ) (at i : ℕ) (m : l < numbersAt s₀ .lanes) (g : Going s₀ l p n v₀ s v at i) where
   numbers-in : numbersAt s ≡ numbersAt s₀
-  unfolding heldAt openingAt
+  unfolding heldIn openingAt
   numbers-in = ap (λ (o : Opening). o .numbers) (g .opening)
 
   pub going-lane : l < numbersAt s .lanes
   going-lane = rw numbers-in m
 
   pub going-index : (starts links : List ℕ) → Indexed (namesAt s₀) starts links → Indexed (namesAt s) starts links
-  unfolding heldAt openingAt
+  unfolding heldIn openingAt
   going-index starts links x = rw (ap (λ (o : Opening). o .names) (g .opening)) x
 
   -- the rest of the piece, as it is lent

@@ -27,7 +27,7 @@ use Rattle.answers.specs.declared.Finish.{Finish}
 use Rattle.answers.specs.declared.Number.{Number}
 use Rattle.answers.specs.Answers.{finishGiven, numberGiven, progressGiven}
 use Rattle.head.specs.Head.{numbersAt}
-use Rattle.layout.specs.Store.{laneFrom, heldAt}
+use Rattle.layout.specs.Store.{laneFrom, heldAt, heldIn}
 use Rattle.layout.specs.WholeStore.{wholeAt}
 use Rattle.store.specs.Lent.{ifWhole, Holds}
 
@@ -38,11 +38,11 @@ reached s l = wholeAt s && ltb l (numbersAt s .lanes)
 
 -- "Refusals 1 and 5 take 0 bytes"
 unfoldable pub fedOf : List ℕ → ℕ → List ℕ → held.Fed
-unfolding wholeAt heldAt feeding
+unfolding wholeAt heldIn feeding
 fedOf s l p = if wholeAt s then feeding (heldAt s) l p else record { taken = 0; answer = refused 1; after = heldAt s }
 
 unfoldable pub closedOf : List ℕ → ℕ → Closed
-unfolding wholeAt heldAt closing
+unfolding wholeAt heldIn closing
 closedOf s l = if wholeAt s then closing (heldAt s) l else record { answer = refused 1; after = heldAt s }
 
 abbrev pub batchOf : List ℕ → ℕ → List ℕ → ℕ → Answer Batched

@@ -39,7 +39,7 @@ use Rattle.answers.specs.Answers.{numberGiven}
 use Rattle.answers.specs.Filled.{lengthGiven, front}
 use Rattle.head.specs.Head.{fromTo, upTo, numbersAt, namesAt, openingAt}
 use Rattle.head.specs.HeadLaws.{upTo-length}
-use Rattle.layout.specs.Store.{treesHeldAt, splitsHeldAt, maskAt, countAt, orderAt, splitAt, treeAt, heldAt}
+use Rattle.layout.specs.Store.{treesHeldAt, splitsHeldAt, maskAt, countAt, orderAt, splitAt, treeAt, heldAt, heldIn}
 use Rattle.layout.specs.StoreLaws.{split-is}
 use Rattle.layout.specs.WholeStore.{wholeAt}
 use Rattle.layout.specs.WholeFacts.{whole-at-facts}
@@ -237,7 +237,7 @@ module _ (s : List ℕ) (w : wholeAt s ≡ true) where
       and-right (goodConstants (o .numbers) (o .first) (o .second)) _ (and-right (inRange (o .numbers)) _ (whole-at-facts s w .head .opening-good))
 
   tree-short : (l : List ℕ) → goodTree (numbersAt s .taxa) l ≡ true → length (written (heldAt s .opening .names) l) ≤ 2236
-  unfolding heldAt openingAt
+  unfolding heldIn openingAt
   tree-short l g =
       let r = opening-facts s w .ranges in
       let a = r .least-taxa in

@@ -10,12 +10,12 @@ use lib.ListN.{length, getD}
 use Rattle.trees.specs.Plain.{if_then_else_, Answer, refused}
 use Rattle.trees.specs.Opening.{storeSize}
 use Rattle.trees.specs.Held.{Held}
-use Rattle.layout.specs.Store.{heldAt}
+use Rattle.layout.specs.Store.{heldAt, heldIn}
 use Rattle.layout.specs.WholeStore.{wholeAt}
 
 -- 1: "the lent collection is not whole"; every call on a collection checks it first
 unfoldable pub ifWhole : {A : Type 0} → List ℕ → (Held → Answer A) → Answer A
-unfolding wholeAt heldAt
+unfolding wholeAt heldIn
 ifWhole s f = if wholeAt s then f (heldAt s) else refused 1
 
 -- "Lent bytes past that size keep their values"
