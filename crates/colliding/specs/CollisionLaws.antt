@@ -141,5 +141,5 @@ module _ (s places identifiers : List ℕ) (h : ℕ) (d : Numbered s h places id
 
 pub collisions-counted : (s places identifiers : List ℕ) → Numbered s (splitsHeldAt s) places identifiers
     → pairsFrom places identifiers 0 (splitsHeldAt s) ≡ collisions (firstAt s) (secondAt s) (numbersAt s .places) (masksAt s)
-unfolding masksAt upTo
+unfolding upTo
 collisions-counted s places identifiers d = from-collisions s places identifiers (splitsHeldAt s) d 0 (splitsHeldAt s) (omega arith)
