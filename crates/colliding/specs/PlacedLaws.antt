@@ -1,6 +1,6 @@
 -- The places of the rows, as they are noted along the chains. Assumes nothing.
 --
---   whole-head, held-most, places-most     a whole store's head is in order; it has at most 4,096 splits and 8,192 places
+--   head-at, held-most             a whole store's head is in order; it has at most 4,096 splits
 --   highest-has, highest-over      the highest row of a place has it, and none above
 --   placed-none, placed-all        no place is noted; every place is
 --   part-starts, part-more, part-ends     one place: its start, a row along it, its end
@@ -18,24 +18,20 @@ use Rattle.theorems.specs.ListLaws.{less-or-not, equal-or-not}
 use Rattle.trees.specs.Plain.{if_then_else_}
 use Rattle.head.specs.Head.{numbersAt}
 use Rattle.layout.specs.Store.{splitsHeldAt, maskAt, linkAt, startAt}
-use Rattle.layout.specs.WholeStore.{highestBelow, wholeAt, highestIn}
-use Rattle.layout.specs.WholeFacts.{ChainsAt, whole-at-facts, facts-head}
-use Rattle.store.specs.GoodHeadLaws.{GoodHead, good-head}
-use Rattle.store.specs.Chain.{placeIn}
+use Rattle.layout.specs.WholeStore.{highestBelow, wholeAt, highestIn, placeIn}
+use Rattle.layout.specs.WholeFacts.{ChainsAt, whole-at-facts, HeadAt}
+use Rattle.layout.specs.InsideLaws.{splits-few}
 use Rattle.store.specs.ChainLaws.{highest-most, place-below}
 use Rattle.colliding.specs.Collisions.{Placed, PlacedPart}
 
 -- ---- a whole store
 
 module _ (s : List ℕ) (whole : wholeAt s ≡ true) where
-  pub whole-head : GoodHead s
-  whole-head = good-head s (facts-head s (whole-at-facts s whole .head))
+  pub head-at : HeadAt s
+  head-at = whole-at-facts s whole .head
 
   pub held-most : splitsHeldAt s ≤ 4096
-  held-most = let g = whole-head in omega (arith, g .splits-fit, g .ranges .most-splits)
-
-  pub places-most : numbersAt s .places ≤ 8192
-  places-most = let g = whole-head in omega (arith, g .ranges .most-places, g .ranges .most-splits)
+  held-most = splits-few s head-at
 
 -- ---- the highest row of a place
 

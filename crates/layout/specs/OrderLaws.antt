@@ -1,6 +1,6 @@
 -- The rows of the splits and their order by mask. Assumes nothing.
 --
---   masks-length, number-mask, masks-are     the recorded masks, by the splits' numbers
+--   masks-length, number-mask, masks-numbered     the recorded masks, by the splits' numbers
 -- where the splits are in order:
 --   splits-rise                   the masks rise with the splits' numbers
 --   row-numbered                  every row is that of one number
@@ -32,11 +32,11 @@ module _ (p : Parts) (long : length (p .order) ≡ splitsIn p) where
   pub number-mask : (k : ℕ) → k < splitsIn p → getD (masksIn p) k 0 ≡ splitIn p k
   number-mask k h = map-at (maskIn p) (p .order) k (omega (arith, long))
 
-  pub masks-are : masksIn p ≡ upTo (splitIn p) (splitsIn p)
-  masks-are =
-      ext-getD 0 _ _ (masks-length ∙ sym (upTo-length (splitIn p) (splitsIn p))) (λ k h.
-      let l : k < splitsIn p = omega (arith, masks-length) in
-      number-mask k l ∙ sym (upTo-at (splitIn p) (splitsIn p) k 0 l))
+  pub masks-numbered : masksIn p ≡ upTo (splitIn p) (splitsIn p)
+  masks-numbered =
+      ext-getD 0 _ _ (masks-length ∙ sym (upTo-length (splitIn p) (splitsIn p))) (λ i q.
+      let h : i < splitsIn p = omega (arith, masks-length) in
+      number-mask i h ∙ sym (upTo-at (splitIn p) (splitsIn p) i 0 h))
 
   module _ {taxa : ℕ} {second : List ℕ} (f : SplitsIn taxa second p) where
     pub masks-rise : Rising (masksIn p)

@@ -18,7 +18,7 @@ use Rattle.layout.specs.Store.{partsAt, splitsHeldAt, countAt, orderAt, splitAt
 use Rattle.layout.specs.StoreLaws.{shaped-at}
 use Rattle.layout.specs.WholeStore.{wholeAt}
 use Rattle.layout.specs.WholeFacts.{whole-at-facts}
-use Rattle.layout.specs.OrderLaws.{masks-are}
+use Rattle.layout.specs.OrderLaws.{masks-numbered}
 use Rattle.store.specs.RecordedAtLaws.{count-at, recorded-at}
 use Rattle.store.specs.Counts.{splitCount, countsAt}
 
@@ -53,6 +53,6 @@ module _ (s : List ℕ) (w : wholeAt s ≡ true) where
   pub counts-at : map (count (heldAt s .trees)) (recorded (heldAt s .trees)) ≡ countsAt s
   unfolding countsAt
   counts-at =
-      rw (recorded-at s w, masks-are (partsAt s) (shaped-at s .order))
+      rw (recorded-at s w, masks-numbered (partsAt s) (shaped-at s .order))
       (map-upTo (count (heldAt s .trees)) (splitAt s) (splitsHeldAt s)
       ∙ upTo-same (λ k. count (heldAt s .trees) (splitAt s k)) (splitCount s) (splitsHeldAt s) split-count)
