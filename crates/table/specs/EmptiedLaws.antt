@@ -26,7 +26,7 @@ use Rattle.head.specs.Head.{numbersAt, openingAt, upTo, fromTo}
 use Rattle.head.specs.HeadLaws.{numbers-same, head-same, upTo-length, upTo-at}
 use Rattle.layout.specs.Columns.{columnAt}
 use Rattle.layout.specs.Store.{laneFrom, treeFrom, masksFrom, identifiersFrom, countsFrom, linksFrom, orderFrom, placesFrom, sizeAt, listFrom, textFrom, partsAt, heldIn, heldAt}
-use Rattle.layout.specs.StoreLaws.{lane-from, masks-from, places-from, size-is}
+use Rattle.layout.specs.StoreLaws.{lane-from, masks-from, places-from, size-is, Shaped, shaped-at}
 use Rattle.layout.specs.KeptLaws.{number-kept}
 use Rattle.layout.specs.WholeStore.{highestIn, wholeAt}
 use Rattle.layout.specs.WholeFacts.{HeadAt}
@@ -94,12 +94,12 @@ module _ (s t : List ℕ) (p : LanesEmptied s (numbersAt s .lanes) t) (f : sizeA
 
 -- ---- a store that holds nothing
 
-empty-sound : (o : Opening) → Sound o (emptyParts (o .numbers))
+empty-sound : (o : Opening) → Shaped (o .numbers) (emptyParts (o .numbers)) → Sound o (emptyParts (o .numbers))
 unfolding every rising highestIn
-empty-sound o =
+empty-sound o a =
     let n = o .numbers in
     record {
-      shaped = record { identifiers = refl; counts = refl; links = refl; order = refl; starts = length-replicate (n .places) 0; lengths = length-replicate (n .lanes) 0; texts = length-replicate (n .lanes) (holding []) };
+      shaped = a;
       splits = record { rows-below = λ k h. absurd (omega arith); masks-proper = refl; masks-rising = refl; identifiers = λ k h. absurd (omega arith) };
       lists = λ i h. absurd (omega arith);
       counts = λ k h. absurd (omega arith);
@@ -115,7 +115,8 @@ upTo-replicate f n x h =
     let b : i < n = omega (arith, upTo-length f n) in
     upTo-at f n i x b ∙ h i b ∙ sym (getD-replicate n i x x b))
 
-module _ (s t : List ℕ) (p : Emptied s t) (long : 4096 ≤ length s) (good : goodOpening (openingAt s) ≡ true) (reach : sizeAt s ≤ length s) (trees : number 2 s 10 ≡ 0) (splits : number 2 s 12 ≡ 0) (bytes : (i : ℕ) → getD s i 0 < 256) where
+module _ (s t : List ℕ) (p : Emptied s t) (long : 4096 ≤ length s) (good : goodOpening (openingAt s) ≡ true) (reach : sizeAt s ≤ length s)
+    (trees : number 2 s 10 ≡ 0) (splits : number 2 s 12 ≡ 0) (bytes : (i : ℕ) → getD s i 0 < 256) where
   same-opening : openingAt t ≡ openingAt s
   unfolding openingAt
   same-opening = sym (head-same s t (p .head) long (omega (arith, p .size)) bytes (good-opening (openingAt s) good .ranges .most-taxa))
@@ -173,7 +174,7 @@ module _ (s t : List ℕ) (p : Emptied s t) (long : 4096 ≤ length s) (good : g
 
   emptied-sound : Sound (openingAt t) (partsAt t)
   unfolding openingAt
-  emptied-sound = rw (emptied-parts, same-opening) (empty-sound (openingAt s))
+  emptied-sound = rw (emptied-parts, same-opening) (empty-sound (openingAt s) (rw (emptied-parts, same-numbers) at (shaped-at t)))
 
   pub emptied-whole : wholeAt t ≡ true
   emptied-whole = sound-whole t head-at emptied-sound (rw emptied-parts (λ k h. absurd (omega arith)))
