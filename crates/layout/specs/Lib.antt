@@ -6,6 +6,7 @@ pub mod KeptLaws
 pub mod WholeStore
 pub mod AllLaws
 pub mod WholeFacts
+pub mod InsideLaws
 pub mod Sound
 pub mod UpToLaws
 pub mod PigeonLaws

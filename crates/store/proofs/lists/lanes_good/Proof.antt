@@ -6,7 +6,7 @@ use native.Mathlib.Omega.{arith}
 use Rattle.head.specs.Head.{numbersAt}
 use Rattle.layout.specs.WholeStore.{allBelow, goodLaneAt}
 use Rattle.layout.specs.AllLaws.{all-none, all-more, all-fails}
-use Rattle.store.specs.RoomLaws.{good-head, lane-inside}
+use Rattle.layout.specs.InsideLaws.{ranges, lane-inside}
 use Rattle.store.specs.ListTestLaws.{lane-long, lane-short}
 use Rattle.store.proofs.lists.lanes_good.Statement.{statement}
 use Rattle.store.proofs.lists.lanes_good.Tie as tie
@@ -18,11 +18,11 @@ abbrev μ-loop : tie.MeasureT-loop
 μ-loop s lanes l₀ l = lanes - l
 
 few : tie.Need-lane-from-requires Inv-loop μ-loop
-few c κs = omega (arith, good-head _ (c .before .before .before .before .pre) .ranges .most-lanes)
+few c κs = omega (arith, ranges _ (c .before .before .before .before .pre) .most-lanes)
 
 inside : tie.Need-number16-requires Inv-loop μ-loop
 inside c κs =
-    let h = lane-inside _ (good-head _ (c .before .before .before .before .before .pre)) (c .before .before .loop .l) (omega arith) in
+    let h = lane-inside _ (c .before .before .before .before .before .pre) (c .before .before .loop .l) (omega arith) in
     omega (arith, c .lane-from .ensures .0)
 
 returns : tie.Need-returns Inv-loop μ-loop
@@ -51,7 +51,7 @@ lanes-good-spec =
     (tie.spec
     Inv-loop
     μ-loop
-    (λ c κs. good-head _ (c .before .pre) .head)
+    (λ c κs. c .before .pre .head-there)
     (λ c. omega arith)
     (λ c. (omega arith, c .lanes .ensures .0, all-none (goodLaneAt _)))
     few
