@@ -17,7 +17,6 @@ use borrow.Author.Tests.{eqb-true, eqb-false}
 use Rattle.trees.specs.Plain.{if_then_else_}
 use Rattle.trees.specs.Opening.{Numbers, Opening}
 use Rattle.trees.specs.Held.{Lane, withLane}
-use Rattle.theorems.specs.OpeningLaws.{good-opening}
 use Rattle.fields.specs.Field.{number}
 use Rattle.head.specs.Head.{upTo, numbersAt, openingAt}
 use Rattle.head.specs.HeadLaws.{numbers-same, head-same, upTo-same}
@@ -27,6 +26,7 @@ use Rattle.layout.specs.StoreLaws.{lane-from, tree-from, masks-from, identifier
 use Rattle.layout.specs.KeptLaws.{Kept, number-kept, list-kept, text-kept}
 use Rattle.layout.specs.WholeStore.{highestIn, listedIn, wholeAt}
 use Rattle.layout.specs.WholeFacts.{HeadAt, WholeAt, whole-at-facts}
+use Rattle.layout.specs.InsideLaws.{ranges}
 use Rattle.layout.specs.Sound.{Sound, whole-sound, sound-whole}
 use Rattle.layout.specs.UpToLaws.{less-or-not}
 use Rattle.lanes.specs.Lanes.{LaneIs}
@@ -92,11 +92,9 @@ module _ (s : List ℕ) (w : wholeAt s ≡ true) (l : ℕ) (m : l < numbersAt s 
       go (inr q) = inr (omega (arith, lane-from l, lane-from j))
 
   opening-kept : openingAt t ≡ openingAt s
-  unfolding openingAt
   opening-kept =
-      let h = facts .head in
-      let few = good-opening (openingAt s) (h .opening-good) .ranges .most-taxa in
-      sym (head-same s t (λ i q. sym (front i (omega arith) q)) (h .head-there) (omega (arith, h .head-there)) bytes few)
+      let h = facts .head .head-there in
+      sym (head-same s t (λ i q. sym (front i (omega arith) q)) h (omega arith) bytes (ranges s (facts .head) .most-taxa))
 
   numbers-kept : numbersAt t ≡ numbersAt s
   numbers-kept = sym (numbers-same s t (λ i q. sym (front i (omega arith) q)))
