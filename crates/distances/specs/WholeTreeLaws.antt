@@ -13,12 +13,11 @@ use mathlib.Core.Bool.{true}
 use mathlib.Core.List.{List}
 use lib.ListN.{length, getD}
 use Rattle.trees.specs.Distance.{oneSided}
-use Rattle.theorems.specs.ListLaws.{Mem}
+use Rattle.theorems.specs.ListLaws.{Mem, mem-getD}
 use Rattle.layout.specs.Store.{treesHeldAt, maskAt, listAt, treeAt}
 use Rattle.layout.specs.WholeStore.{wholeAt}
 use Rattle.layout.specs.WholeFacts.{HeadAt, WholeAt, whole-at-facts}
 use Rattle.layout.specs.InsideLaws.{splits-few}
-use Rattle.layout.specs.UpToLaws.{mem-getD}
 use Rattle.rows.specs.ReadLaws.{tree-length}
 use Rattle.store.specs.RecordedAtLaws.{member-at}
 use Rattle.store.specs.HeldWholeLaws.{tree-rises}

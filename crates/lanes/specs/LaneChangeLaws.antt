@@ -11,23 +11,23 @@ use mathlib.Core.Logic.{_⊎_, inl, inr}
 use mathlib.Core.Bool.{Bool, true, false}
 use mathlib.Core.List.{List}
 use lib.Dec.{eqb}
-use lib.ListN.{length, getD, set, length-set}
+use lib.ListN.{length, getD, set}
 use lib.Seq.{getD-set-same, getD-set-other}
 use borrow.Author.Tests.{eqb-true, eqb-false}
 use Rattle.theorems.specs.ListLaws.{less-or-not}
 use Rattle.trees.specs.Plain.{if_then_else_}
 use Rattle.trees.specs.Opening.{Numbers, Opening}
 use Rattle.trees.specs.Held.{Lane, withLane}
-use Rattle.theorems.specs.OpeningLaws.{good-opening}
 use Rattle.fields.specs.Field.{number}
 use Rattle.head.specs.Head.{upTo, numbersAt, openingAt}
 use Rattle.head.specs.HeadLaws.{numbers-same, head-same, upTo-same}
 use Rattle.layout.specs.Columns.{columnAt, column-same, upTo-set}
 use Rattle.layout.specs.Store.{laneFrom, treeFrom, masksFrom, identifiersFrom, countsFrom, linksFrom, orderFrom, placesFrom, Parts, listFrom, textFrom, partsAt, maskIn, heldIn, heldAt}
-use Rattle.layout.specs.StoreLaws.{lane-from, tree-from, masks-from, identifiers-from, counts-from, links-from, order-from, places-from, size-is}
+use Rattle.layout.specs.StoreLaws.{lane-from, tree-from, masks-from, identifiers-from, counts-from, links-from, order-from, places-from, size-is, Shaped, shaped-at}
 use Rattle.layout.specs.KeptLaws.{Kept, number-kept, list-kept, text-kept}
 use Rattle.layout.specs.WholeStore.{highestIn, listedIn, wholeAt}
 use Rattle.layout.specs.WholeFacts.{HeadAt, WholeAt, whole-at-facts}
+use Rattle.layout.specs.InsideLaws.{ranges}
 use Rattle.layout.specs.Sound.{Sound, whole-sound, sound-whole}
 use Rattle.lanes.specs.Lanes.{LaneIs}
 use Rattle.lanes.specs.LaneLaws.{lane-end, lane-fits}
@@ -53,13 +53,12 @@ module _ (o : Opening) (p : Parts) (l n : ℕ) (x : Lane) where
   highest-with h q zero = refl
   highest-with h q (suc k) = ap (λ (r : ℕ). if eqb (h (maskIn p k)) q then suc k else r) (highest-with h q k)
 
-  sound-with : Sound o p → l < o .numbers .lanes → n ≤ 4097 → Sound o (withText l n x p)
+  sound-with : Sound o p → Shaped (o .numbers) (withText l n x p) → l < o .numbers .lanes → n ≤ 4097 → Sound o (withText l n x p)
   unfolding listedIn
-  sound-with f m h =
-      let a = f .shaped in
+  sound-with f a m h =
       let b = f .splits in
       record {
-        shaped = record { identifiers = a .identifiers; counts = a .counts; links = a .links; order = a .order; starts = a .starts; lengths = length-set (p .lengths) l n ∙ a .lengths; texts = length-set (p .texts) l x ∙ a .texts };
+        shaped = a;
         splits = record { rows-below = b .rows-below; masks-proper = b .masks-proper; masks-rising = b .masks-rising; identifiers = b .identifiers };
         lists = λ i q. let c = f .lists i q in record { few = c .few; numbers-below = c .numbers-below; tree-rising = c .tree-rising; agreeing = c .agreeing };
         counts = f .counts;
@@ -93,11 +92,9 @@ module _ (s : List ℕ) (w : wholeAt s ≡ true) (l : ℕ) (m : l < numbersAt s 
       go (inr q) = inr (omega (arith, lane-from l, lane-from j))
 
   opening-kept : openingAt t ≡ openingAt s
-  unfolding openingAt
   opening-kept =
-      let h = facts .head in
-      let few = good-opening (openingAt s) (h .opening-good) .ranges .most-taxa in
-      sym (head-same s t (λ i q. sym (front i (omega arith) q)) (h .head-there) (omega (arith, h .head-there)) bytes few)
+      let h = facts .head .head-there in
+      sym (head-same s t (λ i q. sym (front i (omega arith) q)) h (omega arith) bytes (ranges s (facts .head) .most-taxa))
 
   numbers-kept : numbersAt t ≡ numbersAt s
   numbers-kept = sym (numbers-same s t (λ i q. sym (front i (omega arith) q)))
@@ -160,7 +157,7 @@ module _ (s : List ℕ) (w : wholeAt s ≡ true) (l : ℕ) (m : l < numbersAt s 
 
     sound-at : Sound (openingAt t) (partsAt t)
     unfolding openingAt
-    sound-at = rw (parts-are, opening-kept) (sound-with (openingAt s) (partsAt s) l n x (whole-sound s w) m fits)
+    sound-at = rw (parts-are, opening-kept) (sound-with (openingAt s) (partsAt s) l n x (whole-sound s w) (rw (parts-are, numbers-kept) at (shaped-at t)) m fits)
 
     held-with : heldAt t ≡ withLane (heldAt s) l x
     unfolding heldIn withLane

@@ -15,13 +15,13 @@ use lib.ListN.{length, take, drop}
 use borrow.Author.Tests.{eq-eqb, ne-eqb}
 use Rattle.trees.specs.Held.{holding, overrun, laneOf}
 use Rattle.theorems.specs.ListLaws.{if-true, if-false}
-use Rattle.theorems.specs.OpeningLaws.{good-opening}
 use Rattle.fields.specs.Field.{number}
-use Rattle.head.specs.Head.{numbersAt, openingAt}
+use Rattle.head.specs.Head.{numbersAt}
 use Rattle.layout.specs.Store.{laneFrom, textFrom, heldIn, heldAt}
-use Rattle.layout.specs.StoreLaws.{lane-from, masks-from, size-is, length-is, lane-is}
+use Rattle.layout.specs.StoreLaws.{length-is, lane-is}
 use Rattle.layout.specs.WholeStore.{wholeAt}
 use Rattle.layout.specs.WholeFacts.{whole-at-facts}
+use Rattle.layout.specs.InsideLaws.{ranges, lane-inside}
 
 -- ---- any bytes
 
@@ -38,11 +38,10 @@ module _ (s : List ℕ) (a : ℕ) where
 
 module _ (s : List ℕ) (w : wholeAt s ≡ true) (l : ℕ) (m : l < numbersAt s .lanes) where
   pub lane-few : l < 65536
-  unfolding openingAt
-  lane-few = let h : numbersAt s .lanes ≤ 8 = good-opening (openingAt s) (whole-at-facts s w .head .opening-good) .ranges .most-lanes in omega arith
+  lane-few = omega (arith, ranges s (whole-at-facts s w .head) .most-lanes)
 
   pub lane-end : laneFrom l + 4104 ≤ length s
-  lane-end = omega (arith, lane-from l, masks-from (numbersAt s), size-is s, whole-at-facts s w .head .reached)
+  lane-end = lane-inside s (whole-at-facts s w .head) l m
 
   pub lane-fits : number 2 s (laneFrom l) ≤ 4097
   lane-fits = rw (← length-is s l m) (whole-at-facts s w .lanes l m)

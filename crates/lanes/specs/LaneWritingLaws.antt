@@ -105,7 +105,8 @@ module _ (s : List ℕ) (w : wholeAt s ≡ true) (l : ℕ) (m : l < numbersAt s 
       unfolding longer
       runs-over h {t} e =
           rw (e, at)
-          (length-is 4097 (omega arith) after (λ q. text-over (put 2 s (laneFrom l) 4097) (laneFrom l) q ∙ rw (text-is, lt-ltb mostText (length (text ++ p)) (omega (arith, text-length)))))
+          (length-is 4097 (omega arith) after (λ q.
+          text-over (put 2 s (laneFrom l) 4097) (laneFrom l) q ∙ rw (text-is, lt-ltb mostText (length (text ++ p)) (omega (arith, text-length)))))
 
       pub holds-more : length p ≤ 4096 - n → {u t : List ℕ} → u ≡ copied s (from + 8 + n) p 0 (length p) → t ≡ put 2 u from (n + length p) → LaneIs s l after t
       unfolding longer

@@ -48,7 +48,8 @@ module _ (s t : List ℕ) (lo hi : ℕ) (same : Kept s t lo hi) where
   unfolding textFrom
   text-kept long size a p q r = rw (number-kept 2 a p (omega arith)) (go (eqb (number 2 s a) 4097) refl)
     where
-      go : (b : Bool) → eqb (number 2 s a) 4097 ≡ b → (if b then overrun else holding (take (number 2 s a) (drop (a + 8) t))) ≡ (if b then overrun else holding (take (number 2 s a) (drop (a + 8) s)))
+      go : (b : Bool) → eqb (number 2 s a) 4097 ≡ b
+          → (if b then overrun else holding (take (number 2 s a) (drop (a + 8) t))) ≡ (if b then overrun else holding (take (number 2 s a) (drop (a + 8) s)))
       go true e = refl
       go false e =
           let f = eqb-false (number 2 s a) 4097 e in

@@ -21,7 +21,7 @@ use Rattle.theorems.specs.RisingLaws.{Rising, rising-true}
 use Rattle.fields.specs.Field.{number}
 use Rattle.head.specs.Head.{numbersAt}
 use Rattle.layout.specs.Store.{laneFrom, partsAt, splitsHeldAt, listAt, treeAt, lengthAt}
-use Rattle.layout.specs.StoreLaws.{lane-from, length-is}
+use Rattle.layout.specs.StoreLaws.{length-is}
 use Rattle.layout.specs.WholeStore.{goodList, goodLaneAt, listGood, laneGood}
 use Rattle.layout.specs.WholeFacts.{list-facts}
 use Rattle.rows.specs.Rows.{RowsAt}

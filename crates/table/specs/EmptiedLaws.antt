@@ -1,10 +1,10 @@
 -- The laws of lent bytes that are emptied behind their head. Assumes nothing.
 --
 --   lanes-none, lanes-more           lanes emptied one after another
---   head-inside, places-inside       the head and the places are lent
+--   lane-inside, head-inside, places-inside     the lanes, the head and the places are lent
 --   emptied-places                   every place emptied, behind the lanes
---   no-splits, no-list, no-count     what is asked of splits and trees is nothing where there are none
---   emptied-whole, emptied-held      a good head with nothing behind it is whole, and holds what was opened
+--   emptied-parts                    the parts of a head with nothing behind it
+--   emptied-whole, emptied-held      where that head is good they are whole, and hold what was opened
 use Prim.Native.Nat.{ℕ, _+_, _*_, _≤_, _<_}
 use native.Mathlib.Omega.{arith}
 use mathlib.Core.Path.{_≡_, refl, sym, ap, _∙_}
@@ -15,7 +15,7 @@ use lib.ListN.{length, getD, replicate, length-replicate, getD-replicate}
 use lib.Seq.{ext-getD}
 use Rattle.theorems.specs.ListLaws.{less-or-not}
 use Rattle.trees.specs.Plain.{every}
-use Rattle.trees.specs.Opening.{Numbers}
+use Rattle.trees.specs.Opening.{Numbers, Opening}
 use Rattle.trees.specs.Held.{holding, opened}
 use Rattle.trees.specs.Whole.{rising, goodOpening}
 use Rattle.theorems.specs.OpeningLaws.{good-opening}
@@ -25,190 +25,160 @@ use Rattle.fields.specs.Run.{cleared}
 use Rattle.fields.specs.RunLaws.{cleared-length, cleared-outside, number-cleared-inside, number-cleared-outside}
 use Rattle.head.specs.Head.{numbersAt, openingAt, upTo, fromTo}
 use Rattle.head.specs.HeadLaws.{numbers-same, head-same, upTo-length, upTo-at}
-use Rattle.layout.specs.Store.{treesHeldAt, splitsHeldAt, laneFrom, masksFrom, placesFrom, sizeAt, laneAt, startAt, masksAt, heldAt, heldIn}
-use Rattle.layout.specs.StoreLaws.{lane-from, masks-from, places-from, size-is, start-is, lane-is}
-use Rattle.layout.specs.WholeStore.{wholeAt}
-use Rattle.layout.specs.WholeFacts.{SplitsAt, ListAt, CountAt, ChainsAt, facts-whole-at}
-use Rattle.store.specs.ChainLaws.{highest-none}
-use Rattle.store.specs.PartFrameLaws.{masks-from-same, size-same}
-use Rattle.store.specs.FrameLaws.{trees-held-frame, splits-held-frame}
-use Rattle.table.specs.Emptied.{LanesEmptied, Emptied}
+use Rattle.layout.specs.Store.{laneFrom, masksFrom, placesFrom, sizeAt, heldAt, heldIn, treeFrom, identifiersFrom, countsFrom, linksFrom, orderFrom, listFrom, textFrom, partsAt}
+use Rattle.layout.specs.StoreLaws.{lane-from, masks-from, places-from, size-is, Shaped, shaped-at}
+use Rattle.layout.specs.WholeStore.{wholeAt, highestIn}
+use Rattle.table.specs.Emptied.{LanesEmptied, Emptied, emptyParts}
+use Rattle.layout.specs.Columns.{columnAt}
+use Rattle.layout.specs.KeptLaws.{number-kept}
+use Rattle.layout.specs.WholeFacts.{HeadAt}
+use Rattle.layout.specs.Sound.{Sound, sound-whole}
 
 -- ---- lanes emptied one after another
 
 pub lanes-none : (s : List ℕ) → LanesEmptied s 0 s
 lanes-none s = record { size = refl; head = λ i h. refl; lanes = λ l h. absurd (omega arith); behind = λ i h. refl }
 
-module _ (s t u : List ℕ) (n : ℕ) (p : LanesEmptied s n t) (e : u ≡ put 2 t (4096 + 4104 * n) 0) (f : 4096 + 4104 * n + 2 ≤ length t) where
-  put-kept : (i : ℕ) → (i < 4096 + 4104 * n) ⊎ (4096 + 4104 * n + 2 ≤ i) → getD u i 0 ≡ getD t i 0
-  put-kept i h = rw e (put-outside 2 t (4096 + 4104 * n) 0 i h)
+module _ (s t : List ℕ) (n : ℕ) (p : LanesEmptied s n t) (f : sizeAt s ≤ length s) (b : n < numbersAt s .lanes) where
+  pub lane-inside : laneFrom n + 2 ≤ length t
+  lane-inside = omega (arith, p .size, lane-from n, masks-from (numbersAt s), size-is s)
 
-  put-lane : (l : ℕ) → l < n + 1 → number 2 u (laneFrom l) ≡ 0
-  put-lane l h = rw (e, lane-from l) (go (less-or-not l n))
+  put-lane : (l : ℕ) → l < n + 1 → number 2 (put 2 t (laneFrom n) 0) (laneFrom l) ≡ 0
+  put-lane l h = go (less-or-not l n)
     where
-      go : (l < n) ⊎ (n ≤ l) → number 2 (put 2 t (4096 + 4104 * n) 0) (4096 + 4104 * l) ≡ 0
-      go (inl q) = number-put-outside 2 2 t (4096 + 4104 * n) 0 (4096 + 4104 * l) (inl (omega arith)) ∙ rw (← lane-from l) (p .lanes l q)
+      go : (l < n) ⊎ (n ≤ l) → number 2 (put 2 t (laneFrom n) 0) (laneFrom l) ≡ 0
+      go (inl q) = number-put-outside 2 2 t (laneFrom n) 0 (laneFrom l) (inl (omega (arith, lane-from l, lane-from n))) ∙ p .lanes l q
       go (inr q) =
           let z : l ≡ n = omega arith in
-          rw z (number-put 2 t (4096 + 4104 * n) 0 f (omega arith))
+          rw z (number-put 2 t (laneFrom n) 0 lane-inside (omega arith))
 
-  pub lanes-more : LanesEmptied s (n + 1) u
-  lanes-more =
+  pub lanes-more : (from : ℕ) (u : List ℕ) → from ≡ laneFrom n → u ≡ put 2 t from 0 → LanesEmptied s (n + 1) u
+  lanes-more from u d e =
+      let x = lane-from n in
+      let y = lane-from (n + 1) in
+      rw (e, d)
       record {
-        size = rw e (put-length 2 t (4096 + 4104 * n) 0) ∙ p .size;
-        head = λ i h. p .head i h ∙ sym (put-kept i (inl (omega arith)));
+        size = put-length 2 t (laneFrom n) 0 ∙ p .size;
+        head = λ i h. p .head i h ∙ sym (put-outside 2 t (laneFrom n) 0 i (inl (omega arith)));
         lanes = put-lane;
-        behind =
-            λ i h.
-            let a = lane-from (n + 1) in
-            let b = lane-from n in
-            put-kept i (inr (omega arith)) ∙ p .behind i (omega arith);
+        behind = λ i h. put-outside 2 t (laneFrom n) 0 i (inr (omega arith)) ∙ p .behind i (omega arith);
       }
 
--- ---- then the places
+-- ---- then the places, which end where the store does
 
-module _ (s t : List ℕ) (p : LanesEmptied s (numbersAt s .lanes) t) where
-  numbers-kept : numbersAt s ≡ numbersAt t
-  numbers-kept = numbers-same s t (p .head)
+module _ (s t : List ℕ) (p : LanesEmptied s (numbersAt s .lanes) t) (f : sizeAt s ≤ length s) where
+  places-end : placesFrom (numbersAt s) + 2 * numbersAt s .places ≡ sizeAt s
+  places-end = omega (arith, places-from (numbersAt s), size-is s)
 
-  -- the places lie behind the lanes, and end where the store does
-  places-at : placesFrom (numbersAt t) ≡ masksFrom (numbersAt s) + 24 * numbersAt s .splitRoom
-  places-at = places-from (numbersAt t) ∙ rw (← masks-from-same s t numbers-kept, ← numbers-kept)
+  pub head-inside : 4096 ≤ length t
+  head-inside = omega (arith, p .size, masks-from (numbersAt s), size-is s)
 
-  places-end : placesFrom (numbersAt t) + 2 * numbersAt t .places ≡ sizeAt s
-  places-end = omega (arith, places-at, size-is s, ap (λ (x : Numbers). x .places) numbers-kept)
+  pub places-inside : placesFrom (numbersAt t) + 2 * numbersAt t .places ≤ length t
+  places-inside = rw (← numbers-same s t (p .head)) (omega (arith, p .size, places-end))
 
-  module _ (f : sizeAt s ≤ length s) where
-    pub head-inside : 4096 ≤ length t
-    head-inside = omega (arith, p .size, masks-from (numbersAt s), size-is s)
+  pub emptied-places : (u : List ℕ) → u ≡ cleared t (placesFrom (numbersAt t)) (2 * numbersAt t .places) → Emptied s u
+  emptied-places u e =
+      let n = numbersAt s in
+      let a = places-from n in
+      let b = masks-from n in
+      let z = places-end in
+      let v = p .size in
+      rw (e, ← numbers-same s t (p .head))
+      record {
+        size = cleared-length t (placesFrom n) (2 * n .places) ∙ p .size;
+        head = λ i h. p .head i h ∙ sym (cleared-outside t (placesFrom n) (2 * n .places) i (inl (omega arith)));
+        lanes = λ l h. number-cleared-outside t (placesFrom n) (2 * n .places) 2 (laneFrom l) (inl (omega (arith, lane-from l))) ∙ p .lanes l h;
+        starts = λ q h. number-cleared-inside t (placesFrom n) (2 * n .places) 2 (placesFrom n + 2 * q) (omega arith) (omega arith) (omega arith);
+        behind = λ i h. cleared-outside t (placesFrom n) (2 * n .places) i (inr (omega arith)) ∙ p .behind i (omega (arith, lane-from (n .lanes)));
+      }
 
-    pub places-inside : placesFrom (numbersAt t) + 2 * numbersAt t .places ≤ length t
-    places-inside = omega (arith, p .size, places-end)
+-- ---- a store that holds nothing
 
-    module _ (u : List ℕ) (e : u ≡ cleared t (placesFrom (numbersAt t)) (2 * numbersAt t .places)) where
-      clear-kept : (i : ℕ) → (i < placesFrom (numbersAt t)) ⊎ (placesFrom (numbersAt t) + 2 * numbersAt t .places ≤ i) → getD u i 0 ≡ getD t i 0
-      clear-kept i h = rw e (cleared-outside t (placesFrom (numbersAt t)) (2 * numbersAt t .places) i h)
-
-      head-clear : (i : ℕ) → i < 4096 → getD t i 0 ≡ getD u i 0
-      head-clear i h = sym (clear-kept i (inl (omega (arith, places-at, masks-from (numbersAt s)))))
-
-      lane-clear : (l : ℕ) → l < numbersAt s .lanes → number 2 u (laneFrom l) ≡ 0
-      lane-clear l h =
-          let a : laneFrom l + 2 ≤ placesFrom (numbersAt t) = omega (arith, places-at, masks-from (numbersAt s), lane-from l) in
-          rw e (number-cleared-outside t (placesFrom (numbersAt t)) (2 * numbersAt t .places) 2 (laneFrom l) (inl a)) ∙ p .lanes l h
-
-      same-places : placesFrom (numbersAt u) ≡ placesFrom (numbersAt t)
-      same-places =
-          let v : numbersAt t ≡ numbersAt u = numbers-same t u head-clear in
-          places-from (numbersAt u) ∙ rw (← masks-from-same t u v, ← v, ← places-from (numbersAt t))
-
-      start-clear : (k : ℕ) → k < numbersAt s .places → startAt u k ≡ 0
-      start-clear k h =
-          let n : k < numbersAt t .places = rw (← numbers-kept) h in
-          start-is u k
-          ∙ rw (same-places, e) (number-cleared-inside t (placesFrom (numbersAt t)) (2 * numbersAt t .places) 2 (placesFrom (numbersAt t) + 2 * k) places-inside (omega arith) (omega arith))
-
-      pub emptied-places : Emptied s u
-      emptied-places =
-          record {
-            size = rw e (cleared-length t (placesFrom (numbersAt t)) (2 * numbersAt t .places)) ∙ p .size;
-            head = λ i h. p .head i h ∙ head-clear i h;
-            lanes = lane-clear;
-            starts = start-clear;
-            behind =
-                λ i h.
-                let a : laneFrom (numbersAt s .lanes) ≤ i = omega (arith, lane-from (numbersAt s .lanes), masks-from (numbersAt s), size-is s) in
-                clear-kept i (inr (omega (arith, places-end))) ∙ p .behind i a;
-          }
-
--- ---- no splits and no trees
-
-no-masks : (t : List ℕ) → splitsHeldAt t ≡ 0 → masksAt t ≡ []
-unfolding upTo fromTo
-no-masks t e = rw e
-
-pub no-splits : (t : List ℕ) → splitsHeldAt t ≡ 0 → SplitsAt t
-unfolding every rising
-no-splits t e = record { rows-below = λ k h. absurd (omega arith); masks-proper = rw (no-masks t e); masks-rising = rw (no-masks t e); identifiers = λ k h. absurd (omega arith) }
-
-pub no-list : (t : List ℕ) → treesHeldAt t ≡ 0 → (i : ℕ) → i < treesHeldAt t → ListAt t i
-no-list t e i h = absurd (omega arith)
-
-pub no-count : (t : List ℕ) → splitsHeldAt t ≡ 0 → (k : ℕ) → k < splitsHeldAt t → CountAt t k
-no-count t e k h = absurd (omega arith)
+empty-sound : (o : Opening) → Shaped (o .numbers) (emptyParts (o .numbers)) → Sound o (emptyParts (o .numbers))
+unfolding every rising highestIn
+empty-sound o a =
+    let n = o .numbers in
+    record {
+      shaped = a;
+      splits = record { rows-below = λ k h. absurd (omega arith); masks-proper = refl; masks-rising = refl; identifiers = λ k h. absurd (omega arith) };
+      lists = λ i h. absurd (omega arith);
+      counts = λ k h. absurd (omega arith);
+      chains = record { links = λ k h. absurd (omega arith); starts = λ q h. getD-replicate {A = ℕ} (n .places) q 0 0 h };
+      lanes = λ l h. omega (arith, getD-replicate {A = ℕ} (n .lanes) l 0 0 h);
+    }
 
 -- ---- a good head, and nothing behind it
 
-module _ (s t : List ℕ) (p : Emptied s t) (long : 4096 ≤ length s) (good : goodOpening (openingAt s) ≡ true) (reach : sizeAt s ≤ length s) (trees : treesHeldAt s ≡ 0) (splits : splitsHeldAt s ≡ 0) (bytes : (i : ℕ) → getD s i 0 < 256) where
-  few-taxa : numbersAt s .taxa ≤ 64
+upTo-replicate : {A : Type 0} (f : ℕ → A) (n : ℕ) (x : A) → ((i : ℕ) → i < n → f i ≡ x) → upTo f n ≡ replicate n x
+upTo-replicate f n x h =
+    ext-getD x _ _ (upTo-length f n ∙ sym (length-replicate n x)) (λ i l.
+    let b : i < n = omega (arith, upTo-length f n) in
+    upTo-at f n i x b ∙ h i b ∙ sym (getD-replicate n i x x b))
+
+module _ (s t : List ℕ) (p : Emptied s t) (long : 4096 ≤ length s) (good : goodOpening (openingAt s) ≡ true) (reach : sizeAt s ≤ length s)
+    (trees : number 2 s 10 ≡ 0) (splits : number 2 s 12 ≡ 0) (bytes : (i : ℕ) → getD s i 0 < 256) where
+  same-opening : openingAt t ≡ openingAt s
   unfolding openingAt
-  few-taxa = good-opening (openingAt s) good .ranges .most-taxa
+  same-opening = sym (head-same s t (p .head) long (omega (arith, p .size)) bytes (good-opening (openingAt s) good .ranges .most-taxa))
 
-  same-opening : openingAt s ≡ openingAt t
-  same-opening = head-same s t (p .head) long (omega (arith, p .size)) bytes few-taxa
+  same-numbers : numbersAt t ≡ numbersAt s
+  same-numbers = sym (numbers-same s t (p .head))
 
-  same-numbers : numbersAt s ≡ numbersAt t
-  same-numbers = numbers-same s t (p .head)
+  same-held : (a : ℕ) → a + 2 ≤ 4096 → number 2 t a ≡ number 2 s a
+  same-held a h = number-kept s t 0 4096 (λ i q l. sym (p .head i l)) 2 a (omega arith) h
 
-  same-lanes : numbersAt s .lanes ≡ numbersAt t .lanes
-  same-lanes = ap (λ (x : Numbers). x .lanes) same-numbers
+  no-column : (w a : ℕ) → columnAt w a (number 2 t 12) t ≡ []
+  unfolding columnAt upTo fromTo
+  no-column w a = rw (same-held 12 (omega arith), splits)
 
-  trees-none : treesHeldAt t ≡ 0
-  trees-none = sym (trees-held-frame s t (p .head)) ∙ trees
+  no-starts : columnAt 2 (placesFrom (numbersAt t)) (numbersAt t .places) t ≡ replicate (numbersAt s .places) 0
+  unfolding columnAt
+  no-starts = rw same-numbers (upTo-replicate _ (numbersAt s .places) 0 (p .starts))
 
-  splits-none : splitsHeldAt t ≡ 0
-  splits-none = sym (splits-held-frame s t (p .head)) ∙ splits
+  no-lists : upTo (λ i. listFrom t (treeFrom (numbersAt t) i)) (number 2 t 10) ≡ []
+  unfolding upTo fromTo
+  no-lists = rw (same-held 10 (omega arith), trees)
 
-  lane-zero : (l : ℕ) → l < numbersAt t .lanes → number 2 t (laneFrom l) ≡ 0
-  lane-zero l h = p .lanes l (rw same-numbers h)
+  no-lengths : upTo (λ l. number 2 t (laneFrom l)) (numbersAt t .lanes) ≡ replicate (numbersAt s .lanes) 0
+  no-lengths = rw same-numbers (upTo-replicate _ (numbersAt s .lanes) 0 (p .lanes))
 
-  emptied-chains : ChainsAt t
-  emptied-chains =
+  no-texts : upTo (λ l. textFrom t (laneFrom l)) (numbersAt t .lanes) ≡ replicate (numbersAt s .lanes) (holding [])
+  unfolding textFrom
+  no-texts = rw same-numbers (upTo-replicate _ (numbersAt s .lanes) (holding []) (λ l h. rw (p .lanes l h)))
+
+  emptied-parts : partsAt t ≡ emptyParts (numbersAt s)
+  unfolding partsAt
+  emptied-parts i =
+      let n = numbersAt t in
       record {
-        links = λ k h. absurd (omega (arith, splits-none));
-        starts = λ k h. p .starts k (rw same-numbers h) ∙ rw splits-none (sym (highest-none t k));
+        masks = no-column 8 (masksFrom n) i;
+        identifiers = no-column 8 (identifiersFrom n) i;
+        counts = no-column 4 (countsFrom n) i;
+        links = no-column 2 (linksFrom n) i;
+        order = no-column 2 (orderFrom n) i;
+        starts = no-starts i;
+        lists = no-lists i;
+        lengths = no-lengths i;
+        texts = no-texts i;
       }
 
+  head-at : HeadAt t
+  head-at =
+      record {
+        head-there = rw (p .size) long;
+        opening-good = rw same-opening good;
+        reached = rw (p .size, size-is t, same-numbers, ← size-is s) reach;
+        trees-fit = rw emptied-parts (omega arith);
+        splits-fit = rw emptied-parts (omega arith);
+      }
+
+  emptied-sound : Sound (openingAt t) (partsAt t)
+  unfolding openingAt
+  emptied-sound = rw (emptied-parts, same-opening) (empty-sound (openingAt s) (rw (emptied-parts, same-numbers) at (shaped-at t)))
+
   pub emptied-whole : wholeAt t ≡ true
-  emptied-whole =
-      facts-whole-at t
-      (record {
-        head =
-            record {
-              head-there = omega (arith, p .size);
-              opening-good = rw (← same-opening) good;
-              reached = omega (arith, p .size, size-same s t same-numbers);
-              trees-fit = omega (arith, trees-none);
-              splits-fit = omega (arith, splits-none);
-            };
-        splits = no-splits t splits-none;
-        lists = no-list t trees-none;
-        counts = no-count t splits-none;
-        chains = emptied-chains;
-        lanes = λ l h. omega (arith, lane-zero l h);
-      })
-
-  lane-empty : (l : ℕ) → l < numbersAt t .lanes → laneAt t l ≡ holding []
-  lane-empty l h = lane-is t l ∙ rw (lane-zero l h)
-
-  emptied-trees : heldAt t .trees ≡ []
-  unfolding heldIn upTo fromTo
-  emptied-trees = rw trees-none
-
-  emptied-texts : heldAt t .texts ≡ replicate (openingAt s .numbers .lanes) (holding [])
-  unfolding heldIn openingAt
-  emptied-texts =
-      let n = same-lanes in
-      let a = upTo-length (laneAt t) (numbersAt t .lanes) in
-      let b = length-replicate (numbersAt s .lanes) (holding []) in
-      ext-getD (holding []) _ _ (omega arith) (λ i h.
-      let k : i < numbersAt t .lanes = omega arith in
-      upTo-at (laneAt t) (numbersAt t .lanes) i (holding []) k ∙ lane-empty i k ∙ sym (getD-replicate (numbersAt s .lanes) i (holding []) (holding []) (omega arith)))
-
-  emptied-opening : heldAt t .opening ≡ openingAt s
-  unfolding heldIn
-  emptied-opening = sym same-opening
+  emptied-whole = sound-whole t head-at emptied-sound (rw emptied-parts (λ k h. absurd (omega arith)))
 
   pub emptied-held : heldAt t ≡ opened (openingAt s)
-  unfolding opened
-  emptied-held i = record { opening = emptied-opening i; trees = emptied-trees i; texts = emptied-texts i }
+  unfolding heldIn opened openingAt
+  emptied-held = rw (emptied-parts, same-opening)

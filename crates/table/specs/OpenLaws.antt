@@ -30,7 +30,6 @@ use Rattle.head.specs.Head.{openingAt}
 use Rattle.opening.specs.Given.{openingOf}
 use Rattle.opening.specs.GivenLaws.{size-least}
 use Rattle.layout.specs.Store.{sizeAt}
-use Rattle.layout.specs.StoreLaws.{trees-held-is, splits-held-is}
 use Rattle.store.specs.Lent.{Holds}
 use Rattle.table.specs.Promises.{OpenedAs}
 use Rattle.table.specs.Emptied.{Emptied}
@@ -112,11 +111,9 @@ module _ (s t : List ℕ) (o : Opening) (e : openingAt t ≡ o) (n : length t �
         let l = size-least (o .numbers) in
         let w = lent-head (o .numbers) (length t) (omega arith) in
         let v : goodOpening (openingAt t) ≡ true = rw e g in
-        let x = trees-held-is t ∙ a in
-        let y = splits-held-is t ∙ b in
         record {
-          whole = emptied-whole t u p w v lent-rest x y c;
-          held = emptied-held t u p w v lent-rest x y c ∙ ap opened e;
+          whole = emptied-whole t u p w v lent-rest a b c;
+          held = emptied-held t u p w v lent-rest a b c ∙ ap opened e;
           size = p .size ∙ n;
           behind = λ i h. p .behind i (omega (arith, head-size)) ∙ past-head i (omega arith);
         }

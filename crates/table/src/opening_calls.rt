@@ -13,6 +13,7 @@ ghost use Rattle.layout.specs.Store.{sizeAt};
 ghost use Rattle.table.specs.Promises.{OpenedAs};
 ghost use Rattle.table.specs.Emptied.{LanesEmptied, Emptied};
 use answers::Finish;
+use answers::Lane;
 use answers::Number;
 use answers::Refusal;
 
@@ -86,7 +87,7 @@ fn clear_lanes(s: &mut [u8])
     let n = head::lanes(s) as usize;
     let mut l = 0;
     while l < n {
-        fields::put16(s, 4096 + 4104 * l, 0);
+        fields::put16(s, layout::lane_from(Lane(l)), 0);
         l += 1;
     }
 }

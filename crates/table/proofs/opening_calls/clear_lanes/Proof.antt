@@ -1,12 +1,11 @@
 -- `table::opening_calls::clear_lanes` meets its contract. The loop's invariant: the lanes below l are empty. Assumes nothing.
-use Prim.Native.Nat.{_+_, _*_, _≤_, _-_}
+use Prim.Native.Nat.{_≤_, _-_}
 use mathlib.Core.Path.{_≡_}
 use native.Mathlib.Omega.{arith}
-use lib.ListN.{length}
 use Rattle.head.specs.Head.{numbersAt}
 use Rattle.layout.specs.StoreLaws.{masks-from, size-is}
 use Rattle.table.specs.Emptied.{LanesEmptied}
-use Rattle.table.specs.EmptiedLaws.{lanes-none, lanes-more}
+use Rattle.table.specs.EmptiedLaws.{lanes-none, lane-inside, lanes-more}
 use Rattle.table.proofs.opening_calls.clear_lanes.Statement.{statement}
 use Rattle.table.proofs.opening_calls.clear_lanes.Tie as tie
 
@@ -19,18 +18,21 @@ abbrev μ-loop : tie.MeasureT-loop
 lanes-requires : tie.Need-lanes-requires Inv-loop μ-loop
 lanes-requires c κs = let s = c .before .before .args .s .now in omega (arith, c .before .before .pre, masks-from (numbersAt s), size-is s)
 
+few : tie.Need-lane-from-requires Inv-loop μ-loop
+few c κs = omega (arith, c .before .before .before .lanes .ensures .1)
+
 put16-requires : tie.Need-put16-requires Inv-loop μ-loop
 put16-requires c κs =
-    let b = c .before .before .before .before .before .before in
-    let v = c .before .before .loop .inv in
-    omega (arith, b .pre, masks-from (numbersAt (b .args .s .now)), size-is (b .args .s .now), v .1, v .2 .size)
+    let l = c .before .before .before .loop in
+    let b = c .before .before .before .before .before .before .before in
+    omega (arith, c .lane-from .ensures .0, lane-inside (b .args .s .now) (l .s) (l .l) (l .inv .2) (b .pre) (omega (arith, l .inv .1)))
 
 loop-again : tie.Need-loop-again Inv-loop μ-loop
 loop-again c =
-    let l = c .before .before .before .before .before .loop in
-    let b = c .before .before .before .before .before .before .before .before .before in
-    let f : 4096 + 4104 * l .l + 2 ≤ length (l .s) = omega (arith, b .pre, masks-from (numbersAt (b .args .s .now)), size-is (b .args .s .now), l .inv .1, l .inv .2 .size) in
-    (omega arith, l .inv .1, lanes-more _ _ _ (l .l) (l .inv .2) (c .before .before .put16 .ensures) f)
+    let l = c .before .before .before .before .before .before .loop in
+    let b = c .before .before .before .before .before .before .before .before .before .before in
+    let v = l .inv in
+    (omega arith, v .1, lanes-more _ _ (l .l) (v .2) (b .pre) (omega (arith, v .1)) _ _ (c .before .before .before .lane-from .ensures .0) (c .before .before .put16 .ensures))
 
 returns : tie.Need-returns Inv-loop μ-loop
 returns c =
@@ -47,8 +49,7 @@ clear-lanes-spec =
     lanes-requires
     (λ c. omega arith)
     (λ c. (omega arith, c .lanes .ensures .0, lanes-none _))
-    (λ c. omega arith)
-    (λ c. omega arith)
+    few
     put16-requires
     (λ c. omega arith)
     (λ c. omega arith)
