@@ -22,11 +22,11 @@ use Rattle.layout.specs.Store.{treesHeldAt, treeAt, masksAt, heldAt}
 use Rattle.store.specs.WholeStore.{wholeAt}
 use Rattle.store.specs.RecordedAtLaws.{trees-length, tree-at, recorded-at}
 use Rattle.theorems.specs.MatrixLaws.{matrix-length}
+use Rattle.answers.specs.declared.Number.the-variants as number
+use Rattle.answers.specs.declared.Refusal.the-variants as why
+use Rattle.answers.specs.Answers.{numberGiven}
 use Rattle.distances.specs.WholeTreeLaws.{trees-few}
 use Rattle.distances.specs.EntryLaws.{square-few}
-use Rattle.table.specs.declared.Number.the-variants as number
-use Rattle.table.specs.declared.Refusal.the-variants as why
-use Rattle.table.specs.Answers.{numberGiven}
 use Rattle.table.specs.Promises.{ifWhole, lengthGiven, front}
 use Rattle.table.specs.Asked.{oneSidedAsked, doubledAsked, matrixAsked, collisionsAsked}
 use Rattle.table.specs.Filled.{FilledAs}

@@ -6,12 +6,12 @@
 // `specs/Questions.antt`.
 ghost use mathlib.Core.Path.{_≡_};
 ghost use lib.ListN.{length};
-ghost use Rattle.table.specs.Answers.{numberGiven};
+ghost use Rattle.answers.specs.Answers.{numberGiven};
 ghost use Rattle.table.specs.Promises.{lengthGiven, front};
 ghost use Rattle.table.specs.Asked.{oneSidedAsked, doubledAsked, matrixAsked, collisionsAsked};
-use layout::Tree;
-use table::Number;
-use table::Refusal;
+use answers::Number;
+use answers::Refusal;
+use answers::Tree;
 
 // The number of splits of tree a that tree b lacks.
 pub fn one_sided(s: &[u8], a: Tree, b: Tree) -> Number

@@ -14,16 +14,16 @@ use Rattle.trees.specs.Plain.{Answer, refused}
 use Rattle.trees.specs.Consensus.{strict, majority}
 use Rattle.trees.specs.Written.{written}
 use Rattle.trees.specs.Questions.{ifRoom, ifTree, ifTrees, tree, strictOf, majorityOf, writtenOf}
+use Rattle.answers.specs.declared.Number.{Number}
+use Rattle.answers.specs.declared.Number.the-variants as number
+use Rattle.answers.specs.declared.Refusal.the-variants as why
+use Rattle.answers.specs.Answers.{refusalNumber, numberGiven}
 use Rattle.head.specs.Head.{namesAt, openingAt}
 use Rattle.layout.specs.Store.{treesHeldAt, treeAt, heldAt}
 use Rattle.store.specs.WholeStore.{wholeAt}
 use Rattle.store.specs.RecordedAtLaws.{trees-length, tree-at}
 use Rattle.writer.specs.declared.Text.the-variants.{Bytes, TooShort}
 use Rattle.writer.specs.Text.{Wrote}
-use Rattle.table.specs.declared.Number.{Number}
-use Rattle.table.specs.declared.Number.the-variants as number
-use Rattle.table.specs.declared.Refusal.the-variants as why
-use Rattle.table.specs.Answers.{refusalNumber, numberGiven}
 use Rattle.table.specs.Promises.{lengthGiven, front}
 use Rattle.table.specs.Filled.{FilledAs}
 use Rattle.table.specs.QuestionLaws.{not-whole, when-whole}

@@ -9,8 +9,8 @@ ghost use lib.ListN.{length, take};
 ghost use Rattle.layout.specs.Store.{treesHeldAt, treeAt, heldAt};
 ghost use Rattle.store.specs.WholeStore.{wholeAt};
 ghost use Rattle.consensus.specs.Chosen.{chosen};
-use layout::Split;
-use layout::Tree;
+use answers::Split;
+use answers::Tree;
 
 // Puts the splits that at least `least` trees have at the front of the list, in order of mask.
 pub(crate) fn choose(s: &[u8], least: usize, list: &mut [u64; 64]) -> usize

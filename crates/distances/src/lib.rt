@@ -11,7 +11,7 @@ ghost use lib.ListN.{length, drop};
 ghost use Rattle.trees.specs.Distance.{oneSided, doubled, matrix};
 ghost use Rattle.layout.specs.Store.{treesHeldAt, treeAt, heldAt};
 ghost use Rattle.store.specs.WholeStore.{wholeAt};
-use layout::Tree;
+use answers::Tree;
 
 mod entries;
 mod marks;

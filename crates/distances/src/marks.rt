@@ -10,7 +10,7 @@ ghost use Rattle.trees.specs.Distance.{oneSided, doubled};
 ghost use Rattle.layout.specs.Store.{treesHeldAt, treeFrom, listAt, treeAt};
 ghost use Rattle.store.specs.WholeStore.{wholeAt};
 ghost use Rattle.distances.specs.Marks.{marked, marksOf, markSum};
-use layout::Tree;
+use answers::Tree;
 
 // Puts v at each row that tree i lists.
 pub(crate) fn mark_tree(s: &[u8], i: usize, v: u8, marks: &mut [u8; 4096])

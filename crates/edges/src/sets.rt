@@ -95,7 +95,7 @@ fn has(m: u64, i: u32)
     line::number(m);
     line::number32(i);
     line::gives();
-    line::truth(masks::has_taxon(m, masks::Taxon(i)));
+    line::truth(masks::has_taxon(m, answers::Taxon(i)));
     line::end();
 }
 
@@ -210,7 +210,7 @@ fn only(i: u32)
     line::name(b"only_taxon");
     line::number32(i);
     line::gives();
-    line::number(masks::only_taxon(masks::Taxon(i)));
+    line::number(masks::only_taxon(answers::Taxon(i)));
     line::end();
 }
 

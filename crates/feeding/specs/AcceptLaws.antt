@@ -19,6 +19,8 @@ use Rattle.trees.specs.Plain.{if_then_else_, keep, member, Answer, refused, giv
 use Rattle.theorems.specs.ListLaws.{by-test}
 use Rattle.trees.specs.Consensus.{recorded}
 use Rattle.trees.specs.Held.{Held, newSplits, roomFor, accepted}
+use Rattle.answers.specs.declared.Progress.{Progress}
+use Rattle.answers.specs.Answers.{progressGiven}
 use Rattle.head.specs.Head.{numbersAt}
 use Rattle.layout.specs.Store.{treesHeldAt, splitsHeldAt, heldAt}
 use Rattle.store.specs.WholeStore.{wholeAt}
@@ -28,8 +30,6 @@ use Rattle.store.specs.HeldWholeLaws.{held-numbers}
 use Rattle.finding.specs.Rows.{rowsFor, Placed}
 use Rattle.finding.specs.RowLaws.{rows-length}
 use Rattle.recording.specs.Recording.{Recordable, Recorded}
-use Rattle.table.specs.Answers.{progressGiven}
-use Rattle.table.specs.declared.Progress.{Progress}
 use Rattle.feeding.specs.Texts.{Judgeable, Accepts}
 
 module _ (s t : List ℕ) (w : wholeAt s ≡ true) where

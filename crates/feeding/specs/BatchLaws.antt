@@ -28,6 +28,10 @@ use Rattle.trees.specs.Held as held
 use Rattle.trees.specs.Batch.{semicolons, verdictNumber, withVerdict, batching, batch}
 use Rattle.theorems.specs.WrittenFedLaws.{feedingBy, feeding-by}
 use Rattle.theorems.specs.OwnLaneLaws.{feeding-opening}
+use Rattle.answers.specs.declared.Refusal.the-variants as why
+use Rattle.answers.specs.declared.Number.the-variants as number
+use Rattle.answers.specs.declared.Fed.{Fed}
+use Rattle.answers.specs.Answers.{refusalNumber, numberGiven, progressGiven}
 use Rattle.head.specs.Head.{numbersAt, namesAt, openingAt}
 use Rattle.head.specs.Index.{Indexed}
 use Rattle.layout.specs.Store.{sizeAt, heldAt}
@@ -35,11 +39,7 @@ use Rattle.store.specs.WholeStore.{wholeAt}
 use Rattle.store.specs.WholeFacts.{whole-at-facts}
 use Rattle.store.specs.RecordedAtLaws.{trees-length}
 use Rattle.store.specs.HeldWholeLaws.{held-numbers, opening-facts}
-use Rattle.table.specs.Answers.{refusalNumber, numberGiven, progressGiven}
 use Rattle.table.specs.Promises.{ifWhole, Holds}
-use Rattle.table.specs.declared.Refusal.the-variants as why
-use Rattle.table.specs.declared.Number.the-variants as number
-use Rattle.table.specs.declared.Fed.{Fed}
 use Rattle.feeding.specs.Feeding.{batchOf, isAccepted, SameOutside, isRefusal, noneAccepted, BatchedAs}
 use Rattle.feeding.specs.Texts.{FedWell, Small}
 use Rattle.feeding.specs.EndLaws.{end-inside, one-text, has-text, lacks-text}

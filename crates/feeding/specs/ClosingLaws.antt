@@ -11,15 +11,15 @@ use borrow.Author.Tests.{lt-ltb, le-ltb}
 use Rattle.trees.specs.Plain.{if_then_else_, every, Answer, refused, gives}
 use Rattle.trees.specs.Text.{isBlank}
 use Rattle.trees.specs.Held.{Lane, holding, overrun, Closed, laneOf, withLane, closed, closing}
+use Rattle.answers.specs.declared.Refusal.the-variants as why
+use Rattle.answers.specs.declared.Finish.{Finish}
+use Rattle.answers.specs.declared.Finish.the-variants as finish
+use Rattle.answers.specs.Answers.{refusalNumber, finishGiven}
 use Rattle.head.specs.Head.{numbersAt}
 use Rattle.layout.specs.Store.{heldAt}
 use Rattle.store.specs.WholeStore.{wholeAt}
 use Rattle.store.specs.HeldWholeLaws.{held-numbers}
 use Rattle.lanes.specs.Lanes.{LaneIs, closedNumber}
-use Rattle.table.specs.Answers.{refusalNumber, finishGiven}
-use Rattle.table.specs.declared.Refusal.the-variants as why
-use Rattle.table.specs.declared.Finish.{Finish}
-use Rattle.table.specs.declared.Finish.the-variants as finish
 use Rattle.feeding.specs.Feeding.{reached, closedOf, ClosedAs}
 use Rattle.feeding.specs.HoldLaws.{lane-holds, not-whole, no-lane, in-place, both-ways}
 

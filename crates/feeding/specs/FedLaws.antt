@@ -20,17 +20,17 @@ use Rattle.trees.specs.Opening.{Opening, storeSize}
 use Rattle.trees.specs.Held.{Held, Lane, holding, overrun, laneOf, withLane, withTree, longer, roomFor, withRoom, verdict, moreWanted, beforeSemicolon, finished, recording, finishing, feeding}
 use Rattle.trees.specs.Held as held
 use Rattle.trees.specs.Verdict.{judged}
+use Rattle.answers.specs.declared.Refusal.the-variants as why
+use Rattle.answers.specs.declared.Progress.{Progress}
+use Rattle.answers.specs.declared.Progress.the-variants as progress
+use Rattle.answers.specs.declared.Fed.{Fed}
+use Rattle.answers.specs.Answers.{refusalNumber, progressGiven}
 use Rattle.head.specs.Head.{numbersAt, namesAt, openingAt}
 use Rattle.head.specs.Index.{Indexed}
 use Rattle.layout.specs.Store.{sizeAt, heldAt}
 use Rattle.store.specs.WholeStore.{wholeAt}
 use Rattle.store.specs.HeldWholeLaws.{held-numbers, texts-length, opening-facts}
 use Rattle.lanes.specs.Lanes.{LaneIs}
-use Rattle.table.specs.Answers.{refusalNumber, progressGiven}
-use Rattle.table.specs.declared.Refusal.the-variants as why
-use Rattle.table.specs.declared.Progress.{Progress}
-use Rattle.table.specs.declared.Progress.the-variants as progress
-use Rattle.table.specs.declared.Fed.{Fed}
 use Rattle.feeding.specs.Feeding.{reached, fedOf, isAccepted, FedAs}
 use Rattle.feeding.specs.Texts.{Left, FedWell, verdictOn, Finished}
 use Rattle.feeding.specs.EndLaws.{before-take, unended, ended, end-all}

@@ -22,14 +22,14 @@ use Rattle.trees.specs.Plain.{if_then_else_, every, Answer, refused, gives}
 use Rattle.trees.specs.Held.{Closed, moreWanted, accepted, feeding, closing}
 use Rattle.trees.specs.Held as held
 use Rattle.trees.specs.Batch.{Batched, batch}
+use Rattle.answers.specs.declared.Fed.{Fed}
+use Rattle.answers.specs.declared.Finish.{Finish}
+use Rattle.answers.specs.declared.Number.{Number}
+use Rattle.answers.specs.Answers.{finishGiven, numberGiven, progressGiven}
 use Rattle.head.specs.Head.{numbersAt}
 use Rattle.layout.specs.Store.{laneFrom, heldAt}
 use Rattle.store.specs.WholeStore.{wholeAt}
-use Rattle.table.specs.Answers.{finishGiven, numberGiven, progressGiven}
 use Rattle.table.specs.Promises.{ifWhole, Holds}
-use Rattle.table.specs.declared.Fed.{Fed}
-use Rattle.table.specs.declared.Finish.{Finish}
-use Rattle.table.specs.declared.Number.{Number}
 
 -- the call comes to a lane: "checks 1, then 5"
 unfoldable pub reached : List ℕ → ℕ → Bool

@@ -24,6 +24,8 @@ use Rattle.trees.specs.Held.{Held, Lane, holding, overrun, laneOf, withLane, wi
 use Rattle.trees.specs.Verdict.{judged}
 use Rattle.theorems.specs.VerdictLaws.{judged-good}
 use Rattle.theorems.specs.FewLaws.{few-splits}
+use Rattle.answers.specs.declared.Progress.{Progress}
+use Rattle.answers.specs.Answers.{progressGiven}
 use Rattle.fields.specs.Field.{number}
 use Rattle.head.specs.Head.{numbersAt, firstAt, secondAt, openingAt}
 use Rattle.layout.specs.Store.{treesHeldAt, laneFrom, sizeAt, heldAt}
@@ -38,9 +40,7 @@ use Rattle.newick.specs.Judge.{JudgedAs}
 use Rattle.newick.specs.declared.Judged.{Judged}
 use Rattle.newick.specs.declared.Judged.the-variants.{Refused, Splits}
 use Rattle.recording.specs.Recording.{Recorded}
-use Rattle.table.specs.Answers.{progressGiven}
 use Rattle.table.specs.Promises.{Holds}
-use Rattle.table.specs.declared.Progress.{Progress}
 use Rattle.feeding.specs.Feeding.{isAccepted}
 use Rattle.feeding.specs.Texts.{verdictOn, Finished, Judgeable, Accepts}
 use Rattle.feeding.specs.HoldLaws.{size-held, lane-below, lane-holds}

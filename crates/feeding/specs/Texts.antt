@@ -17,14 +17,14 @@ use Rattle.trees.specs.Hash.{identifier}
 use Rattle.trees.specs.Held.{Held, holding, laneOf, withLane, verdict, finished, recording, feeding, moreWanted, accepted}
 use Rattle.trees.specs.Held as held
 use Rattle.trees.specs.Whole.{goodTree}
+use Rattle.answers.specs.declared.Fed.{Fed}
+use Rattle.answers.specs.declared.Progress.{Progress}
+use Rattle.answers.specs.Answers.{progressGiven}
 use Rattle.head.specs.Head.{numbersAt, secondAt}
 use Rattle.layout.specs.Store.{treesHeldAt, heldAt}
 use Rattle.store.specs.Chain.{placeIn}
 use Rattle.recording.specs.Recording.{Recorded}
-use Rattle.table.specs.Answers.{progressGiven}
 use Rattle.table.specs.Promises.{Holds}
-use Rattle.table.specs.declared.Fed.{Fed}
-use Rattle.table.specs.declared.Progress.{Progress}
 use Rattle.feeding.specs.Feeding.{isAccepted, SameOutside}
 
 pub record Left (h : Held) (s : List ℕ) (l : ℕ) (a : Answer held.Progress) (t : List ℕ) : Type 0 where

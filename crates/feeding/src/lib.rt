@@ -5,12 +5,12 @@
 ghost use mathlib.Core.Path.{_≡_};
 ghost use Rattle.feeding.specs.Feeding.{FedAs, ClosedAs, batchOf, BatchedAs};
 ghost use lib.ListN.{length};
-use layout::Lane;
-use table::Fed;
-use table::Finish;
-use table::Number;
-use table::Progress;
-use table::Refusal;
+use answers::Fed;
+use answers::Finish;
+use answers::Lane;
+use answers::Number;
+use answers::Progress;
+use answers::Refusal;
 
 mod texts;
 mod verdicts;

@@ -11,15 +11,15 @@ ghost use Rattle.head.specs.Head.{numbersAt, namesAt};
 ghost use Rattle.head.specs.Index.{Indexed};
 ghost use Rattle.layout.specs.Store.{heldAt};
 ghost use Rattle.store.specs.WholeStore.{wholeAt};
-ghost use Rattle.table.specs.Answers.{progressGiven};
 ghost use Rattle.table.specs.Promises.{Holds};
 ghost use Rattle.trees.specs.Batch.{verdictNumber};
+ghost use Rattle.answers.specs.Answers.{progressGiven};
 ghost use Rattle.feeding.specs.Feeding.{SameOutside, noneAccepted};
 ghost use Rattle.feeding.specs.Texts.{FedWell, Small};
 use crate::verdicts;
-use layout::Lane;
-use table::Fed;
-use table::Progress;
+use answers::Fed;
+use answers::Lane;
+use answers::Progress;
 
 // Feeds one piece.
 pub(crate) fn feed_piece(
@@ -164,7 +164,7 @@ fn verdict_number(p: Progress) -> u32
     ensures { λ r. ⌜ r ≡ verdictNumber (progressGiven p) ⌝ }
 {
     match p {
-        Progress::Refused(r) => table::refusal_number(r),
+        Progress::Refused(r) => answers::refusal_number(r),
         Progress::MoreWanted => 0,
         Progress::Accepted(t) => 256 + t.0 as u32,
     }

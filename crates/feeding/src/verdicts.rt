@@ -5,19 +5,19 @@ ghost use mathlib.Core.Bool.{true};
 ghost use Prim.Native.Nat.{_+_, _*_, _≤_, _<_};
 ghost use lib.ListN.{length, take, drop};
 ghost use Rattle.trees.specs.Held.{roomFor};
+ghost use Rattle.answers.specs.Answers.{refusalNumber};
 ghost use Rattle.fields.specs.Field.{number};
 ghost use Rattle.head.specs.Head.{numbersAt, namesAt, openingAt};
 ghost use Rattle.head.specs.Index.{Indexed};
 ghost use Rattle.layout.specs.Store.{laneFrom, heldAt};
 ghost use Rattle.store.specs.WholeStore.{wholeAt};
 ghost use Rattle.newick.specs.Judge.{JudgedAs};
-ghost use Rattle.table.specs.Answers.{refusalNumber};
 ghost use Rattle.feeding.specs.Texts.{Finished, Judgeable, Accepts};
-use layout::Lane;
-use layout::Tree;
+use answers::Lane;
+use answers::Progress;
+use answers::Refusal;
+use answers::Tree;
 use newick::Judged;
-use table::Progress;
-use table::Refusal;
 
 // The verdict on the text of a lane, which is empty afterwards.
 pub(crate) fn finish_text(s: &mut [u8], starts: &[u8; 128], links: &[u8; 64], l: Lane) -> Progress

@@ -19,7 +19,7 @@ use Rattle.trees.specs.Plain.{sameBytes}
 use Rattle.trees.specs.Names.{taxonFrom, taxonOf}
 use Rattle.theorems.specs.ListLaws.{if-true, if-false}
 use Rattle.theorems.specs.SplitLaws.{taxonFrom-below}
-use Rattle.masks.specs.declared.Taxon.{Taxon}
+use Rattle.answers.specs.declared.Taxon.{Taxon}
 use Rattle.head.specs.declared.Found.{Found}
 use Rattle.head.specs.declared.Found.the-variants.{At, Nothing}
 use Rattle.head.specs.Index.{key, nextWith, Indexed, foundOf, Below, after, Sought, left}

@@ -13,7 +13,7 @@ ghost use Rattle.trees.specs.Names.{taxonOf};
 ghost use Rattle.fields.specs.Field.{number};
 ghost use Rattle.head.specs.Head.{numbersAt, nameAt, namesAt};
 ghost use Rattle.head.specs.Index.{key, Indexed, foundOf, Below};
-use masks::Taxon;
+use answers::Taxon;
 
 // The answer of a search for a name.
 pub enum Found {

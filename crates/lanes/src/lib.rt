@@ -4,7 +4,7 @@
 // Its contracts cite `specs/Lanes.antt` (`LaneIs`, `closedNumber`), crate trees, `specs/Held.antt`
 // (`longer`, `closed`), and crate layout, `specs/Store.antt`; the laws that callers use stand in
 // `specs/LaneLaws.antt`.
-use layout::Lane;
+use answers::Lane;
 ghost use mathlib.Core.Path.{_≡_};
 ghost use mathlib.Core.Bool.{true};
 ghost use mathlib.Core.List.{[]};

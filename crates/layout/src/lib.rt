@@ -7,15 +7,7 @@ ghost use Prim.Native.Nat.{_+_, _≤_, _<_, _^_};
 ghost use lib.ListN.{length};
 ghost use Rattle.fields.specs.Field.{number};
 ghost use Rattle.layout.specs.Store.{treesHeldAt, splitsHeldAt, treeFrom, masksFrom, identifiersFrom, countsFrom, linksFrom, orderFrom, placesFrom};
-
-// The number of a lane, from 0.
-pub struct Lane(pub usize);
-
-// The number of an accepted tree, from 0, in order of acceptance.
-pub struct Tree(pub usize);
-
-// The number of a recorded split: its place, from 0, in the list by rising mask.
-pub struct Split(pub usize);
+use answers::Tree;
 
 // How many trees there are.
 pub fn trees_held(s: &[u8]) -> usize

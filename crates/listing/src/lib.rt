@@ -2,7 +2,7 @@
 //
 // Its contract cites `specs/Listed.antt`; what each step does to the bytes stands in
 // `specs/Entering.antt`.
-use layout::Tree;
+use answers::Tree;
 ghost use mathlib.Core.Path.{_≡_};
 ghost use Prim.Native.Nat.{ℕ, _+_, _*_, _≤_, _<_};
 ghost use lib.ListN.{length, getD, take};

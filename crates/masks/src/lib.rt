@@ -8,9 +8,7 @@ ghost use lib.Count.{ones};
 ghost use lib.Dec.{ltb};
 ghost use Rattle.trees.specs.Mask.{has, everyTaxon, without, apart, within, proper, lowest};
 ghost use Rattle.trees.specs.Mask.{agree as Mask·agree, side as Mask·side};
-
-// A taxon's number: its place in the name list, from 0.
-pub struct Taxon(pub u32);
+use answers::Taxon;
 
 // Whether two splits agree: their masks have no common bit, or one lies within the other.
 pub fn agree(a: u64, b: u64) -> bool

@@ -17,13 +17,13 @@ use Rattle.theorems.specs.ListLaws.{if-true, if-false}
 use Rattle.theorems.specs.BitLaws.{On, dis-and, only-on}
 use Rattle.theorems.specs.MaskLaws.{has-off}
 use Rattle.theorems.specs.OpeningLaws.{GoodOpening, good-opening}
+use Rattle.answers.specs.declared.Taxon.{Taxon}
 use Rattle.head.specs.Head.{numbersAt, openingAt, namesAt}
 use Rattle.head.specs.HeadLaws.{first-at, second-at}
 use Rattle.head.specs.Index.{foundOf, Below}
 use Rattle.head.specs.FindLaws.{found-at, found-nothing, below-at}
 use Rattle.head.specs.declared.Found.{Found}
 use Rattle.head.specs.declared.Found.the-variants.{At, Nothing}
-use Rattle.masks.specs.declared.Taxon.{Taxon}
 use Rattle.newick.specs.Gather.{constantOf, Leaves, leafBy, leafStep, LeafTaken, Prepared}
 use Rattle.newick.specs.declared.gather.Sums.{Sums}
 

@@ -10,7 +10,7 @@ use lib.ListN.{length}
 use denote.Ref.{now}
 use Rattle.trees.specs.Plain.{if_then_else_, Answer, refused, gives}
 use Rattle.trees.specs.Batch.{Batched}
-use Rattle.table.specs.declared.Number.{Number}
+use Rattle.answers.specs.declared.Number.{Number}
 use Rattle.feeding.specs.Feeding.{batchOf, noneAccepted, BatchedAs}
 use Rattle.feeding.proofs.batch.Reads as batch
 use Rattle.promises.specs.Once.{Once, arg1, arg2, arg3, arg4, Free, nothing, lane, store, SameBut}

@@ -20,14 +20,14 @@ use Rattle.trees.specs.Plain.{if_then_else_, Answer, refused, gives}
 use Rattle.trees.specs.Opening.{Opening, opening}
 use Rattle.trees.specs.Held.{Held, Closed, opened, feeding, closing}
 use Rattle.trees.specs.Held as held
+use Rattle.answers.specs.declared.Finish.{Finish}
+use Rattle.answers.specs.declared.Fed.{Fed}
 use Rattle.opening.specs.Given.{numbersOf}
 use Rattle.table.specs.Promises.{ifWhole, OpenedAs}
-use Rattle.table.specs.declared.Finish.{Finish}
-use Rattle.table.specs.declared.Fed.{Fed}
 use Rattle.feeding.specs.Feeding.{reached, fedOf, closedOf, isAccepted, FedAs, ClosedAs}
+use Rattle.answers.proofs.refusal_number.Reads as refusal-number
 use Rattle.masks.proofs.agree.Reads as agree
 use Rattle.store.proofs.is_whole.Reads as is-whole
-use Rattle.table.proofs.refusal_number.Reads as refusal-number
 use Rattle.table.proofs.size.Reads as size
 use Rattle.table.proofs.open.Reads as open-call
 use Rattle.table.proofs.tree_count.Reads as tree-count

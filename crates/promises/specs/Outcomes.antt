@@ -18,20 +18,20 @@ use Rattle.trees.specs.Plain.{if_then_else_, Answer, refused, gives}
 use Rattle.trees.specs.Opening.{storeSize}
 use Rattle.trees.specs.Held.{Held, moreWanted, accepted}
 use Rattle.trees.specs.Held as held
+use Rattle.answers.specs.declared.Refusal.{Refusal}
+use Rattle.answers.specs.declared.Refusal.the-variants as why
+use Rattle.answers.specs.declared.Finish.{Finish}
+use Rattle.answers.specs.declared.Finish.the-variants as finish
+use Rattle.answers.specs.declared.Number.{Number}
+use Rattle.answers.specs.declared.Number.the-variants as number
+use Rattle.answers.specs.declared.Recorded.{Recorded}
+use Rattle.answers.specs.declared.Recorded.the-variants as recorded
+use Rattle.answers.specs.declared.Progress.{Progress}
+use Rattle.answers.specs.declared.Progress.the-variants as progress
+use Rattle.answers.specs.Answers.{refusalNumber, finishGiven, numberGiven, splitGiven, progressGiven}
 use Rattle.head.specs.Head.{openingAt}
 use Rattle.layout.specs.Store.{sizeAt, heldAt}
-use Rattle.table.specs.Answers.{refusalNumber, finishGiven, numberGiven, splitGiven, progressGiven}
 use Rattle.table.specs.Promises.{Holds}
-use Rattle.table.specs.declared.Refusal.{Refusal}
-use Rattle.table.specs.declared.Refusal.the-variants as why
-use Rattle.table.specs.declared.Finish.{Finish}
-use Rattle.table.specs.declared.Finish.the-variants as finish
-use Rattle.table.specs.declared.Number.{Number}
-use Rattle.table.specs.declared.Number.the-variants as number
-use Rattle.table.specs.declared.Recorded.{Recorded}
-use Rattle.table.specs.declared.Recorded.the-variants as recorded
-use Rattle.table.specs.declared.Progress.{Progress}
-use Rattle.table.specs.declared.Progress.the-variants as progress
 use Rattle.feeding.specs.Feeding.{SameOutside}
 use Rattle.promises.specs.Once.{SameStore}
 

@@ -12,13 +12,13 @@ use lib.Seq.{drop-cons, take-at}
 use borrow.Author.Tests.{lt-ltb, le-ltb}
 use Rattle.trees.specs.Plain.{Answer, refused, gives}
 use Rattle.trees.specs.Questions.{ifRoom}
+use Rattle.answers.specs.declared.Number.{Number}
+use Rattle.answers.specs.declared.Number.the-variants as number
+use Rattle.answers.specs.declared.Refusal.{Refusal}
+use Rattle.answers.specs.Answers.{refusalNumber, numberGiven}
 use Rattle.store.specs.UpToLaws.{less-or-not}
-use Rattle.table.specs.Answers.{refusalNumber, numberGiven}
 use Rattle.table.specs.Promises.{lengthGiven, front}
 use Rattle.table.specs.Filled.{FilledAs}
-use Rattle.table.specs.declared.Number.{Number}
-use Rattle.table.specs.declared.Number.the-variants as number
-use Rattle.table.specs.declared.Refusal.{Refusal}
 use Rattle.sheet.specs.Sheet.{refusalLine}
 use Rattle.sheet.specs.LineRoomLaws.{lines-fit}
 use Rattle.summary.specs.Summary.{firstLine, summaryBytes, linesFor}

@@ -25,16 +25,16 @@ use Rattle.trees.specs.Runs.{feed, close, fed, closedLane, answer, next}
 use Rattle.theorems.specs.ListLaws.{by-test}
 use Rattle.theorems.specs.WrittenFedLaws.{feeding-by}
 use Rattle.theorems.specs.RunLaws.{ending-opening}
+use Rattle.answers.specs.declared.Finish.{Finish}
+use Rattle.answers.specs.declared.Number.{Number}
+use Rattle.answers.specs.Answers.{finishGiven, numberGiven}
 use Rattle.opening.specs.Given.{openingOf}
 use Rattle.layout.specs.Store.{heldAt}
 use Rattle.store.specs.WholeStore.{wholeAt}
 use Rattle.store.specs.HeldWholeLaws.{held-numbers}
-use Rattle.table.specs.Answers.{finishGiven, numberGiven}
 use Rattle.table.specs.Promises.{Holds, OpenedAs, lengthGiven, front}
 use Rattle.table.specs.Asked.{treesAsked, splitsAsked, splitAsked, splitListAsked, treeAsked, oneSidedAsked, doubledAsked, matrixAsked, collisionsAsked}
 use Rattle.table.specs.QuestionLaws.{when-whole}
-use Rattle.table.specs.declared.Finish.{Finish}
-use Rattle.table.specs.declared.Number.{Number}
 use Rattle.consensus.specs.Consensus.{strictAsked, majorityAsked, writtenAsked}
 use Rattle.feeding.specs.Feeding.{reached, fedOf, closedOf, batchOf, FedAs, ClosedAs, BatchedAs}
 use Rattle.promises.specs.Calls.{Question, tree-count, split-count, one-split, split-list, tree-splits, one-sided, doubled, matrix, collisions, strict, majority, write-accepted, Reply, number, split, filled, bothFilled, fill, fillBoth, reply, Made, one, many, ask, reopen, Told, heard, batched, replied, notOpened, numbersIn, afterBatch, refusalIn, told, after, toldAll, afterAll, handed}

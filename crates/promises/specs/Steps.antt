@@ -14,11 +14,11 @@ use denote.Ref.{RefT}
 use Rattle.trees.specs.Plain.{refused, gives}
 use Rattle.trees.specs.Opening.{Numbers}
 use Rattle.trees.specs.Runs.{feed, close, fed, closedLane}
-use Rattle.table.specs.Answers.{finishGiven, numberGiven, splitGiven, progressGiven}
-use Rattle.table.specs.declared.Fed.{Fed}
-use Rattle.table.specs.declared.Finish.{Finish}
-use Rattle.table.specs.declared.Number.{Number}
-use Rattle.table.specs.declared.Recorded.{Recorded}
+use Rattle.answers.specs.declared.Fed.{Fed}
+use Rattle.answers.specs.declared.Finish.{Finish}
+use Rattle.answers.specs.declared.Number.{Number}
+use Rattle.answers.specs.declared.Recorded.{Recorded}
+use Rattle.answers.specs.Answers.{finishGiven, numberGiven, splitGiven, progressGiven}
 use Rattle.table.proofs.«open».Reads as opens
 use Rattle.table.proofs.tree_count.Reads as treeCount
 use Rattle.table.proofs.split_count.Reads as splitCount

@@ -21,13 +21,13 @@ use Rattle.trees.specs.Opening.{Opening}
 use Rattle.trees.specs.Held.{Held, opened, closing}
 use Rattle.trees.specs.Batch.{semicolons}
 use Rattle.theorems.specs.OwnLaneLaws.{closing-opening}
+use Rattle.answers.specs.declared.Finish.{Finish}
+use Rattle.answers.specs.declared.Finish.the-variants as finish
+use Rattle.answers.specs.declared.Number.{Number}
+use Rattle.answers.specs.Answers.{finishGiven}
 use Rattle.layout.specs.Store.{heldAt}
-use Rattle.table.specs.Answers.{finishGiven}
 use Rattle.table.specs.Promises.{Holds, OpenedAs}
 use Rattle.table.specs.QuestionLaws.{when-whole}
-use Rattle.table.specs.declared.Finish.{Finish}
-use Rattle.table.specs.declared.Finish.the-variants as finish
-use Rattle.table.specs.declared.Number.{Number}
 use Rattle.feeding.specs.CutLaws.{batching-opening}
 use Rattle.summary.specs.declared.LinePart.{LinePart}
 use Rattle.summary.specs.declared.Summing.{Summing}

@@ -9,9 +9,9 @@ use mathlib.Core.Bool.{Bool, true, false}
 use mathlib.Core.List.{List}
 use Rattle.trees.specs.Plain.{if_then_else_}
 use Rattle.trees.specs.Held.{closing}
+use Rattle.answers.specs.declared.Number.{Number}
 use Rattle.layout.specs.Store.{heldAt}
 use Rattle.store.specs.WholeStore.{wholeAt}
-use Rattle.table.specs.declared.Number.{Number}
 use Rattle.feeding.specs.Feeding.{noneAccepted}
 use Rattle.summary.specs.declared.Taken.{Taken}
 use Rattle.summary.specs.FirstLine.{Kept, TakenAs}

@@ -8,8 +8,8 @@ ghost use Prim.Native.Nat.{_<_};
 ghost use lib.ListN.{length, getD};
 ghost use Rattle.layout.specs.Store.{treesHeldAt, splitsHeldAt, maskAt, countAt, orderAt, treeAt};
 ghost use Rattle.store.specs.WholeStore.{wholeAt};
-use layout::Split;
-use layout::Tree;
+use answers::Split;
+use answers::Tree;
 
 // The row of split number k.
 pub fn row_of(s: &[u8], k: Split) -> usize

@@ -15,13 +15,13 @@ use lib.Seq.{sets-eq, take-at}
 use borrow.Author.Tests.{lt-ltb, le-ltb}
 use Rattle.trees.specs.Plain.{bytes, Answer, refused}
 use Rattle.trees.specs.Questions.{ifRoom}
+use Rattle.answers.specs.declared.Number.{Number}
+use Rattle.answers.specs.declared.Number.the-variants as number
+use Rattle.answers.specs.declared.Refusal.the-variants as why
+use Rattle.answers.specs.Answers.{refusalNumber, numberGiven}
 use Rattle.fields.specs.Run.{copied}
 use Rattle.layout.specs.Store.{treesHeldAt, splitsHeldAt, heldAt}
 use Rattle.store.specs.WholeStore.{wholeAt}
-use Rattle.table.specs.declared.Number.{Number}
-use Rattle.table.specs.declared.Number.the-variants as number
-use Rattle.table.specs.declared.Refusal.the-variants as why
-use Rattle.table.specs.Answers.{refusalNumber, numberGiven}
 use Rattle.table.specs.Promises.{lengthGiven, front}
 use Rattle.table.specs.Filled.{FilledAs}
 use Rattle.table.specs.QuestionLaws.{not-whole, when-whole}

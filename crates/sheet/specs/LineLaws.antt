@@ -32,6 +32,10 @@ use Rattle.trees.specs.Questions.{ifRoom, ifTrees, strictOf, majorityOf}
 use Rattle.theorems.specs.ListLaws.{and-right}
 use Rattle.theorems.specs.WrittenLaws.{written-length}
 use Rattle.theorems.specs.ConsensusLaws.{strict-good, majority-good}
+use Rattle.answers.specs.declared.Refusal.{Refusal}
+use Rattle.answers.specs.declared.Number.{Number}
+use Rattle.answers.specs.declared.Number.the-variants as number
+use Rattle.answers.specs.Answers.{numberGiven}
 use Rattle.head.specs.Head.{fromTo, upTo, numbersAt, namesAt, openingAt}
 use Rattle.head.specs.HeadLaws.{upTo-length}
 use Rattle.layout.specs.Store.{treesHeldAt, splitsHeldAt, maskAt, countAt, orderAt, splitAt, treeAt, heldAt}
@@ -41,10 +45,6 @@ use Rattle.store.specs.WholeFacts.{whole-at-facts}
 use Rattle.store.specs.UpToLaws.{upTo-more}
 use Rattle.store.specs.RecordedAtLaws.{held-trees, trees-length, recorded-length}
 use Rattle.store.specs.HeldWholeLaws.{held-numbers, opening-facts}
-use Rattle.table.specs.declared.Refusal.{Refusal}
-use Rattle.table.specs.declared.Number.{Number}
-use Rattle.table.specs.declared.Number.the-variants as number
-use Rattle.table.specs.Answers.{numberGiven}
 use Rattle.table.specs.Promises.{lengthGiven, front}
 use Rattle.table.specs.CountsLaws.{row-count, split-count}
 use Rattle.table.specs.QuestionLaws.{when-whole}

@@ -6,8 +6,8 @@ use Prim.Native.Nat.{ℕ, _≤_}
 use mathlib.Core.List.{List}
 use lib.ListN.{length, take}
 use Rattle.trees.specs.Plain.{bytes}
-use Rattle.table.specs.declared.Number.{Number}
-use Rattle.table.specs.declared.Number.the-variants as number
+use Rattle.answers.specs.declared.Number.{Number}
+use Rattle.answers.specs.declared.Number.the-variants as number
 
 unfoldable pub answerText : Number → List ℕ → List ℕ
 unfolding bytes

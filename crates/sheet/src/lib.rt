@@ -7,8 +7,8 @@ ghost use lib.ListN.{length, take};
 ghost use Rattle.trees.specs.Questions.{ifRoom};
 ghost use Rattle.table.specs.Filled.{FilledAs};
 ghost use Rattle.sheet.specs.Asked.{lineAsked, refusalAsked};
-use table::Number;
-use table::Refusal;
+use answers::Number;
+use answers::Refusal;
 
 mod lines;
 mod writing;

@@ -15,9 +15,9 @@ use crate::writing::put_counted;
 use crate::writing::put_end;
 use crate::writing::put_number;
 use crate::writing::put_word;
-use layout::Split;
-use layout::Tree;
-use table::Number;
+use answers::Number;
+use answers::Split;
+use answers::Tree;
 
 // Writes line number j of the sheet, and answers its length.
 pub(crate) fn write_line(s: &[u8], refused: usize, j: usize, out: &mut [u8]) -> usize

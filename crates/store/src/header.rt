@@ -11,7 +11,7 @@ ghost use Rattle.trees.specs.Whole.{goodOpening};
 ghost use Rattle.head.specs.Head.{numbersAt, nameAt, namesAt, firstAt, secondAt, openingAt};
 ghost use Rattle.layout.specs.Store.{sizeAt};
 ghost use Rattle.store.specs.WholeStore.{goodHead};
-use masks::Taxon;
+use answers::Taxon;
 
 // Whether the head is there and in order, the lent bytes reach its size, and its rooms hold.
 pub(crate) fn head_good(s: &[u8]) -> bool

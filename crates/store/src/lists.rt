@@ -1,6 +1,6 @@
 // Whether the trees' lists, the counts and the lanes of lent bytes with a good head are in order: the
 // tests of `specs/WholeStore.antt`, exactly.
-use layout::Tree;
+use answers::Tree;
 ghost use mathlib.Core.Path.{_≡_};
 ghost use mathlib.Core.Bool.{true};
 ghost use Prim.Native.Nat.{_+_, _*_, _≤_, _<_};

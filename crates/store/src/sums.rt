@@ -8,7 +8,7 @@ ghost use Prim.Native.Nat.{_+_, _*_, _≤_, _<_};
 ghost use lib.ListN.{length, getD};
 ghost use Rattle.store.specs.WholeStore.{goodHead};
 ghost use Rattle.store.specs.Sums.{constantsAt, Sums, SumBy, ByteSums, Doubled};
-use masks::Taxon;
+use answers::Taxon;
 
 // The sum over the taxa of m, modulo 2^64, of the constants whose table `sums` is.
 pub(crate) fn sum_over(sums: &[u64; 2048], m: u64) -> u64

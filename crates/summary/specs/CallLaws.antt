@@ -20,15 +20,15 @@ use lib.ListN.{length, take, drop, length-drop}
 use lib.Seq.{take-all}
 use borrow.Author.Tests.{lt-leb}
 use Rattle.trees.specs.Plain.{if_then_else_, member}
-use Rattle.table.specs.Answers.{refusalNumber, numberGiven}
+use Rattle.answers.specs.declared.Finish.{Finish}
+use Rattle.answers.specs.declared.Finish.the-variants as finish
+use Rattle.answers.specs.declared.Number.{Number}
+use Rattle.answers.specs.declared.Number.the-variants as number
+use Rattle.answers.specs.declared.Refusal.{Refusal}
+use Rattle.answers.specs.declared.Refusal.the-variants as why
+use Rattle.answers.specs.Answers.{refusalNumber, numberGiven}
 use Rattle.table.specs.Promises.{OpenedAs, lengthGiven, front}
 use Rattle.table.specs.Filled.{FilledAs}
-use Rattle.table.specs.declared.Finish.{Finish}
-use Rattle.table.specs.declared.Finish.the-variants as finish
-use Rattle.table.specs.declared.Number.{Number}
-use Rattle.table.specs.declared.Number.the-variants as number
-use Rattle.table.specs.declared.Refusal.{Refusal}
-use Rattle.table.specs.declared.Refusal.the-variants as why
 use Rattle.feeding.specs.EndLaws.{eqb-flip}
 use Rattle.sheet.specs.Asked.{lineAsked, refusalAsked}
 use Rattle.summary.specs.declared.LinePart.{LinePart}

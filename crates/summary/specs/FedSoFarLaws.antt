@@ -17,14 +17,14 @@ use Rattle.trees.specs.Opening.{Opening}
 use Rattle.trees.specs.Held.{Held, holding, Fed, opened, laneOf, withLane, longer, closing}
 use Rattle.trees.specs.Batch.{semicolons, Batched, batching}
 use Rattle.theorems.specs.PieceLaws.{set-replicate, getD-all}
+use Rattle.answers.specs.declared.Number.{Number}
+use Rattle.answers.specs.declared.Number.the-variants as number
+use Rattle.answers.specs.declared.Refusal.{Refusal}
+use Rattle.answers.specs.Answers.{numberGiven}
 use Rattle.layout.specs.Store.{heldAt}
 use Rattle.store.specs.WholeStore.{wholeAt}
-use Rattle.table.specs.Answers.{numberGiven}
 use Rattle.table.specs.Promises.{Holds}
 use Rattle.table.specs.QuestionLaws.{when-whole}
-use Rattle.table.specs.declared.Number.{Number}
-use Rattle.table.specs.declared.Number.the-variants as number
-use Rattle.table.specs.declared.Refusal.{Refusal}
 use Rattle.feeding.specs.Feeding.{isRefusal}
 use Rattle.feeding.specs.BatchLaws.{batching-length}
 use Rattle.feeding.specs.CutLaws.{LaneThere, fed-open, joined, batching-opening}

@@ -19,15 +19,15 @@ use borrow.Author.Tests.{le-leb, lt-leb}
 use Rattle.trees.specs.Plain.{if_then_else_, Answer, refused, gives}
 use Rattle.trees.specs.Names.{namesIn, goodNames}
 use Rattle.trees.specs.Opening.{Opening, storeSize, between, inRange, goodConstants, opening}
+use Rattle.answers.specs.declared.Finish.{Finish}
+use Rattle.answers.specs.declared.Finish.the-variants as finish
+use Rattle.answers.specs.declared.Refusal.the-variants as why
+use Rattle.answers.specs.Answers.{refusalNumber}
 use Rattle.head.specs.Head.{fromTo, upTo}
 use Rattle.head.specs.HeadLaws.{upTo-length, upTo-at}
 use Rattle.store.specs.UpToLaws.{less-or-not}
 use Rattle.opening.specs.Given.{numbersOf}
 use Rattle.opening.specs.GivenLaws.{range-not-taxa}
-use Rattle.table.specs.declared.Finish.{Finish}
-use Rattle.table.specs.declared.Finish.the-variants as finish
-use Rattle.table.specs.declared.Refusal.the-variants as why
-use Rattle.table.specs.Answers.{refusalNumber}
 use Rattle.table.specs.Promises.{OpenedAs}
 use Rattle.table.specs.FrontLaws.{copied-more, copied-all}
 use Rattle.table.specs.OpenLaws.{not-in-range, refused-as}

@@ -24,16 +24,16 @@ use Rattle.trees.specs.Plain.{if_then_else_, keep, Answer, refused, gives}
 use Rattle.trees.specs.Opening.{Numbers}
 use Rattle.trees.specs.Held.{Held}
 use Rattle.trees.specs.Batch.{semicolons, Batched, batching, batch}
+use Rattle.answers.specs.declared.Number.{Number}
+use Rattle.answers.specs.declared.Number.the-variants as number
+use Rattle.answers.specs.declared.Refusal.{Refusal}
+use Rattle.answers.specs.Answers.{numberGiven}
 use Rattle.head.specs.Head.{openingAt}
 use Rattle.layout.specs.Store.{heldAt}
 use Rattle.store.specs.WholeStore.{wholeAt}
 use Rattle.store.specs.HeldWholeLaws.{held-numbers, texts-length, opening-facts}
-use Rattle.table.specs.Answers.{numberGiven}
 use Rattle.table.specs.Promises.{Holds}
 use Rattle.table.specs.QuestionLaws.{not-whole, when-whole}
-use Rattle.table.specs.declared.Number.{Number}
-use Rattle.table.specs.declared.Number.the-variants as number
-use Rattle.table.specs.declared.Refusal.{Refusal}
 use Rattle.feeding.specs.Feeding.{batchOf, isRefusal, BatchedAs}
 use Rattle.feeding.specs.BatchLaws.{none-front, none-back}
 use Rattle.feeding.specs.SeamLaws.{keep-append}

@@ -19,16 +19,16 @@ use Rattle.trees.specs.Opening.{Opening}
 use Rattle.trees.specs.Held.{closing}
 use Rattle.trees.specs.Questions.{ifRoom}
 use Rattle.theorems.specs.ListLaws.{and-left, and-right}
+use Rattle.answers.specs.declared.Finish.{Finish}
+use Rattle.answers.specs.declared.Finish.the-variants as finish
+use Rattle.answers.specs.declared.Number.{Number}
+use Rattle.answers.specs.declared.Number.the-variants as number
+use Rattle.answers.specs.declared.Refusal.{Refusal}
+use Rattle.answers.specs.Answers.{refusalNumber, finishGiven}
 use Rattle.layout.specs.Store.{heldAt}
-use Rattle.table.specs.Answers.{refusalNumber, finishGiven}
 use Rattle.table.specs.Promises.{OpenedAs}
 use Rattle.table.specs.Filled.{FilledAs}
 use Rattle.table.specs.QuestionLaws.{when-whole}
-use Rattle.table.specs.declared.Finish.{Finish}
-use Rattle.table.specs.declared.Finish.the-variants as finish
-use Rattle.table.specs.declared.Number.{Number}
-use Rattle.table.specs.declared.Number.the-variants as number
-use Rattle.table.specs.declared.Refusal.{Refusal}
 use Rattle.feeding.specs.SeamLaws.{member-left, member-right}
 use Rattle.sheet.specs.Sheet.{sheetLines, refusalLine}
 use Rattle.sheet.specs.Asked.{lineNumber, lineAsked, refusalAsked}

@@ -27,17 +27,17 @@ use Rattle.trees.specs.Opening.{Opening}
 use Rattle.trees.specs.Held.{opened, closing}
 use Rattle.trees.specs.Batch.{semicolons, batching, Batched}
 use Rattle.trees.specs.Questions.{ifRoom}
+use Rattle.answers.specs.declared.Finish.{Finish}
+use Rattle.answers.specs.declared.Finish.the-variants as finish
+use Rattle.answers.specs.declared.Number.{Number}
+use Rattle.answers.specs.declared.Number.the-variants as number
+use Rattle.answers.specs.declared.Refusal.{Refusal}
+use Rattle.answers.specs.declared.Refusal.the-variants as why
+use Rattle.answers.specs.Answers.{refusalNumber}
 use Rattle.layout.specs.Store.{heldAt}
 use Rattle.store.specs.WholeStore.{wholeAt}
-use Rattle.table.specs.Answers.{refusalNumber}
 use Rattle.table.specs.Promises.{OpenedAs}
 use Rattle.table.specs.Filled.{FilledAs}
-use Rattle.table.specs.declared.Finish.{Finish}
-use Rattle.table.specs.declared.Finish.the-variants as finish
-use Rattle.table.specs.declared.Number.{Number}
-use Rattle.table.specs.declared.Number.the-variants as number
-use Rattle.table.specs.declared.Refusal.{Refusal}
-use Rattle.table.specs.declared.Refusal.the-variants as why
 use Rattle.sheet.specs.Asked.{lineAsked, refusalAsked}
 use Rattle.summary.specs.declared.LinePart.{LinePart}
 use Rattle.summary.specs.declared.Summing.{Summing}

@@ -14,10 +14,10 @@ use lib.Dec.{ltb}
 use Rattle.trees.specs.Plain.{if_then_else_, Answer, gives}
 use Rattle.trees.specs.Held.{Held, closing}
 use Rattle.trees.specs.Batch.{semicolons, Batched, batching}
+use Rattle.answers.specs.declared.Number.{Number}
+use Rattle.answers.specs.Answers.{numberGiven}
 use Rattle.layout.specs.Store.{heldAt}
 use Rattle.store.specs.WholeStore.{wholeAt}
-use Rattle.table.specs.declared.Number.{Number}
-use Rattle.table.specs.Answers.{numberGiven}
 use Rattle.table.specs.Promises.{ifWhole, Holds}
 use Rattle.feeding.specs.Feeding.{SameOutside, noneAccepted}
 use Rattle.summary.specs.Summary.{refusedIn, refusedAfter}

@@ -16,16 +16,16 @@ use lib.Seq.{drop-cons}
 use borrow.Author.Tests.{lt-ltb, le-ltb}
 use Rattle.trees.specs.Plain.{if_then_else_, keep, Answer, refused, gives}
 use Rattle.trees.specs.Held.{Closed, closing}
+use Rattle.answers.specs.declared.Number.the-variants as number
+use Rattle.answers.specs.declared.Refusal.the-variants as why
+use Rattle.answers.specs.declared.Finish.{Finish}
+use Rattle.answers.specs.Answers.{numberGiven, finishGiven}
 use Rattle.head.specs.Head.{numbersAt}
 use Rattle.layout.specs.Store.{heldAt}
 use Rattle.store.specs.UpToLaws.{less-or-not}
 use Rattle.store.specs.WholeStore.{wholeAt}
 use Rattle.store.specs.HeldWholeLaws.{opening-facts}
 use Rattle.head.specs.Head.{openingAt}
-use Rattle.table.specs.declared.Number.the-variants as number
-use Rattle.table.specs.declared.Refusal.the-variants as why
-use Rattle.table.specs.declared.Finish.{Finish}
-use Rattle.table.specs.Answers.{numberGiven, finishGiven}
 use Rattle.table.specs.Promises.{Holds}
 use Rattle.table.specs.QuestionLaws.{not-whole, when-whole}
 use Rattle.feeding.specs.Feeding.{reached, closedOf, isRefusal}

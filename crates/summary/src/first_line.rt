@@ -10,9 +10,9 @@ ghost use Rattle.summary.specs.Summary.{firstLine, firstConstant, second
 ghost use Rattle.summary.specs.FirstLine.{keptOf, keptAfter, spacesWith, usedWith, TakenAs, keptOpening};
 use crate::LinePart;
 use crate::Taken;
-use masks::Taxon;
-use table::Finish;
-use table::Refusal;
+use answers::Finish;
+use answers::Refusal;
+use answers::Taxon;
 
 // Takes a piece up to its line end, and keeps what fits into the buffer.
 pub(crate) fn take_line(line: LinePart, out: &mut [u8], piece: &[u8]) -> Taken

@@ -8,9 +8,9 @@ ghost use lib.ListN.{length};
 ghost use Rattle.table.specs.Filled.{FilledAs};
 ghost use Rattle.summary.specs.FirstLine.{keptOf};
 ghost use Rattle.summary.specs.Summing.{BegunAs, FeedsAs, OpensAs, NamesAs, TookAs, ClosesAs, FinishedAs, refusalFor, PrintedAs};
-use table::Finish;
-use table::Number;
-use table::Refusal;
+use answers::Finish;
+use answers::Number;
+use answers::Refusal;
 
 mod first_line;
 mod texts;
@@ -134,5 +134,5 @@ fn line_of_refusal(why: Refusal, j: usize, out: &mut [u8]) -> Number
     if j != 0 {
         return Number::Refused(Refusal::NoSuchNumber);
     }
-    sheet::refusal_line(table::refusal_number(why), out)
+    sheet::refusal_line(answers::refusal_number(why), out)
 }

@@ -4,13 +4,13 @@
 ghost use mathlib.Core.Path.{_≡_};
 ghost use Prim.Native.Nat.{_+_, _≤_};
 ghost use lib.ListN.{length, take};
-ghost use Rattle.table.specs.Answers.{finishGiven};
+ghost use Rattle.answers.specs.Answers.{finishGiven};
 ghost use Rattle.summary.specs.Summary.{refusedIn, refusedAfter};
 ghost use Rattle.summary.specs.Texts.{capped, TextsAs, ClosedAs};
-use layout::Lane;
-use table::Finish;
-use table::Number;
-use table::Refusal;
+use answers::Finish;
+use answers::Lane;
+use answers::Number;
+use answers::Refusal;
 
 // Feeds a piece of the input, behind `refused` refused texts, and answers how many there are then. The piece is
 // fed by parts of 4,096 bytes: no part ends more texts than there is room for verdicts.

@@ -6,8 +6,8 @@ use Prim.Native.Nat.{ℕ}
 use mathlib.Core.Path.{_≡_}
 use mathlib.Core.List.{List}
 use Rattle.trees.specs.Plain.{Answer}
-use Rattle.table.specs.declared.Number.{Number}
-use Rattle.table.specs.Answers.{numberGiven}
+use Rattle.answers.specs.declared.Number.{Number}
+use Rattle.answers.specs.Answers.{numberGiven}
 use Rattle.table.specs.Promises.{lengthGiven, front}
 use Rattle.table.specs.Asked.{masksOf, countsOf}
 

@@ -12,13 +12,13 @@ use lib.ListN.{length, drop}
 use borrow.Author.Tests.{lt-ltb, le-ltb}
 use Rattle.trees.specs.Questions.{ifRoom, ifTree, tree, splitList, treeNumber}
 use Rattle.theorems.specs.ListLaws.{or-left, or-right}
+use Rattle.answers.specs.declared.Number.the-variants as number
+use Rattle.answers.specs.declared.Refusal.the-variants as why
+use Rattle.answers.specs.Answers.{numberGiven}
 use Rattle.layout.specs.Store.{treesHeldAt, splitsHeldAt, masksAt, treeAt}
 use Rattle.store.specs.WholeStore.{wholeAt}
 use Rattle.store.specs.OrderLaws.{masks-length}
 use Rattle.store.specs.RecordedAtLaws.{trees-length, tree-at, recorded-at, recorded-length}
-use Rattle.table.specs.declared.Number.the-variants as number
-use Rattle.table.specs.declared.Refusal.the-variants as why
-use Rattle.table.specs.Answers.{numberGiven}
 use Rattle.table.specs.Promises.{lengthGiven, front}
 use Rattle.table.specs.Asked.{splitListAsked, treeAsked, masksOf, countsOf}
 use Rattle.table.specs.Filled.{ListedAs, FilledAs}

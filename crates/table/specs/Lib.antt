@@ -1,5 +1,4 @@
--- The answers of the calls, what the calls promise of lent memory, and the laws of opening and of the questions.
-pub mod Answers
+-- What the calls promise of lent memory, and the laws of opening and of the questions.
 pub mod Promises
 pub mod Emptied
 pub mod EmptiedLaws

@@ -20,17 +20,17 @@ use Rattle.trees.specs.Opening.{Numbers, Opening, inRange, goodConstants, store
 use Rattle.trees.specs.Held.{opened}
 use Rattle.trees.specs.Whole.{goodOpening}
 use Rattle.theorems.specs.ListLaws.{and-true}
+use Rattle.answers.specs.declared.Refusal.{Refusal}
+use Rattle.answers.specs.declared.Refusal.the-variants as why
+use Rattle.answers.specs.declared.Finish.the-variants as finish
+use Rattle.answers.specs.declared.Number.the-variants as answer
+use Rattle.answers.specs.Answers.{refusalNumber, finishGiven, numberGiven}
 use Rattle.fields.specs.Field.{number}
 use Rattle.head.specs.Head.{openingAt}
 use Rattle.opening.specs.Given.{openingOf}
 use Rattle.opening.specs.GivenLaws.{size-least}
 use Rattle.layout.specs.Store.{sizeAt}
 use Rattle.layout.specs.StoreLaws.{trees-held-is, splits-held-is}
-use Rattle.table.specs.declared.Refusal.{Refusal}
-use Rattle.table.specs.declared.Refusal.the-variants as why
-use Rattle.table.specs.declared.Finish.the-variants as finish
-use Rattle.table.specs.declared.Number.the-variants as answer
-use Rattle.table.specs.Answers.{refusalNumber, finishGiven, numberGiven}
 use Rattle.table.specs.Promises.{Holds, OpenedAs}
 use Rattle.table.specs.Emptied.{Emptied}
 use Rattle.table.specs.EmptiedLaws.{emptied-whole, emptied-held}

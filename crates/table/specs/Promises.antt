@@ -13,10 +13,10 @@ use lib.ListN.{length, getD, drop}
 use Rattle.trees.specs.Plain.{if_then_else_, Answer, refused, gives}
 use Rattle.trees.specs.Opening.{Opening, storeSize}
 use Rattle.trees.specs.Held.{Held, opened}
+use Rattle.answers.specs.declared.Finish.{Finish}
+use Rattle.answers.specs.Answers.{finishGiven}
 use Rattle.layout.specs.Store.{heldAt}
 use Rattle.store.specs.WholeStore.{wholeAt}
-use Rattle.table.specs.declared.Finish.{Finish}
-use Rattle.table.specs.Answers.{finishGiven}
 
 -- 1: "the lent collection is not whole"; every call on a collection checks it first
 unfoldable pub ifWhole : {A : Type 0} → List ℕ → (Held → Answer A) → Answer A

@@ -12,14 +12,14 @@ use borrow.Author.Tests.{lt-ltb, le-ltb}
 use Rattle.trees.specs.Plain.{Answer, refused, gives}
 use Rattle.trees.specs.Held.{Held}
 use Rattle.trees.specs.Questions.{treesHeld, splitsHeld, splitNumber}
+use Rattle.answers.specs.declared.Number.the-variants as number
+use Rattle.answers.specs.declared.Recorded.the-variants as recorded
+use Rattle.answers.specs.declared.Refusal.the-variants as why
+use Rattle.answers.specs.Answers.{numberGiven, splitGiven}
 use Rattle.layout.specs.Store.{treesHeldAt, splitsHeldAt, maskAt, countAt, orderAt, splitAt, heldAt}
 use Rattle.layout.specs.StoreLaws.{split-is}
 use Rattle.store.specs.WholeStore.{wholeAt}
 use Rattle.store.specs.RecordedAtLaws.{trees-length, recorded-length, recorded-mask}
-use Rattle.table.specs.declared.Number.the-variants as number
-use Rattle.table.specs.declared.Recorded.the-variants as recorded
-use Rattle.table.specs.declared.Refusal.the-variants as why
-use Rattle.table.specs.Answers.{numberGiven, splitGiven}
 use Rattle.table.specs.Promises.{ifWhole}
 use Rattle.table.specs.Asked.{treesAsked, splitsAsked, splitAsked}
 use Rattle.table.specs.Counts.{splitCount}

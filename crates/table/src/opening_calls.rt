@@ -6,15 +6,15 @@ ghost use mathlib.Core.Path.{_≡_};
 ghost use Prim.Native.Nat.{_≤_};
 ghost use lib.ListN.{length};
 ghost use Rattle.trees.specs.Opening.{opening, sizing};
+ghost use Rattle.answers.specs.Answers.{numberGiven};
 ghost use Rattle.opening.specs.Given.{numbersOf};
 ghost use Rattle.head.specs.Head.{numbersAt};
 ghost use Rattle.layout.specs.Store.{sizeAt};
-ghost use Rattle.table.specs.Answers.{numberGiven};
 ghost use Rattle.table.specs.Promises.{OpenedAs};
 ghost use Rattle.table.specs.Emptied.{LanesEmptied, Emptied};
-use crate::Finish;
-use crate::Number;
-use crate::Refusal;
+use answers::Finish;
+use answers::Number;
+use answers::Refusal;
 
 // How many bytes must be lent for a collection of these numbers.
 pub fn size(taxa: u32, lanes: u32, tree_room: u32, split_room: u32, places: u32) -> Number

@@ -7,17 +7,17 @@ ghost use mathlib.Core.Bool.{true};
 ghost use mathlib.Core.List.{_++_};
 ghost use Prim.Native.Nat.{_≤_, _<_};
 ghost use lib.ListN.{length, drop};
+ghost use Rattle.answers.specs.Answers.{numberGiven, splitGiven};
 ghost use Rattle.layout.specs.Store.{treesHeldAt, splitsHeldAt, masksAt, treeAt};
 ghost use Rattle.store.specs.WholeStore.{wholeAt};
-ghost use Rattle.table.specs.Answers.{numberGiven, splitGiven};
 ghost use Rattle.table.specs.Promises.{lengthGiven, front};
 ghost use Rattle.table.specs.Asked.{treesAsked, splitsAsked, splitAsked, splitListAsked, treeAsked, masksOf, countsOf};
 ghost use Rattle.table.specs.Counts.{countsAt};
-use crate::Number;
-use crate::Recorded;
-use crate::Refusal;
-use layout::Split;
-use layout::Tree;
+use answers::Number;
+use answers::Recorded;
+use answers::Refusal;
+use answers::Split;
+use answers::Tree;
 
 // How many trees are accepted.
 pub fn tree_count(s: &[u8]) -> Number

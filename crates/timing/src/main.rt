@@ -2,7 +2,7 @@
 // names, then texts. Writes what the calls answered and, for `times`, before it a line for each round: nanoseconds a call.
 ghost use Prim.Native.Nat.{_≤_};
 
-mod answers;
+mod answered;
 mod clock;
 mod lines;
 mod opened;
@@ -66,7 +66,7 @@ fn make_calls(rounds: u64, names: &[u8], texts: &[u8])
         &mut strict,
         &mut majority,
     );
-    answers::write_answers(
+    answered::write_answers(
         names,
         texts,
         &mut store,

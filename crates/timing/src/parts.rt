@@ -3,7 +3,7 @@
 use crate::clock;
 use crate::clock::Times;
 use crate::opened;
-use layout::Lane;
+use answers::Lane;
 ghost use Prim.Native.Nat.{_≤_};
 
 // One round whose times are not written, and then as many as are wanted; none, where none are.

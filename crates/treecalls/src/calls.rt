@@ -1,6 +1,6 @@
 // Which call a line is, by the number of its words and the first of them.
 use crate::State;
-use crate::answers;
+use crate::answer_lines;
 use crate::feeds;
 use crate::lists;
 use crate::memory;
@@ -32,7 +32,7 @@ fn call(line: &mut [u8], bounds: Bounds, lent: &mut [u8], out: &mut [u8], state:
         3 => three_words(line, bounds, lent, out, state),
         6 => six_words(line, bounds, out, state),
         9 => nine_words(line, bounds, lent, out, state),
-        _ => answers::bad_line(out, state),
+        _ => answer_lines::bad_line(out, state),
     }
 }
 
@@ -59,7 +59,7 @@ fn one_word(line: &[u8], bounds: Bounds, lent: &[u8], out: &mut [u8], state: Sta
     if parse::is(line, bounds, 0, b"majority") {
         return texts::majority(lent, out, state);
     }
-    answers::bad_line(out, state)
+    answer_lines::bad_line(out, state)
 }
 
 // Calls with one argument: a number, or `room -`.
@@ -69,7 +69,7 @@ fn two_words(line: &[u8], bounds: Bounds, lent: &mut [u8], out: &mut [u8], state
     }
     let word = parse::number(line, bounds, 1);
     let Number::Is(x) = word else {
-        return answers::bad_line(out, state);
+        return answer_lines::bad_line(out, state);
     };
     if parse::is(line, bounds, 0, b"close") {
         return feeds::close(lent, x, out, state);
@@ -83,7 +83,7 @@ fn two_words(line: &[u8], bounds: Bounds, lent: &mut [u8], out: &mut [u8], state
     if parse::is(line, bounds, 0, b"write") {
         return texts::accepted(lent, x, out, state);
     }
-    answers::bad_line(out, state)
+    answer_lines::bad_line(out, state)
 }
 
 // Calls with two arguments: a number and bytes, or two numbers.
@@ -121,11 +121,11 @@ fn number_and_bytes(
 ) -> State {
     let word = parse::number(line, bounds, 1);
     let Number::Is(a) = word else {
-        return answers::bad_line(out, state);
+        return answer_lines::bad_line(out, state);
     };
     let bytes = parse::bytes(line, bounds, 2);
     if !bytes.is_good {
-        return answers::bad_line(out, state);
+        return answer_lines::bad_line(out, state);
     }
     let from = bytes.from;
     let to = bytes.to;
@@ -142,11 +142,11 @@ fn number_and_bytes(
 fn two_numbers(line: &[u8], bounds: Bounds, lent: &[u8], out: &mut [u8], state: State) -> State {
     let word = parse::number(line, bounds, 1);
     let Number::Is(a) = word else {
-        return answers::bad_line(out, state);
+        return answer_lines::bad_line(out, state);
     };
     let word = parse::number(line, bounds, 2);
     let Number::Is(b) = word else {
-        return answers::bad_line(out, state);
+        return answer_lines::bad_line(out, state);
     };
     if parse::is(line, bounds, 0, b"peek") {
         return memory::peek(lent, a, b, out, state);
@@ -160,7 +160,7 @@ fn two_numbers(line: &[u8], bounds: Bounds, lent: &[u8], out: &mut [u8], state: 
     if parse::is(line, bounds, 0, b"agree") {
         return questions::agree(a, b, out, state);
     }
-    answers::bad_line(out, state)
+    answer_lines::bad_line(out, state)
 }
 
 // `size`.
@@ -168,7 +168,7 @@ fn six_words(line: &[u8], bounds: Bounds, out: &mut [u8], state: State) -> State
     if parse::is(line, bounds, 0, b"size") {
         return opens::size(line, bounds, out, state);
     }
-    answers::bad_line(out, state)
+    answer_lines::bad_line(out, state)
 }
 
 // `open`.
@@ -182,5 +182,5 @@ fn nine_words(
     if parse::is(line, bounds, 0, b"open") {
         return opens::open(line, bounds, lent, out, state);
     }
-    answers::bad_line(out, state)
+    answer_lines::bad_line(out, state)
 }

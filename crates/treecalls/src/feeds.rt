@@ -1,12 +1,12 @@
 // `feed`, `close` and `batch`.
 use crate::State;
-use crate::answers;
+use crate::answer_lines;
 use crate::memory;
 use crate::output;
-use layout::Lane;
-use table::Fed;
-use table::Number;
-use table::Progress;
+use answers::Fed;
+use answers::Lane;
+use answers::Number;
+use answers::Progress;
 ghost use Prim.Native.Nat.{_≤_};
 
 // `feed LANE HEX`.
@@ -26,10 +26,10 @@ fn progress(out: &mut [u8], fed: Fed, state: State) -> State {
     let taken = fed.taken as u64;
     let progress = fed.progress;
     match progress {
-        Progress::MoreWanted => answers::named(out, b"more ", taken, state),
+        Progress::MoreWanted => answer_lines::named(out, b"more ", taken, state),
         Progress::Accepted(t) => taken_and(out, b"accepted ", taken, t.0 as u64, state),
         Progress::Refused(r) => {
-            let k = table::refusal_number(r) as u64;
+            let k = answers::refusal_number(r) as u64;
             taken_and(out, b"refused ", taken, k, state)
         }
     }
@@ -39,13 +39,13 @@ fn progress(out: &mut [u8], fed: Fed, state: State) -> State {
 fn taken_and(out: &mut [u8], word: &[u8], taken: u64, n: u64, state: State) -> State {
     let begun = output::bytes(out, word, state);
     let counted = output::number(out, taken, begun);
-    answers::named(out, b" ", n, counted)
+    answer_lines::named(out, b" ", n, counted)
 }
 
 // `close LANE`.
 pub(crate) fn close(lent: &mut [u8], lane: u64, out: &mut [u8], state: State) -> State {
     let answer = feeding::close(lent, Lane(lane as usize));
-    answers::finish(out, answer, state)
+    answer_lines::finish(out, answer, state)
 }
 
 // `batch LANE HEX`. No line has room for a piece of more than 1,048,576 bytes, so no batch has more verdicts.
@@ -72,7 +72,7 @@ fn feed_batch(
     let room = memory::least(state.room, verdicts.len());
     let answer = feeding::batch(lent, Lane(lane as usize), piece, &mut verdicts[..room]);
     match answer {
-        Number::Refused(r) => answers::refused(out, r, state),
+        Number::Refused(r) => answer_lines::refused(out, r, state),
         Number::Gives(k) => batched(out, verdicts, k, piece.len() as u64, state),
     }
 }
@@ -85,7 +85,7 @@ fn batched(out: &mut [u8], verdicts: &[u32], k: usize, taken: u64, from: State) 
         state = one_verdict(out, verdicts, i, state);
         i += 1;
     }
-    answers::named(out, b" taken ", taken, state)
+    answer_lines::named(out, b" taken ", taken, state)
 }
 
 // Verdict i.

@@ -1,6 +1,6 @@
 // The lines of the input, as their bytes come.
 use crate::State;
-use crate::answers;
+use crate::answer_lines;
 use crate::calls;
 use crate::output;
 
@@ -99,10 +99,10 @@ fn end_line(line: &mut [u8], memory: &mut [u8], out: &mut [u8], state: State) ->
     next.used = 0;
     next.is_long = false;
     if state.is_long {
-        return answers::bad_line(out, next);
+        return answer_lines::bad_line(out, next);
     }
     if line.len() < used {
-        return answers::bad_line(out, next);
+        return answer_lines::bad_line(out, next);
     }
     calls::answer(&mut line[..used], memory, out, next)
 }

@@ -1,10 +1,10 @@
 // Questions whose answer is a list of numbers.
 use crate::State;
-use crate::answers;
+use crate::answer_lines;
 use crate::memory;
 use crate::output;
-use layout::Tree;
-use table::Number;
+use answers::Number;
+use answers::Tree;
 
 // A number with a space before it.
 fn element(out: &mut [u8], n: u64, state: State) -> State {
@@ -31,7 +31,7 @@ fn list_splits(
     let b = memory::least(state.room, counts.len());
     let answer = table::split_list(lent, &mut masks[..a], &mut counts[..b]);
     match answer {
-        Number::Refused(r) => answers::refused(out, r, state),
+        Number::Refused(r) => answer_lines::refused(out, r, state),
         Number::Gives(k) => pairs(out, masks, counts, k, state),
     }
 }
@@ -44,7 +44,7 @@ fn pairs(out: &mut [u8], masks: &[u64], counts: &[u32], k: usize, from: State) -
         state = pair(out, masks, counts, i, state);
         i += 1;
     }
-    answers::end(out, state)
+    answer_lines::end(out, state)
 }
 
 // Mask i with its count.
@@ -76,7 +76,7 @@ fn list_tree(lent: &[u8], t: u64, masks: &mut [u64], out: &mut [u8], state: Stat
     let room = memory::least(state.room, masks.len());
     let answer = table::tree_splits(lent, Tree(t as usize), &mut masks[..room]);
     match answer {
-        Number::Refused(r) => answers::refused(out, r, state),
+        Number::Refused(r) => answer_lines::refused(out, r, state),
         Number::Gives(k) => tree_masks(out, masks, k, state),
     }
 }
@@ -89,7 +89,7 @@ fn tree_masks(out: &mut [u8], masks: &[u64], k: usize, from: State) -> State {
         state = tree_mask(out, masks, i, state);
         i += 1;
     }
-    answers::end(out, state)
+    answer_lines::end(out, state)
 }
 
 // Mask i.
@@ -111,7 +111,7 @@ fn list_matrix(lent: &[u8], distances: &mut [u16], out: &mut [u8], state: State)
     let room = memory::least(state.room, distances.len());
     let answer = comparing::matrix(lent, &mut distances[..room]);
     match answer {
-        Number::Refused(r) => answers::refused(out, r, state),
+        Number::Refused(r) => answer_lines::refused(out, r, state),
         Number::Gives(k) => entries(lent, out, distances, k, state),
     }
 }
@@ -124,7 +124,7 @@ fn entries(lent: &[u8], out: &mut [u8], distances: &[u16], k: usize, from: State
         state = entry(out, distances, i, state);
         i += 1;
     }
-    answers::end(out, state)
+    answer_lines::end(out, state)
 }
 
 // `matrix` and the number of trees.

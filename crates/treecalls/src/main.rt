@@ -1,6 +1,6 @@
 // Makes calls of the library from lines of text: one call a line of standard input, one answer line each. docs/CALLS.md
 // has every call, its answers and the limits of this program.
-mod answers;
+mod answer_lines;
 mod calls;
 mod feeds;
 mod input;

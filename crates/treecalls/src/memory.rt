@@ -1,6 +1,6 @@
 // The lent memory, and the room of answers.
 use crate::State;
-use crate::answers;
+use crate::answer_lines;
 use crate::output;
 use crate::parse;
 use crate::parse::Bounds;
@@ -24,16 +24,16 @@ pub(crate) fn lend(
 ) -> State {
     let word = parse::number(line, bounds, 1);
     let Number::Is(n) = word else {
-        return answers::bad_line(out, state);
+        return answer_lines::bad_line(out, state);
     };
     let n = n as usize;
     if memory.len() < n {
-        return answers::bad_line(out, state);
+        return answer_lines::bad_line(out, state);
     }
     fill(&mut memory[..n]);
     let mut next = state;
     next.lent = n;
-    answers::done(out, next)
+    answer_lines::done(out, next)
 }
 
 // Makes all bytes 165.
@@ -50,13 +50,13 @@ pub(crate) fn poke(lent: &mut [u8], at: u64, bytes: &[u8], out: &mut [u8], state
     let at = at as usize;
     let n = bytes.len();
     if lent.len() < at {
-        return answers::bad_line(out, state);
+        return answer_lines::bad_line(out, state);
     }
     if lent.len() - at < n {
-        return answers::bad_line(out, state);
+        return answer_lines::bad_line(out, state);
     }
     fields::copy_from(lent, at, bytes, 0, n);
-    answers::done(out, state)
+    answer_lines::done(out, state)
 }
 
 // `peek AT N`: reads bytes of the lent memory.
@@ -64,10 +64,10 @@ pub(crate) fn peek(lent: &[u8], at: u64, n: u64, out: &mut [u8], state: State) -
     let at = at as usize;
     let n = n as usize;
     if lent.len() < at {
-        return answers::bad_line(out, state);
+        return answer_lines::bad_line(out, state);
     }
     if lent.len() - at < n {
-        return answers::bad_line(out, state);
+        return answer_lines::bad_line(out, state);
     }
     let end = at + n;
     shown(out, &lent[at..end], state)
@@ -80,7 +80,7 @@ fn shown(out: &mut [u8], bytes: &[u8], state: State) -> State {
     }
     let begun = output::bytes(out, b"bytes ", state);
     let written = output::hex(out, bytes, begun);
-    answers::end(out, written)
+    answer_lines::end(out, written)
 }
 
 // `room K`: later answers have buffers of at most K elements; `room -`: as many as they can need.
@@ -90,9 +90,9 @@ pub(crate) fn room(line: &[u8], bounds: Bounds, out: &mut [u8], state: State) ->
     if !parse::is(line, bounds, 1, b"-") {
         let word = parse::number(line, bounds, 1);
         let Number::Is(k) = word else {
-            return answers::bad_line(out, state);
+            return answer_lines::bad_line(out, state);
         };
         next.room = k as usize;
     }
-    answers::done(out, next)
+    answer_lines::done(out, next)
 }

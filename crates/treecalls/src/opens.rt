@@ -1,6 +1,6 @@
 // `size` and `open`.
 use crate::State;
-use crate::answers;
+use crate::answer_lines;
 use crate::memory;
 use crate::parse;
 use crate::parse::Bounds;
@@ -71,10 +71,10 @@ fn in_32_bits(x: u64) -> u32 {
 pub(crate) fn size(line: &[u8], bounds: Bounds, out: &mut [u8], state: State) -> State {
     let n = sizes_of(line, bounds);
     if !n.is_good {
-        return answers::bad_line(out, state);
+        return answer_lines::bad_line(out, state);
     }
     let answer = table::size(n.taxa, n.lanes, n.tree_room, n.split_room, n.places);
-    answers::number(out, b"bytes ", answer, state)
+    answer_lines::number(out, b"bytes ", answer, state)
 }
 
 // `open N LANES TREES SPLITS PLACES NAMES LIST LIST`. A list is kept up to its 65th number: then it is too long for any
@@ -103,15 +103,15 @@ fn open_by(
 ) -> State {
     let n = sizes_of(line, bounds);
     if !n.is_good {
-        return answers::bad_line(out, state);
+        return answer_lines::bad_line(out, state);
     }
     let count = parse::list(line, bounds, 7, first);
     let Count::Is(k) = count else {
-        return answers::bad_line(out, state);
+        return answer_lines::bad_line(out, state);
     };
     let count = parse::list(line, bounds, 8, second);
     let Count::Is(m) = count else {
-        return answers::bad_line(out, state);
+        return answer_lines::bad_line(out, state);
     };
     let k = memory::least(k, first.len());
     let m = memory::least(m, second.len());
@@ -131,7 +131,7 @@ fn open_with(
 ) -> State {
     let names = parse::bytes(line, bounds, 6);
     if !names.is_good {
-        return answers::bad_line(out, state);
+        return answer_lines::bad_line(out, state);
     }
     let from = names.from;
     let to = names.to;
@@ -146,5 +146,5 @@ fn open_with(
         first,
         second,
     );
-    answers::finish(out, answer, state)
+    answer_lines::finish(out, answer, state)
 }

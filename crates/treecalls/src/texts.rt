@@ -1,10 +1,10 @@
 // Questions whose answer is a tree, written. The longest is of 2,236 bytes.
 use crate::State;
-use crate::answers;
+use crate::answer_lines;
 use crate::memory;
 use crate::output;
-use layout::Tree;
-use table::Number;
+use answers::Number;
+use answers::Tree;
 
 // `strict`.
 pub(crate) fn strict(lent: &[u8], out: &mut [u8], state: State) -> State {
@@ -48,12 +48,12 @@ fn write_accepted(lent: &[u8], t: u64, text: &mut [u8], out: &mut [u8], state: S
 // The answer: the bytes of the text as they are.
 fn written(out: &mut [u8], text: &[u8], answer: Number, state: State) -> State {
     match answer {
-        Number::Refused(r) => answers::refused(out, r, state),
+        Number::Refused(r) => answer_lines::refused(out, r, state),
         Number::Gives(k) => {
             let n = memory::least(k, text.len());
             let begun = output::bytes(out, b"text ", state);
             let ended = output::bytes(out, &text[..n], begun);
-            answers::end(out, ended)
+            answer_lines::end(out, ended)
         }
     }
 }

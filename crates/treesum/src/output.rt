@@ -1,7 +1,7 @@
 // What is printed.
+use answers::Number;
 use libc::STDERR_FILENO;
 use libc::STDOUT_FILENO;
-use table::Number;
 
 // Prints the sheet, line by line.
 pub(crate) fn print_sheet(answer: Number, lent: &[u8]) {

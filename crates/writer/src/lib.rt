@@ -13,7 +13,7 @@ ghost use Rattle.trees.specs.Whole.{goodTree, goodOpening};
 ghost use Rattle.head.specs.Head.{numbersAt, nameAt, namesAt, openingAt};
 ghost use Rattle.writer.specs.Branch.{branchText, childMask, childText, Ready, Child, Put};
 ghost use Rattle.writer.specs.Text.{Wrote};
-use masks::Taxon;
+use answers::Taxon;
 
 // The answer of a writing: how many bytes were written, or that there is no room.
 pub enum Text {

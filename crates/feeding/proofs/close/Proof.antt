@@ -3,10 +3,10 @@ use mathlib.Core.Path.{sym, _∙_}
 use native.Mathlib.Omega.{arith}
 use borrow.Author.Needs.{needs}
 use Rattle.trees.specs.Held.{laneOf, closed}
+use Rattle.answers.specs.Answers.{refusalNumber, finishGiven}
 use Rattle.opening.specs.GivenLaws.{failed, passed}
 use Rattle.layout.specs.Store.{heldAt}
 use Rattle.store.specs.WholeFacts.{whole-at-facts}
-use Rattle.table.specs.Answers.{refusalNumber, finishGiven}
 use Rattle.feeding.specs.ClosingLaws.{closed-refused, closed-done, close-not-whole, close-no-lane, close-lane}
 use Rattle.feeding.proofs.close.Statement.{statement}
 use Rattle.feeding.proofs.close.Tie as tie

@@ -3,7 +3,7 @@ use mathlib.Core.Path.{sym, ap, subst, _∙_}
 use native.Mathlib.Omega.{arith}
 use borrow.Author.Needs.{needs}
 use Rattle.trees.specs.Batch.{verdictNumber}
-use Rattle.table.specs.Answers.{progressGiven}
+use Rattle.answers.specs.Answers.{progressGiven}
 use Rattle.feeding.specs.Texts.{Small}
 use Rattle.feeding.proofs.texts.verdict_number.Statement.{statement}
 use Rattle.feeding.proofs.texts.verdict_number.Tie as tie

@@ -5,9 +5,9 @@ use lib.ListN.{take}
 use borrow.Author.Needs.{needs}
 use Rattle.trees.specs.Plain.{gives}
 use Rattle.trees.specs.Held.{accepted}
+use Rattle.answers.specs.Answers.{refusalNumber, progressGiven}
 use Rattle.layout.specs.Store.{heldAt}
 use Rattle.store.specs.WholeFacts.{whole-at-facts}
-use Rattle.table.specs.Answers.{refusalNumber, progressGiven}
 use Rattle.feeding.specs.AcceptLaws.{no-tree-room, no-split-room, room-enough, refuses, records, new-most, placed, recordable}
 use Rattle.feeding.proofs.verdicts.accept_tree.Statement.{statement}
 use Rattle.feeding.proofs.verdicts.accept_tree.Tie as tie

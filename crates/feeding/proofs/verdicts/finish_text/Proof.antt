@@ -4,8 +4,8 @@ use native.Mathlib.Omega.{arith}
 use borrow.Author.Needs.{needs}
 use Rattle.trees.specs.Plain.{refused}
 use Rattle.theorems.specs.VerdictLaws.{refusal-numbers}
+use Rattle.answers.specs.Answers.{refusalNumber, progressGiven}
 use Rattle.lanes.specs.LaneLaws.{lane-overrun}
-use Rattle.table.specs.Answers.{refusalNumber, progressGiven}
 use Rattle.feeding.specs.FinishLaws.{verdict-over, verdict-refused, verdict-room, held-text, judged-refused, judged-gives, opening-kept, front-tree, judgeable, accepts-size, finish-refused, finish-room}
 use Rattle.feeding.proofs.verdicts.finish_text.Statement.{statement}
 use Rattle.feeding.proofs.verdicts.finish_text.Tie as tie

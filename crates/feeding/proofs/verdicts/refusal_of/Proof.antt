@@ -1,6 +1,6 @@
 -- `feeding::verdicts::refusal_of` meets its contract: each number in turn. Assumes nothing.
 use native.Mathlib.Omega.{arith}
-use Rattle.table.specs.Answers.{refusalNumber}
+use Rattle.answers.specs.Answers.{refusalNumber}
 use Rattle.feeding.proofs.verdicts.refusal_of.Statement.{statement}
 use Rattle.feeding.proofs.verdicts.refusal_of.Tie as tie
 

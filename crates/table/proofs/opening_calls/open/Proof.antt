@@ -2,8 +2,8 @@
 use mathlib.Core.Path.{refl}
 use native.Mathlib.Omega.{arith}
 use borrow.Author.Needs.{needs}
+use Rattle.answers.specs.Answers.{refusalNumber}
 use Rattle.opening.specs.GivenLaws.{failed, passed}
-use Rattle.table.specs.Answers.{refusalNumber}
 use Rattle.table.specs.OpenLaws.{not-in-range, not-constants, not-names, not-long, all-passed, passed-good, refused-as, done-as, lent-head, lent-rest, head-then-rest}
 use Rattle.table.proofs.opening_calls.open.Statement.{statement}
 use Rattle.table.proofs.opening_calls.open.Tie as tie

@@ -1,8 +1,8 @@
--- `timing::answers::verdict_sum` is safe and ends. Assumes nothing.
+-- `timing::answered::verdict_sum` is safe and ends. Assumes nothing.
 use Prim.Native.Nat.{_≤_, _-_}
 use borrow.Author.Needs.{needs}
-use Rattle.timing.proofs.answers.verdict_sum.Statement.{statement}
-use Rattle.timing.proofs.answers.verdict_sum.Tie as tie
+use Rattle.timing.proofs.answered.verdict_sum.Statement.{statement}
+use Rattle.timing.proofs.answered.verdict_sum.Tie as tie
 
 abbrev Inv-loop : tie.InvT-loop
 Inv-loop verdicts n sum₀ sums₀ i₀ sum sums i = i ≤ n

@@ -1,8 +1,8 @@
--- `table::refusal_number` meets its contract. Assumes nothing.
+-- `answers::refusal_number` meets its contract. Assumes nothing.
 use borrow.Author.Needs.{needs}
-use Rattle.table.specs.Answers.{refusalNumber}
-use Rattle.table.proofs.refusal_number.Statement.{statement}
-use Rattle.table.proofs.refusal_number.Tie as tie
+use Rattle.answers.specs.Answers.{refusalNumber}
+use Rattle.answers.proofs.refusal_number.Statement.{statement}
+use Rattle.answers.proofs.refusal_number.Tie as tie
 
 returns : tie.Need-returns
 unfolding refusalNumber

@@ -1,8 +1,8 @@
 // What the calls answer, in a few numbers and the two consensus trees.
 use crate::opened;
-use layout::Lane;
+use answers::Lane;
+use answers::Number;
 use libc::STDOUT_FILENO;
-use table::Number;
 
 // Opens the collection, makes each call once and writes what it answered.
 pub(crate) fn write_answers(

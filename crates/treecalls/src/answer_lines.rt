@@ -1,9 +1,9 @@
 // Whole answer lines, and what several of them share.
 use crate::State;
 use crate::output;
-use table::Finish;
-use table::Number;
-use table::Refusal;
+use answers::Finish;
+use answers::Number;
+use answers::Refusal;
 
 // The answer to a line that is no call.
 pub(crate) fn bad_line(out: &mut [u8], state: State) -> State {
@@ -17,7 +17,7 @@ pub(crate) fn done(out: &mut [u8], state: State) -> State {
 
 // A refusal.
 pub(crate) fn refused(out: &mut [u8], r: Refusal, state: State) -> State {
-    named(out, b"refused ", table::refusal_number(r) as u64, state)
+    named(out, b"refused ", answers::refusal_number(r) as u64, state)
 }
 
 // A word with the space behind it, and a number.

@@ -6,16 +6,16 @@ use Prim.Native.Nat.{ℕ}
 use Rattle.trees.specs.Plain.{Answer, refused, gives}
 use Rattle.trees.specs.Held.{moreWanted, accepted}
 use Rattle.trees.specs.Held as held
-use Rattle.table.specs.declared.Refusal.{Refusal}
-use Rattle.table.specs.declared.Refusal.the-variants as why
-use Rattle.table.specs.declared.Finish.{Finish}
-use Rattle.table.specs.declared.Finish.the-variants as finish
-use Rattle.table.specs.declared.Number.{Number}
-use Rattle.table.specs.declared.Number.the-variants as number
-use Rattle.table.specs.declared.Recorded.{Recorded}
-use Rattle.table.specs.declared.Recorded.the-variants as recorded
-use Rattle.table.specs.declared.Progress.{Progress}
-use Rattle.table.specs.declared.Progress.the-variants as progress
+use Rattle.answers.specs.declared.Refusal.{Refusal}
+use Rattle.answers.specs.declared.Refusal.the-variants as why
+use Rattle.answers.specs.declared.Finish.{Finish}
+use Rattle.answers.specs.declared.Finish.the-variants as finish
+use Rattle.answers.specs.declared.Number.{Number}
+use Rattle.answers.specs.declared.Number.the-variants as number
+use Rattle.answers.specs.declared.Recorded.{Recorded}
+use Rattle.answers.specs.declared.Recorded.the-variants as recorded
+use Rattle.answers.specs.declared.Progress.{Progress}
+use Rattle.answers.specs.declared.Progress.the-variants as progress
 
 -- "Refusal numbers"
 unfoldable pub refusalNumber : Refusal → ℕ

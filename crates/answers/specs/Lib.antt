@@ -1,0 +1,2 @@
+-- The answers as document 01 has them.
+pub mod Answers

@@ -1,0 +1,88 @@
+// The answers of every call, and the numbers of taxa, trees, lanes and splits that calls are given and give.
+//
+// Read `specs/Answers.antt` for the answers as document 01 has them.
+ghost use mathlib.Core.Path.{_≡_};
+ghost use Rattle.answers.specs.Answers.{refusalNumber};
+
+// A taxon's number: its place in the name list, from 0.
+pub struct Taxon(pub u32);
+
+// The number of a lane, from 0.
+pub struct Lane(pub usize);
+
+// The number of an accepted tree, from 0, in order of acceptance.
+pub struct Tree(pub usize);
+
+// The number of a recorded split: its place, from 0, in the list by rising mask.
+pub struct Split(pub usize);
+
+// Why a call refuses: the table of document 01, in its order.
+pub enum Refusal {
+    NotWhole,
+    OutOfRange,
+    BadNames,
+    TooShort,
+    NoLane,
+    TooLong,
+    BadForm,
+    UnknownLeaf,
+    RepeatedLeaf,
+    MissingTaxon,
+    NoTreeRoom,
+    NoSplitRoom,
+    NoSuchNumber,
+    NoTrees,
+}
+
+// The answer of a call that gives nothing but that it was done.
+pub enum Finish {
+    Refused(Refusal),
+    Done,
+}
+
+// The answer of a call that gives a number, or how many elements it wrote.
+pub enum Number {
+    Refused(Refusal),
+    Gives(usize),
+}
+
+// The answer of a call that gives one split: its mask and its count.
+pub enum Recorded {
+    Refused(Refusal),
+    Gives(u64, u32),
+}
+
+// What feeding answers besides the bytes taken.
+pub enum Progress {
+    Refused(Refusal),
+    MoreWanted,
+    Accepted(Tree),
+}
+
+// The answer of feeding.
+pub struct Fed {
+    pub taken: usize,
+    pub progress: Progress,
+}
+
+// The number of a refusal in the table of document 01.
+pub fn refusal_number(r: Refusal) -> u32
+    ensures { λ n. ⌜ n ≡ refusalNumber r ⌝ }
+{
+    match r {
+        Refusal::NotWhole => 1,
+        Refusal::OutOfRange => 2,
+        Refusal::BadNames => 3,
+        Refusal::TooShort => 4,
+        Refusal::NoLane => 5,
+        Refusal::TooLong => 6,
+        Refusal::BadForm => 7,
+        Refusal::UnknownLeaf => 8,
+        Refusal::RepeatedLeaf => 9,
+        Refusal::MissingTaxon => 10,
+        Refusal::NoTreeRoom => 11,
+        Refusal::NoSplitRoom => 12,
+        Refusal::NoSuchNumber => 13,
+        Refusal::NoTrees => 14,
+    }
+}
