@@ -2,13 +2,13 @@
 use Prim.Native.Nat.{ℕ, suc, _+_, _%_, _^_}
 use native.Mathlib.Omega.{arith}
 use native.Mathlib.Nat.{add-zero, add-mod}
-use mathlib.Core.Path.{_≡_, refl, ap, ap₂, sym, _∙_}
+use mathlib.Core.Path.{_≡_, refl, ap, sym, _∙_}
 use mathlib.Core.Logic.{⊎-elim}
 use mathlib.Core.List.{List, [], _∷_, _++_, append-assoc}
 use lib.Bits.{bitOr, or-zero-l}
 use lib.ListN.{length, set}
 use lib.Seq.{sets}
-use Rattle.trees.specs.Tree.{Nodes, nil, leaf, inner, beside, width, leaves}
+use Rattle.trees.specs.Tree.{Nodes, nil, leaf, inner, beside, leaves}
 use Rattle.trees.specs.Splits.{taxon, taxa}
 use Rattle.trees.specs.Opening.{Opening}
 use Rattle.theorems.specs.FewLaws.{leaves-beside}
