@@ -69,32 +69,3 @@ pub records : (a : Answer (List ℕ)) (s t : List ℕ) (r : Progress) (u : List 
     → Accepts a s r u
 unfolding Accepts
 records a s t r u e q h = rw e (q, h)
-
-module _ (s : List ℕ) (n : ℕ) (ms ps is : List ℕ) (j : Judgeable s n ms ps is) where
-  pub placed : Placed s n ms ps
-  placed = record { each = j .placed }
-
-  module _ (w : wholeAt s ≡ true) (d : treesHeldAt s ≡ numbersAt s .treeRoom → ⊥)
-      (h : splitsHeldAt s + length (newSplits (heldAt s) (take n ms)) ≤ numbersAt s .splitRoom)
-      (old rs : List ℕ) (e : rs ≡ rowsFor s (splitsHeldAt s) (take n ms) ++ drop n old) where
-    rows-size : length (rowsFor s (splitsHeldAt s) (take n ms)) ≡ n
-    rows-size = rows-length s (splitsHeldAt s) (take n ms) ∙ length-take-le n ms (omega (arith, j .few, j .reach .0))
-
-    rows-reach : n ≤ length rs
-    rows-reach = rw e (omega (arith, rows-size, length-append (rowsFor s (splitsHeldAt s) (take n ms)) (drop n old)))
-
-    front-rows : take n rs ≡ rowsFor s (splitsHeldAt s) (take n ms)
-    front-rows =
-        rw e (ap (λ (k : ℕ). take k (rowsFor s (splitsHeldAt s) (take n ms) ++ drop n old)) (sym rows-size) ∙ take-append-seam (rowsFor s (splitsHeldAt s) (take n ms)) (drop n old))
-
-    pub recordable : Recordable s n ms ps is rs
-    recordable = record {
-      few = j .few;
-      reach = (omega (arith, j .few, j .reach .0), omega (arith, j .few, j .reach .1), omega (arith, j .few, j .reach .2), rows-reach);
-      good = j .good;
-      placed = j .placed;
-      identified = j .identified;
-      rowed = front-rows;
-      tree-room = omega (arith, d, whole-at-facts s w .head .trees-fit);
-      split-room = h;
-    }

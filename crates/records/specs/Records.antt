@@ -1,10 +1,10 @@
 -- A tree's splits with their places and identifiers: records of words, one behind the other.
---   wide            the words of a record
---   recordOf o m    the record of the mask m over the opening o: m, its place, its identifier
---   recordsOf o l   the records of the masks l over the opening o
---   withRecords     the words s with the records of the masks l at their front
---   masksOf k s     the masks of the first k records of the words s: each is the first word of its record
---   putIn j v l     the list l with the words v at place j
+--   wide                the words of a record
+--   recordOf o m        the record of the mask m over the opening o: m, its place, its identifier
+--   recordsOf o l       the records of the masks l over the opening o
+--   withRecords o l s   the words s with the records of the masks l at their front
+--   masksOf k s         the masks of the first k records of the words s: each is the first word of its record
+--   putIn j v l         the list l with the words v at place j
 use Prim.Native.Nat.{ℕ, zero, suc, _*_}
 use mathlib.Core.List.{List, [], _∷_, _++_}
 use lib.ListN.{length, getD, take, drop}
