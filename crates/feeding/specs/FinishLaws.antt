@@ -4,7 +4,7 @@
 --   held-text          the text that a lane holds
 --   judged-refused, judged-gives     what the reader answers
 --   opening-kept       a lane changed: the opening stays
---   judgeable          what accepting a tree asks, of the records of splits that stand at the front of a list
+--   splits-of          what accepting a tree asks, of the records of splits that stand at the front of a list
 --   front-tree         the masks of those records
 --   accepts-size       the lent bytes are as many as before
 --   finish-refused     a refused text: the lane is empty, and nothing else has changed
@@ -39,10 +39,10 @@ use Rattle.lanes.specs.LaneLaws.{lane-holding}
 use Rattle.newick.specs.Judge.{JudgedAs}
 use Rattle.newick.specs.declared.Judged.{Judged}
 use Rattle.newick.specs.declared.Judged.the-variants.{Refused, Splits}
-use Rattle.recording.specs.Recording.{Recorded}
+use Rattle.recording.specs.Recording.{SplitsOf, Recorded, Accepts}
 use Rattle.table.specs.Promises.{Holds}
 use Rattle.feeding.specs.Feeding.{isAccepted}
-use Rattle.feeding.specs.Texts.{verdictOn, Finished, Judgeable, Accepts}
+use Rattle.feeding.specs.Texts.{verdictOn, Finished}
 use Rattle.feeding.specs.HoldLaws.{size-held, lane-below, lane-holds}
 
 -- ---- the verdict
@@ -134,8 +134,8 @@ module _ (s u text x : List ℕ) (k : ℕ) (old new : List ℕ) (w : wholeAt s �
   mask-in : (j : ℕ) → j < k → getD new (wide * j) 0 ≡ getD x j 0
   mask-in j h = ap (λ (n : ℕ). getD new n 0) (sym (add-zero (wide * j))) ∙ word-in j 0 h (omega arith)
 
-  pub judgeable : Judgeable u k new
-  judgeable = record {
+  pub splits-of : SplitsOf u k new
+  splits-of = record {
     few = omega (arith, few, e);
     reach = rw t (omega (arith, e, records-length (openingAt s) x, length-append (recordsOf (openingAt s) x) (drop (wide * length x) old)));
     good = rw (numbers-in, front-tree (openingAt s) x k old new e t, ← named) (judged-good (openingAt s .names) text x q);

@@ -4,7 +4,7 @@ use native.Mathlib.Omega.{arith}
 use borrow.Author.Needs.{needs}
 use Rattle.answers.specs.Answers.{refusalNumber, progressGiven}
 use Rattle.lanes.specs.LaneLaws.{lane-overrun}
-use Rattle.feeding.specs.FinishLaws.{verdict-over, verdict-refused, verdict-room, held-text, judged-refused, judged-gives, opening-kept, front-tree, judgeable, accepts-size, finish-refused, finish-room}
+use Rattle.feeding.specs.FinishLaws.{verdict-over, verdict-refused, verdict-room, held-text, judged-refused, judged-gives, opening-kept, front-tree, splits-of, accepts-size, finish-refused, finish-room}
 use Rattle.feeding.proofs.verdicts.finish_text.Statement.{statement}
 use Rattle.feeding.proofs.verdicts.finish_text.Tie as tie
 
@@ -31,12 +31,12 @@ returns-2 c =
     let t = held-text _ (d .pre .0) _ (d .pre .1 .0) _ (i .before .lane-length .ensures .0) (i .if1 .left) in
     finish-refused _ _ (d .pre .1 .0) _ (c .before .before .before .before .before .empty-lane2 .ensures) _ _ (verdict-refused _ _ _ _ t j) refl
 
-accept-tree-requires : tie.Need-accept-tree-requires
-accept-tree-requires c κs =
+accept-requires : tie.Need-accept-requires
+accept-requires c κs =
     let d = c .before .before .before .before .before .before .before .before .before .before .before .before .before .before .before .before .before in
     let j = judged-gives _ _ _ _ _ (c .before .before .before .before .before .before .before .before .before .before .judge-lane .ensures) _ (c .before .before .before .judged2 .given .1) in
     let e = c .before .before .before .before .before .before .before .empty-lane2 .ensures in
-    (e .whole, judgeable _ _ _ (j .0) _ _ _ (d .pre .0) (opening-kept _ _ _ _ e) (j .1) (j .2) (j .3))
+    (e .whole, splits-of _ _ _ (j .0) _ _ _ (d .pre .0) (opening-kept _ _ _ _ e) (j .1) (j .2) (j .3))
 
 returns-3 : tie.Need-returns-3
 returns-3 c =
@@ -46,7 +46,7 @@ returns-3 c =
     let t = held-text _ (d .pre .0) _ (d .pre .1 .0) _ (i .before .lane-length .ensures .0) (i .if1 .left) in
     let e = front-tree _ _ _ _ _ (j .2) (j .3) in
     finish-room _ _ (d .pre .1 .0) _ (c .before .before .before .before .before .before .before .before .before .before .empty-lane2 .ensures) (j .0) _ _ _ e
-    (verdict-room _ _ _ _ t (j .1)) (c .before .before .accept-tree .ensures)
+    (verdict-room _ _ _ _ t (j .1)) (c .before .before .accept .ensures)
 
 pub finish-text-spec : {M : Type 1} → statement M
 finish-text-spec =
@@ -62,8 +62,8 @@ finish-text-spec =
     (λ c. search needs)
     (λ c. search needs)
     (λ c. search needs)
-    accept-tree-requires
+    accept-requires
     (λ c. c .before .before .before .before .before .empty-lane2 .ensures .size)
     returns-2
-    (λ c. accepts-size _ _ _ _ (c .before .before .accept-tree .ensures) ∙ c .before .before .before .before .before .before .before .before .before .before .empty-lane2 .ensures .size)
+    (λ c. accepts-size _ _ _ _ (c .before .before .accept .ensures) ∙ c .before .before .before .before .before .before .before .before .before .before .empty-lane2 .ensures .size)
     returns-3)
