@@ -36,7 +36,8 @@ module _ (ns : List (List ℕ)) where
   inners-clusters (inner c r) x h =
       go (mem-cases x (inners ns c) (taxa ns c ∷ inners ns r) h) (inners-clusters c x) (inners-clusters r x)
     where
-      go : Mem x (inners ns c) ⊎ ((x ≡ taxa ns c) ⊎ Mem x (inners ns r)) → (Mem x (inners ns c) → Mem x (clusters ns c)) → (Mem x (inners ns r) → Mem x (clusters ns r))
+      go : Mem x (inners ns c) ⊎ ((x ≡ taxa ns c) ⊎ Mem x (inners ns r)) → (Mem x (inners ns c) → Mem x (clusters ns c))
+          → (Mem x (inners ns r) → Mem x (clusters ns r))
           → Mem x (clusters ns c ++ (taxa ns c ∷ clusters ns r))
       go (inl k) p q = mem-left x (clusters ns c) (taxa ns c ∷ clusters ns r) (p k)
       go (inr (inl e)) p q = mem-right x (clusters ns c) (taxa ns c ∷ clusters ns r) (inl e)
@@ -54,7 +55,8 @@ module _ (ns : List (List ℕ)) where
   clusters-inners (inner c r) x h =
       go (mem-cases x (clusters ns c) (taxa ns c ∷ clusters ns r) h) (clusters-inners c x) (clusters-inners r x)
     where
-      go : Mem x (clusters ns c) ⊎ ((x ≡ taxa ns c) ⊎ Mem x (clusters ns r)) → (Mem x (clusters ns c) → Mem x (inners ns c) ⊎ OfLeaf x) → (Mem x (clusters ns r) → Mem x (inners ns r) ⊎ OfLeaf x)
+      go : Mem x (clusters ns c) ⊎ ((x ≡ taxa ns c) ⊎ Mem x (clusters ns r)) → (Mem x (clusters ns c) → Mem x (inners ns c) ⊎ OfLeaf x)
+          → (Mem x (clusters ns r) → Mem x (inners ns r) ⊎ OfLeaf x)
           → Mem x (inners ns c ++ (taxa ns c ∷ inners ns r)) ⊎ OfLeaf x
       go (inl k) p q = ⊎-map (mem-left x (inners ns c) (taxa ns c ∷ inners ns r)) (λ y. y) (p k)
       go (inr (inl e)) p q = inl (mem-right x (inners ns c) (taxa ns c ∷ inners ns r) (inl e))

@@ -74,7 +74,8 @@ module _ (o : Opening) (s u : List ℕ) where
   unfolding JudgedAs reading refusalNumber
   judged-none n = (unread (o .names) s (ap alone (n (suc (2 * length s)) (omega arith))), refl)
 
-  pub judged-more : (t : Nodes) (j : ℕ) (r : Next) → NodeIs s 63 0 t j → Seen s j r → OneOf (1 ∷ 2 ∷ 3 ∷ 4 ∷ 5 ∷ 6 ∷ []) (tag r) → JudgedAs o s (Refused BadForm) u u
+  pub judged-more : (t : Nodes) (j : ℕ) (r : Next) → NodeIs s 63 0 t j → Seen s j r → OneOf (1 ∷ 2 ∷ 3 ∷ 4 ∷ 5 ∷ 6 ∷ []) (tag r)
+      → JudgedAs o s (Refused BadForm) u u
   unfolding JudgedAs reading Seen refusalNumber
   judged-more t j r n q k = (unread (o .names) s (ap alone (n .reads (suc (2 * length s)) (omega arith)) ∙ go r q k), refl)
     where
@@ -163,7 +164,8 @@ module _ (o : Opening) (g : GoodOpening o) (s l l′ : List ℕ) (t : Nodes) (e 
       root : Hashed o (x .mask) (x .place) (x .identifier)
       root = rw (w .masked, w .placed, w .identified) (hashed-nodes o g t distinct)
 
-      pub gathering-asks : ((wide * e .used ≤ length l′) × (e .used ≤ 64) × AllHashed o (e .used) l′) × Hashed o (x .mask) (x .place) (x .identifier) × (x .mask ≡ everyTaxon (o .numbers .taxa))
+      pub gathering-asks : ((wide * e .used ≤ length l′) × (e .used ≤ 64) × AllHashed o (e .used) l′)
+          × Hashed o (x .mask) (x .place) (x .identifier) × (x .mask ≡ everyTaxon (o .numbers .taxa))
       gathering-asks =
           let b = fits in
           let c = size in
@@ -176,7 +178,8 @@ module _ (o : Opening) (g : GoodOpening o) (s l l′ : List ℕ) (t : Nodes) (e 
           ap₂ counted (sym (g .named .count)) (ap₂ masksOf used-is found ∙ masks-records o masks _)
           ∙ inners-splits o g (reading-sound s t is-read) (all-seen (o .names) t no-fault)
 
-      pub judged-splits : (k : ℕ) (u v : List ℕ) → (k ≡ length (counted (o .numbers .taxa) (masksOf (e .used) l′))) × (v ≡ withRecords o (counted (o .numbers .taxa) (masksOf (e .used) l′)) u)
+      pub judged-splits : (k : ℕ) (u v : List ℕ)
+          → (k ≡ length (counted (o .numbers .taxa) (masksOf (e .used) l′))) × (v ≡ withRecords o (counted (o .numbers .taxa) (masksOf (e .used) l′)) u)
           → JudgedAs o s (Splits k) u v
       unfolding JudgedAs
       judged-splits k u v p =
