@@ -4,45 +4,45 @@
 --   held-text          the text that a lane holds
 --   judged-refused, judged-gives     what the reader answers
 --   opening-kept       a lane changed: the opening stays
---   judgeable          what accepting a tree asks, of the splits that stand at the fronts of three lists
---   front-tree         the splits that stand at the front
+--   splits-of          what accepting a tree asks, of the records of splits that stand at the front of a list
+--   front-tree         the masks of those records
 --   accepts-size       the lent bytes are as many as before
 --   finish-refused     a refused text: the lane is empty, and nothing else has changed
 --   finish-room        a text that gives splits: refused for want of room, or recorded
-use Prim.Native.Nat.{ℕ, zero, suc, _+_, _≤_, _<_}
+use Prim.Native.Nat.{ℕ, _+_, _*_, _≤_, _<_}
+use native.Mathlib.Nat.{add-zero}
 use native.Mathlib.Omega.{arith}
 use mathlib.Core.Path.{_≡_, refl, sym, ap, subst, _∙_}
 use mathlib.Core.Logic.{inr}
 use mathlib.Core.Bool.{true, true≢false}
-use mathlib.Core.List.{List, [], _∷_, _++_, map}
-use lib.ListN.{length, getD, take, drop, length-append, length-drop}
-use lib.Seq.{take-append-seam}
+use mathlib.Core.List.{List, []}
+use lib.ListN.{length, getD, take, drop, length-append}
 use Rattle.trees.specs.Plain.{Answer, refused, gives}
-use Rattle.trees.specs.Hash.{place, identifier}
 use Rattle.trees.specs.Opening.{Opening, storeSize}
 use Rattle.trees.specs.Held.{Held, Lane, holding, overrun, laneOf, withLane, withTree, roomFor, withRoom, verdict, finished, recording, accepted}
 use Rattle.trees.specs.Verdict.{judged}
 use Rattle.theorems.specs.VerdictLaws.{judged-good}
 use Rattle.theorems.specs.FewLaws.{few-splits}
 use Rattle.answers.specs.declared.Progress.{Progress}
-use Rattle.answers.specs.Answers.{progressGiven}
+use Rattle.answers.specs.declared.Refusal.{Refusal}
+use Rattle.answers.specs.Answers.{refusalNumber, progressGiven}
 use Rattle.fields.specs.Field.{number}
+use Rattle.records.specs.Records.{wide, recordOf, recordsOf, withRecords, masksOf}
+use Rattle.records.specs.RecordLaws.{records-length, record-at, masks-records}
 use Rattle.head.specs.Head.{numbersAt, firstAt, secondAt, openingAt}
 use Rattle.layout.specs.Store.{treesHeldAt, laneFrom, sizeAt, heldAt, heldIn}
 use Rattle.layout.specs.WholeStore.{wholeAt}
-use Rattle.store.specs.ListTestLaws.{length-map}
 use Rattle.store.specs.RecordedAtLaws.{trees-length}
 use Rattle.store.specs.HeldWholeLaws.{opening-facts}
 use Rattle.lanes.specs.Lanes.{LaneIs}
 use Rattle.lanes.specs.LaneLaws.{lane-holding}
-use Rattle.newick.specs.Splits.{Stands}
 use Rattle.newick.specs.Judge.{JudgedAs}
 use Rattle.newick.specs.declared.Judged.{Judged}
 use Rattle.newick.specs.declared.Judged.the-variants.{Refused, Splits}
 use Rattle.store.specs.Lent.{Holds}
-use Rattle.recording.specs.Recording.{Recorded}
+use Rattle.recording.specs.Recording.{Recorded, SplitsOf, Accepts}
 use Rattle.feeding.specs.Feeding.{isAccepted}
-use Rattle.feeding.specs.Texts.{verdictOn, Finished, Judgeable, Accepts}
+use Rattle.feeding.specs.Texts.{verdictOn, Finished}
 use Rattle.feeding.specs.HoldLaws.{size-held, lane-below, lane-holds}
 
 -- ---- the verdict
@@ -75,14 +75,14 @@ held-text s w l m n e d = lane-holding s w l m (λ q. d (e ∙ q)) ∙ rw e
 
 -- ---- the reader's answer
 
-module _ (o : Opening) (s : List ℕ) (r : Judged) (ms ps is ms′ ps′ is′ : List ℕ) (h : JudgedAs o s r ms ps is ms′ ps′ is′) (k : ℕ) where
-  pub judged-refused : r ≡ Refused k → judged (o .names) s ≡ refused k
+module _ (o : Opening) (s : List ℕ) (r : Judged) (u v : List ℕ) (h : JudgedAs o s r u v) where
+  pub judged-refused : (q : Refusal) → r ≡ Refused q → judged (o .names) s ≡ refused (refusalNumber q)
   unfolding JudgedAs
-  judged-refused e = subst (λ (z : Judged). JudgedAs o s z ms ps is ms′ ps′ is′) e h .0
+  judged-refused q e = subst (λ (z : Judged). JudgedAs o s z u v) e h .0
 
-  pub judged-gives : r ≡ Splits k → (l : List ℕ) × (judged (o .names) s ≡ gives l) × (k ≡ length l) × Stands o l ms ps is ms′ ps′ is′
+  pub judged-gives : (k : ℕ) → r ≡ Splits k → (l : List ℕ) × (judged (o .names) s ≡ gives l) × (k ≡ length l) × (v ≡ withRecords o l u)
   unfolding JudgedAs
-  judged-gives e = subst (λ (z : Judged). JudgedAs o s z ms ps is ms′ ps′ is′) e h
+  judged-gives k e = subst (λ (z : Judged). JudgedAs o s z u v) e h
 
 -- ---- a lane changed
 
@@ -103,32 +103,18 @@ module _ (s : List ℕ) (l : ℕ) (y : Lane) (u : List ℕ) (c : LaneIs s l y u)
   unfolding sizeAt openingAt
   size-kept = ap (λ (o : Opening). storeSize (o .numbers)) opening-kept
 
--- ---- splits at the fronts of three lists
+-- ---- the records of splits at the front of a list
 
-pub front-tree : (o : Opening) (x : List ℕ) (k : ℕ) (ms ps is ms′ ps′ is′ : List ℕ) → k ≡ length x → Stands o x ms ps is ms′ ps′ is′ → take k ms′ ≡ x
-front-tree o x k ms ps is ms′ ps′ is′ e t = rw (e, t .masks) (take-append-seam x (drop (length x) ms))
+pub front-tree : (o : Opening) (x : List ℕ) (k : ℕ) (old new : List ℕ) → k ≡ length x → new ≡ withRecords o x old → masksOf k new ≡ x
+front-tree o x k old new e t = rw (e, t) (masks-records o x (drop (wide * length x) old))
 
-front-at : (x r : List ℕ) (j : ℕ) → j < length x → getD (x ++ r) j 0 ≡ getD x j 0
-front-at [] r j h = absurd (omega arith)
-front-at (y ∷ x) r zero h = refl
-front-at (y ∷ x) r (suc j) h = front-at x r j (omega arith)
-
-map-at : (f : ℕ → ℕ) (x r : List ℕ) (j : ℕ) → j < length x → getD (map f x ++ r) j 0 ≡ f (getD x j 0)
-map-at f [] r j h = absurd (omega arith)
-map-at f (y ∷ x) r zero h = refl
-map-at f (y ∷ x) r (suc j) h = map-at f x r j (omega arith)
-
-module _ (s u text x : List ℕ) (k : ℕ) (ms ps is ms′ ps′ is′ : List ℕ)
-    (w : wholeAt s ≡ true) (o : openingAt u ≡ openingAt s) (q : judged (openingAt s .names) text ≡ gives x) (e : k ≡ length x)
-    (a : 64 ≤ length ms) (b : 64 ≤ length ps) (c : 64 ≤ length is) (t : Stands (openingAt s) x ms ps is ms′ ps′ is′) where
+module _ (s u text x : List ℕ) (k : ℕ) (old new : List ℕ) (w : wholeAt s ≡ true) (o : openingAt u ≡ openingAt s)
+    (q : judged (openingAt s .names) text ≡ gives x) (e : k ≡ length x) (t : new ≡ withRecords (openingAt s) x old) where
   named : length (openingAt s .names) ≡ openingAt s .numbers .taxa
   named = opening-facts s w .named .count
 
   few : length x ≤ 62
   few = let g = opening-facts s w .ranges in omega (arith, few-splits (openingAt s .names) text x (omega (arith, named, g .least-taxa)) q, named, g .most-taxa)
-
-  mask-in : (j : ℕ) → j < k → getD ms′ j 0 ≡ getD x j 0
-  mask-in j h = rw (t .masks) (front-at x (drop (length x) ms) j (omega arith))
 
   numbers-in : numbersAt u ≡ openingAt s .numbers
   unfolding openingAt
@@ -142,21 +128,19 @@ module _ (s u text x : List ℕ) (k : ℕ) (ms ps is ms′ ps′ is′ : List �
   unfolding openingAt
   second-in = ap (λ (z : Opening). z .second) o
 
-  -- what stands at the front is as long as the splits, and what lay behind is kept
-  still-long : (y old new : List ℕ) → length y ≡ length x → 64 ≤ length old → new ≡ y ++ drop (length x) old → 64 ≤ length new
-  still-long y old new d f g = rw g (omega (arith, length-append y (drop (length x) old), length-drop (length x) old))
+  word-in : (j i : ℕ) → j < k → i < wide → getD new (wide * j + i) 0 ≡ getD (recordOf (openingAt s) (getD x j 0)) i 0
+  word-in j i h b = rw t (record-at (openingAt s) x (drop (wide * length x) old) j i (omega arith) b)
 
-  pub judgeable : Judgeable u k ms′ ps′ is′
-  judgeable = record {
+  mask-in : (j : ℕ) → j < k → getD new (wide * j) 0 ≡ getD x j 0
+  mask-in j h = ap (λ (n : ℕ). getD new n 0) (sym (add-zero (wide * j))) ∙ word-in j 0 h (omega arith)
+
+  pub splits-of : SplitsOf u k new
+  splits-of = record {
     few = omega (arith, few, e);
-    reach = (
-      still-long x ms ms′ refl a (t .masks),
-      still-long (map (place (openingAt s .first) (openingAt s .numbers .places)) x) ps ps′ (length-map (place (openingAt s .first) (openingAt s .numbers .places)) x) b (t .places),
-      still-long (map (identifier (openingAt s .second)) x) is is′ (length-map (identifier (openingAt s .second)) x) c (t .identifiers),
-    );
-    good = rw (numbers-in, front-tree (openingAt s) x k ms ps is ms′ ps′ is′ e t, ← named) (judged-good (openingAt s .names) text x q);
-    placed = λ j h. rw (first-in, numbers-in, mask-in j h, t .places) (map-at (place (openingAt s .first) (openingAt s .numbers .places)) x (drop (length x) ps) j (omega arith));
-    identified = λ j h. rw (second-in, mask-in j h, t .identifiers) (map-at (identifier (openingAt s .second)) x (drop (length x) is) j (omega arith));
+    reach = rw t (omega (arith, e, records-length (openingAt s) x, length-append (recordsOf (openingAt s) x) (drop (wide * length x) old)));
+    good = rw (numbers-in, front-tree (openingAt s) x k old new e t, ← named) (judged-good (openingAt s .names) text x q);
+    placed = λ j h. rw (first-in, numbers-in, mask-in j h) (word-in j 1 h (omega arith));
+    identified = λ j h. rw (second-in, mask-in j h) (word-in j 2 h (omega arith));
   }
 
 -- ---- the text is judged, and the lane empty

@@ -4,7 +4,6 @@ pub mod Texts
 pub mod EndLaws
 pub mod HoldLaws
 pub mod ClosingLaws
-pub mod AcceptLaws
 pub mod FinishLaws
 pub mod FedLaws
 pub mod BatchLaws

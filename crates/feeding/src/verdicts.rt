@@ -4,19 +4,15 @@ ghost use mathlib.Core.Path.{_≡_};
 ghost use mathlib.Core.Bool.{true};
 ghost use Prim.Native.Nat.{_+_, _*_, _≤_, _<_};
 ghost use lib.ListN.{length, take, drop};
-ghost use Rattle.trees.specs.Held.{roomFor};
-ghost use Rattle.answers.specs.Answers.{refusalNumber};
-ghost use Rattle.fields.specs.Field.{number};
 ghost use Rattle.head.specs.Head.{numbersAt, namesAt, openingAt};
 ghost use Rattle.head.specs.Index.{Indexed};
-ghost use Rattle.layout.specs.Store.{laneFrom, heldAt};
+ghost use Rattle.layout.specs.Store.{laneFrom};
 ghost use Rattle.layout.specs.WholeStore.{wholeAt};
 ghost use Rattle.newick.specs.Judge.{JudgedAs};
-ghost use Rattle.feeding.specs.Texts.{Finished, Judgeable, Accepts};
+ghost use Rattle.feeding.specs.Texts.{Finished};
 use answers::Lane;
 use answers::Progress;
 use answers::Refusal;
-use answers::Tree;
 use newick::Judged;
 
 // The verdict on the text of a lane, which is empty afterwards.
@@ -31,23 +27,12 @@ pub(crate) fn finish_text(s: &mut [u8], starts: &[u8; 128], links: &[u8; 64], l:
         lanes::empty_lane(s, l);
         return Progress::Refused(Refusal::TooLong);
     }
-    let mut masks = [0u64; 64];
-    let mut places = [0u64; 64];
-    let mut identifiers = [0u64; 64];
-    let judged = judge_lane(
-        s,
-        starts,
-        links,
-        l,
-        n,
-        &mut masks,
-        &mut places,
-        &mut identifiers,
-    );
+    let mut records = [0u64; 192];
+    let judged = judge_lane(s, starts, links, l, n, &mut records);
     lanes::empty_lane(s, l);
     match judged {
-        Judged::Refused(k) => Progress::Refused(refusal_of(k)),
-        Judged::Splits(k) => accept_tree(s, k, &masks, &places, &identifiers),
+        Judged::Refused(r) => Progress::Refused(r),
+        Judged::Splits(k) => recording::accept(s, k, &records),
     }
 }
 
@@ -58,67 +43,15 @@ fn judge_lane(
     links: &[u8; 64],
     l: Lane,
     n: usize,
-    masks: &mut [u64],
-    places: &mut [u64],
-    identifiers: &mut [u64],
+    records: &mut [u64],
 ) -> Judged
     requires { ⌜ wholeAt (now s) ≡ true ⌝ }
     requires { ⌜ l .0 < numbersAt (now s) .lanes ⌝ }
     requires { ⌜ Indexed (namesAt (now s)) (now starts) (now links) ⌝ }
     requires { ⌜ n ≤ 4096 ⌝ }
-    requires { ⌜ (64 ≤ length (now masks)) × (64 ≤ length (now places)) × (64 ≤ length (now identifiers)) ⌝ }
-    ensures { λ r. ⌜ JudgedAs (openingAt (now (s .entry))) (take n (drop (laneFrom (l .0) + 8) (now (s .entry)))) r (now (masks .entry)) (now (places .entry)) (now (identifiers .entry)) (now (masks .exit)) (now (places .exit)) (now (identifiers .exit)) ⌝ }
+    requires { ⌜ 192 ≤ length (now records) ⌝ }
+    ensures { λ r. ⌜ JudgedAs (openingAt (now (s .entry))) (take n (drop (laneFrom (l .0) + 8) (now (s .entry)))) r (now (records .entry)) (now (records .exit)) ⌝ }
 {
     let from = 4104 + 4104 * l.0;
-    newick::judge(
-        s,
-        starts,
-        links,
-        &s[from..from + n],
-        masks,
-        places,
-        identifiers,
-    )
-}
-
-// The refusal with the number k of a text's own verdict.
-fn refusal_of(k: u32) -> Refusal
-    requires { ⌜ (7 ≤ k) × (k ≤ 10) ⌝ }
-    ensures { λ r. ⌜ refusalNumber r ≡ k ⌝ }
-{
-    if k == 7 {
-        return Refusal::BadForm;
-    }
-    if k == 8 {
-        return Refusal::UnknownLeaf;
-    }
-    if k == 9 {
-        return Refusal::RepeatedLeaf;
-    }
-    Refusal::MissingTaxon
-}
-
-// Records the tree of the first n masks, if there is room for it and for its new splits.
-fn accept_tree(
-    s: &mut [u8],
-    n: usize,
-    masks: &[u64],
-    places: &[u64],
-    identifiers: &[u64],
-) -> Progress
-    requires { ⌜ wholeAt (now s) ≡ true ⌝ }
-    requires { ⌜ Judgeable (now s) n (now masks) (now places) (now identifiers) ⌝ }
-    ensures { λ r. ⌜ Accepts (roomFor (heldAt (now (s .entry))) (take n (now (masks .entry)))) (now (s .entry)) r (now (s .exit)) ⌝ }
-{
-    let t = layout::trees_held(s);
-    if t == head::tree_room(s) as usize {
-        return Progress::Refused(Refusal::NoTreeRoom);
-    }
-    let mut rows = [0u64; 64];
-    let new = finding::find_rows(s, n, masks, places, &mut rows);
-    if (head::split_room(s) as usize) < layout::splits_held(s) + new {
-        return Progress::Refused(Refusal::NoSplitRoom);
-    }
-    recording::record_tree(s, n, masks, places, identifiers, &rows);
-    Progress::Accepted(Tree(t))
+    newick::judge(s, starts, links, &s[from..from + n], records)
 }

@@ -3,11 +3,13 @@
 --   after-fault      leaves behind a fault change nothing
 --   faultOf n l      the fault of all leaves, of n taxa, when they are judged as far as l
 --   fault-is         it is that of the verdict
+--   fault-kinds      leaves come to no fault, 8 or 9
 --   all-seen         leaves without a fault: their taxa are all taxa
 use Prim.Native.Nat.{ℕ, _+_, _^_}
 use native.Mathlib.Omega.{arith}
 use native.Mathlib.Nat.{zero-add}
 use mathlib.Core.Path.{_≡_, refl, ap, sym, _∙_}
+use mathlib.Core.Logic.{_⊎_, inl, inr}
 use mathlib.Core.Bool.{Bool, true, false}
 use mathlib.Core.List.{List, [], _∷_, append-nil}
 use mathlib.Core.Option.{Option, none, some}
@@ -20,7 +22,7 @@ use Rattle.trees.specs.Tree.{Nodes, leaves}
 use Rattle.trees.specs.Names.{taxonOf}
 use Rattle.trees.specs.Splits.{taxa}
 use Rattle.trees.specs.Verdict.{leafFault}
-use Rattle.theorems.specs.ListLaws.{if-false}
+use Rattle.theorems.specs.ListLaws.{by-test, if-false}
 use Rattle.theorems.specs.MaskLaws.{has-on, has-off}
 use Rattle.theorems.specs.FewLaws.{none-missing}
 use Rattle.theorems.specs.VerdictLaws.{leaf-unknown, leaf-again, leaf-new, leaves-distinct}
@@ -58,6 +60,21 @@ pub fault-is : (ns : List (List ℕ)) (seen : ℕ) (ws : List (List ℕ)) → le
 unfolding leafFault leavesAfter leafStep faultOf
 fault-is ns seen [] = refl
 fault-is ns seen (w ∷ ws) = first-leaf ns seen w ws (taxonOf ns w) refl (λ i. fault-is ns (seen + 2 ^ i) ws)
+
+-- ---- the faults of leaves
+
+abbrev Kind : ℕ → Type 0
+Kind f = (f ≡ 0) ⊎ ((f ≡ 8) ⊎ (f ≡ 9))
+
+leaf-kind : (seen : ℕ) (o : Option ℕ) → Kind (leafBy seen o .fault)
+leaf-kind seen none = inr (inl refl)
+leaf-kind seen (some i) = by-test (λ (l : Leaves). Kind (l .fault)) (has seen i) (λ e. inr (inr refl)) (λ e. inl refl)
+
+pub fault-kinds : (ns : List (List ℕ)) (l : Leaves) (ws : List (List ℕ)) → Kind (l .fault) → Kind (leavesAfter ns l ws .fault)
+unfolding leavesAfter leafStep
+fault-kinds ns l [] k = k
+fault-kinds ns l (w ∷ ws) k =
+    fault-kinds ns (leafStep ns l w) ws (by-test (λ (x : Leaves). Kind (x .fault)) (eqb (l .fault) 0) (λ e. leaf-kind (l .seen) (taxonOf ns w)) (λ e. k))
 
 -- ---- no fault
 

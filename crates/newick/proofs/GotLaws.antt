@@ -19,6 +19,7 @@ use Rattle.text.specs.declared.Next.{Next}
 use Rattle.text.specs.declared.Next.the-variants.{Open, Comma, Token}
 use Rattle.text.specs.declared.Cursor.{Cursor}
 use Rattle.text.specs.declared.Read.the-variants.{Past}
+use Rattle.records.specs.Records.{wide}
 use Rattle.newick.specs.Gather.{constantOf, leafSum, placeSum, identifierSum, records, leavesAfter, leavesOf, LeafTaken, NoNode, NoNodes, NodeIs, NodesIs, Gathered, NodeGot, NodesGot}
 use Rattle.newick.specs.declared.gather.Mark.{Mark}
 use Rattle.newick.specs.declared.gather.Sums.{Sums}
@@ -82,7 +83,7 @@ inner-records o t x a b c =
 
 module _ (o : Opening) (s : List ℕ) (d : ℕ) (c : Mark) (l : List ℕ) where
   -- ---- a leaf
-  pub got-leaf : (b e : ℕ) (g : Cursor) (x : Sums) (seen fault : ℕ) → GoodOpening o → Seen s (c .at) (Token b e) → LengthRead s e (Past g) → LeafTaken o (slice b e s) (leavesOf c) x seen fault → c .used ≤ 3 * c .at
+  pub got-leaf : (b e : ℕ) (g : Cursor) (x : Sums) (seen fault : ℕ) → GoodOpening o → Seen s (c .at) (Token b e) → LengthRead s e (Past g) → LeafTaken o (slice b e s) (leavesOf c) x seen fault → c .used ≤ c .at
       → NodeGot o s d c l (Taken (record { at = g .at; used = c .used; seen = seen; fault = fault }) x) l
   unfolding NodeGot Seen LengthRead width taxa records leaves leavesAfter
   got-leaf b e g x seen fault good p q t h =
@@ -95,7 +96,7 @@ module _ (o : Opening) (s : List ℕ) (d : ℕ) (c : Mark) (l : List ℕ) where
           placed = t .placed ∙ leaf-place o good w;
           identified = t .identified ∙ leaf-identifier o good w;
           stored = refl;
-          moved = sym (add-zero (c .used));
+          moved = sym (add-zero (wide * c .used));
           judged = t .judged;
           few = omega arith;
         },
@@ -103,8 +104,8 @@ module _ (o : Opening) (s : List ℕ) (d : ℕ) (c : Mark) (l : List ℕ) where
 
   -- ---- an inner node
   pub got-inner : (e : ℕ) (g : Mark) (x : Sums) (k : ℕ) (h : Cursor) (l₁ l₂ : List ℕ) → Seen s (c .at) (Open e) → (d ≡ 0 → ⊥)
-      → NodesGot o s (d - 1) (record { at = e; used = c .used; seen = c .seen; fault = c .fault }) l (All g x k) l₁ → ClosingRead s (g .at) k (Past h) → l₂ ≡ sets l₁ (g .used) (x .mask ∷ x .place ∷ x .identifier ∷ [])
-      → NodeGot o s d c l (Taken (record { at = h .at; used = g .used + 3; seen = g .seen; fault = g .fault }) x) l₂
+      → NodesGot o s (d - 1) (record { at = e; used = c .used; seen = c .seen; fault = c .fault }) l (All g x k) l₁ → ClosingRead s (g .at) k (Past h) → l₂ ≡ sets l₁ (wide * g .used) (x .mask ∷ x .place ∷ x .identifier ∷ [])
+      → NodeGot o s d c l (Taken (record { at = h .at; used = g .used + 1; seen = g .seen; fault = g .fault }) x) l₂
   unfolding Seen ClosingRead NodeGot NodesGot width
   got-inner e g x k h l₁ l₂ p z q r u =
       let a = p .1 in
@@ -118,7 +119,7 @@ module _ (o : Opening) (s : List ℕ) (d : ℕ) (c : Mark) (l : List ℕ) where
           masked = w .masked ∙ inner-taxa (o .names) t;
           placed = w .placed ∙ inner-place o t;
           identified = w .identified ∙ inner-identifier o t;
-          stored = u ∙ ap₂ (λ y (j : ℕ). sets y j (x .mask ∷ x .place ∷ x .identifier ∷ [])) (w .stored) (w .moved) ∙ sym (sets-append (records o t) l (c .used) (x .mask ∷ x .place ∷ x .identifier ∷ [])) ∙ ap (sets l (c .used)) v;
+          stored = u ∙ ap₂ (λ y (j : ℕ). sets y j (x .mask ∷ x .place ∷ x .identifier ∷ [])) (w .stored) (w .moved) ∙ sym (sets-append (records o t) l (wide * c .used) (x .mask ∷ x .place ∷ x .identifier ∷ [])) ∙ ap (sets l (wide * c .used)) v;
           moved = omega (arith, w .moved, length-append (records o t) (x .mask ∷ x .place ∷ x .identifier ∷ []), ap length v);
           judged = w .judged ∙ ap (leavesAfter (o .names) (leavesOf c)) (inner-leaves t);
           few = omega (arith, w .few, r .1);
@@ -152,7 +153,7 @@ module _ (o : Opening) (s : List ℕ) (d : ℕ) (c : Mark) (l : List ℕ) where
           masked = u .0 ∙ ap₂ bitOr (v .masked) (w .masked) ∙ sym (taxa-beside (o .names) t m);
           placed = u .1 ∙ ap (λ (f : ℕ). (x .place + y .place) % f) same ∙ ap₂ (λ (f h : ℕ). (f + h) % o .numbers .places) (v .placed) (w .placed) ∙ place-beside o t m;
           identified = u .2 ∙ ap₂ (λ (f h : ℕ). (f + h) % 2 ^ 64) (v .identified) (w .identified) ∙ identifier-beside o t m;
-          stored = w .stored ∙ ap₂ (λ f (h : ℕ). sets f h (records o m)) (v .stored) (v .moved) ∙ sym (sets-append (records o t) l (c .used) (records o m)) ∙ ap (sets l (c .used)) (sym (records-beside o t m));
+          stored = w .stored ∙ ap₂ (λ f (h : ℕ). sets f h (records o m)) (v .stored) (v .moved) ∙ sym (sets-append (records o t) l (wide * c .used) (records o m)) ∙ ap (sets l (wide * c .used)) (sym (records-beside o t m));
           moved = omega (arith, v .moved, w .moved, length-append (records o t) (records o m), ap length (records-beside o t m));
           judged = w .judged ∙ ap (λ f. leavesAfter (o .names) f (leaves m)) (v .judged) ∙ after-beside (o .names) (leavesOf c) t m;
           few = w .few;

@@ -4,7 +4,7 @@ pub mod GotLaws
 pub mod LeafLaws
 pub mod TurnLaws
 pub mod StandLaws
-pub mod RecordLaws
+pub mod CountedLaws
 pub mod GatheringLaws
 pub mod FaultLaws
 pub mod HashedLaws

@@ -1,15 +1,14 @@
 -- Laws of what is gathered: of nodes put beside each other, of a leaf, of an inner node.
 use Prim.Native.Nat.{ℕ, suc, _+_, _%_, _^_}
 use native.Mathlib.Omega.{arith}
-use native.Mathlib.Numerals.{add-one, add-two}
 use native.Mathlib.Nat.{add-zero, add-mod}
-use mathlib.Core.Path.{_≡_, refl, ap, ap₂, sym, _∙_}
+use mathlib.Core.Path.{_≡_, refl, ap, sym, _∙_}
 use mathlib.Core.Logic.{⊎-elim}
 use mathlib.Core.List.{List, [], _∷_, _++_, append-assoc}
 use lib.Bits.{bitOr, or-zero-l}
 use lib.ListN.{length, set}
 use lib.Seq.{sets}
-use Rattle.trees.specs.Tree.{Nodes, nil, leaf, inner, beside, width, leaves}
+use Rattle.trees.specs.Tree.{Nodes, nil, leaf, inner, beside, leaves}
 use Rattle.trees.specs.Splits.{taxon, taxa}
 use Rattle.trees.specs.Opening.{Opening}
 use Rattle.theorems.specs.FewLaws.{leaves-beside}
@@ -71,7 +70,3 @@ after-beside ns l t k = sym (ap (leavesAfter ns l) (leaves-beside t k) ∙ after
 pub sets-append : (vs l : List ℕ) (i : ℕ) (ws : List ℕ) → sets l i (vs ++ ws) ≡ sets (sets l i vs) (i + length vs) ws
 sets-append [] l i ws = ap (λ (j : ℕ). sets l j ws) (sym (add-zero i))
 sets-append (v ∷ vs) l i ws = sets-append vs (set l i v) (suc i) ws ∙ ap (λ (j : ℕ). sets (sets (set l i v) (suc i) vs) j ws) (omega arith)
-
--- three stores, one behind the other
-pub sets-three : (l : List ℕ) (j a b d : ℕ) {l₁ l₂ l₃ : List ℕ} → l₁ ≡ set l j a → l₂ ≡ set l₁ (j + 1) b → l₃ ≡ set l₂ (j + 2) d → l₃ ≡ sets l j (a ∷ b ∷ d ∷ [])
-sets-three l j a b d p q r = r ∙ ap₂ (λ x (k : ℕ). set x k d) (q ∙ ap₂ (λ x (k : ℕ). set x k b) p (add-one j)) (add-two j)

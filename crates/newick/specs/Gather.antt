@@ -26,6 +26,7 @@ use Rattle.trees.specs.Splits.{taxon, taxa}
 use Rattle.trees.specs.Opening.{Opening}
 use Rattle.trees.specs.Whole.{goodOpening}
 use Rattle.text.specs.Read.{symbolsAt}
+use Rattle.records.specs.Records.{wide}
 use Rattle.head.specs.Head.{openingAt, namesAt}
 use Rattle.head.specs.Index.{Indexed}
 use Rattle.newick.specs.declared.gather.Mark.{Mark}
@@ -129,10 +130,10 @@ pub record Gathered (o : Opening) (t : Nodes) (c : Mark) (l : List ℕ) (e : Mar
   pub masked : x .mask ≡ taxa (o .names) t
   pub placed : x .place ≡ placeSum o t
   pub identified : x .identifier ≡ identifierSum o t
-  pub stored : l′ ≡ sets l (c .used) (records o t)
-  pub moved : e .used ≡ c .used + length (records o t)
+  pub stored : l′ ≡ sets l (wide * c .used) (records o t)
+  pub moved : wide * e .used ≡ wide * c .used + length (records o t)
   pub judged : leavesOf e ≡ leavesAfter (o .names) (leavesOf c) (leaves t)
-  pub few : e .used ≤ 3 * e .at
+  pub few : e .used ≤ e .at
 
 unfoldable pub NodeGot : Opening → List ℕ → ℕ → Mark → List ℕ → Got → List ℕ → Type 0
 NodeGot o s d c l (Taken e x) l′ = (t : Nodes) × NodeIs s d (c .at) t (e .at) × Gathered o t c l e x l′

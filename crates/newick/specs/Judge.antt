@@ -1,7 +1,7 @@
 -- The verdict on a text, as the code answers it.
 --
---   JudgedAs o s r ..   the answer r is the verdict on the text s over the opening o. Where it is a refusal, three lists are as before;
---                       where not, the splits, their places and identifiers stand at their fronts
+--   JudgedAs o s r u t   the answer r is the verdict on the text s over the opening o. Where it is a refusal, the words u are as before;
+--                        where not, the records of the splits stand at their front: they are now t
 use Prim.Native.Nat.{ℕ}
 use mathlib.Core.Path.{_≡_}
 use mathlib.Core.List.{List}
@@ -9,11 +9,12 @@ use lib.ListN.{length}
 use Rattle.trees.specs.Plain.{refused, gives}
 use Rattle.trees.specs.Opening.{Opening}
 use Rattle.trees.specs.Verdict.{judged}
-use Rattle.newick.specs.Splits.{Stands}
+use Rattle.answers.specs.Answers.{refusalNumber}
+use Rattle.records.specs.Records.{withRecords}
 use Rattle.newick.specs.declared.Judged.{Judged}
 use Rattle.newick.specs.declared.Judged.the-variants.{Refused, Splits}
 
--- three lists that were ms, ps, is and now are ms′, ps′, is′
-unfoldable pub JudgedAs : Opening → List ℕ → Judged → List ℕ → List ℕ → List ℕ → List ℕ → List ℕ → List ℕ → Type 0
-JudgedAs o s (Refused k) ms ps is ms′ ps′ is′ = (judged (o .names) s ≡ refused k) × (ms′ ≡ ms) × (ps′ ≡ ps) × (is′ ≡ is)
-JudgedAs o s (Splits k) ms ps is ms′ ps′ is′ = (l : List ℕ) × (judged (o .names) s ≡ gives l) × (k ≡ length l) × Stands o l ms ps is ms′ ps′ is′
+unfoldable pub JudgedAs : Opening → List ℕ → Judged → List ℕ → List ℕ → Type 0
+unfolding refusalNumber
+JudgedAs o s (Refused r) u t = (judged (o .names) s ≡ refused (refusalNumber r)) × (t ≡ u)
+JudgedAs o s (Splits k) u t = (l : List ℕ) × (judged (o .names) s ≡ gives l) × (k ≡ length l) × (t ≡ withRecords o l u)

@@ -4,15 +4,15 @@ use text::Cursor;
 use text::Next;
 use text::Read;
 ghost use mathlib.Core.Path.{_≡_};
-ghost use Prim.Native.Nat.{_+_, _*_, _%_, _^_, _≤_, _<_};
-ghost use mathlib.Core.List.{[], _∷_};
+ghost use Prim.Native.Nat.{_+_, _%_, _^_, _≤_, _<_};
 ghost use lib.Bits.{bitOr};
-ghost use lib.ListN.{length, set};
-ghost use lib.Seq.{slice, sets};
+ghost use lib.ListN.{length};
+ghost use lib.Seq.{slice};
 ghost use Rattle.head.specs.Head.{openingAt};
 ghost use Rattle.newick.specs.Gather.{Prepared, Ready, leavesOf, LeafTaken, NodeGot, NodesGot};
 
-// Where a reader stands: in the text and in the list of records; the taxa seen so far, and the first fault of a leaf or 0.
+// Where a reader stands: in the text and in the list of records, by how many are used; the taxa seen so far, and the first fault of a
+// leaf or 0.
 pub struct Mark {
     pub at: usize,
     pub used: usize,
@@ -58,7 +58,7 @@ pub(crate) fn read_node(
     out: &mut [u64],
 ) -> Got
     requires { ⌜ Ready (now head) (now starts) (now links) (now text) m ⌝ }
-    requires { ⌜ (c .at ≤ length (now text)) × (c .used ≤ 3 * c .at) ⌝ }
+    requires { ⌜ (c .at ≤ length (now text)) × (c .used ≤ c .at) ⌝ }
     ensures { λ r. ⌜ NodeGot (openingAt (now (head .entry))) (now (text .entry)) depth c (now (out .entry)) r (now (out .exit)) ⌝ }
 {
     let at = c.at;
@@ -100,11 +100,11 @@ pub(crate) fn read_node(
                     match r {
                         Read::Past(g) => {
                             let used = d.used;
-                            put_record(out, used, x);
+                            records::put_record(out, used, x.mask, x.place, x.identifier);
                             Got::Taken(
                                 Mark {
                                     at: g.at,
-                                    used: used + 3,
+                                    used: used + 1,
                                     seen: d.seen,
                                     fault: d.fault,
                                 },
@@ -133,7 +133,7 @@ pub(crate) fn read_nodes(
     out: &mut [u64],
 ) -> Gots
     requires { ⌜ Ready (now head) (now starts) (now links) (now text) m ⌝ }
-    requires { ⌜ (c .at ≤ length (now text)) × (c .used ≤ 3 * c .at) ⌝ }
+    requires { ⌜ (c .at ≤ length (now text)) × (c .used ≤ c .at) ⌝ }
     ensures { λ r. ⌜ NodesGot (openingAt (now (head .entry))) (now (text .entry)) depth c (now (out .entry)) r (now (out .exit)) ⌝ }
 {
     let one = read_node(head, starts, links, text, c, depth, m, out);
@@ -246,24 +246,5 @@ fn join_sums(x: Sums, y: Sums, m: u64) -> Sums
         mask: mask,
         place: place - m,
         identifier: identifier,
-    }
-}
-
-// Writes the three numbers of x into the list from j on, as far as it reaches.
-fn put_record(out: &mut [u64], j: usize, x: Sums)
-    requires { ⌜ j < 65536 ⌝ }
-    ensures { λ _. ⌜ now (out .exit) ≡ sets (now (out .entry)) j (x .mask ∷ x .place ∷ x .identifier ∷ []) ⌝ }
-{
-    put(out, j, x.mask);
-    put(out, j + 1, x.place);
-    put(out, j + 2, x.identifier);
-}
-
-// Writes v at j, where the list has such a place.
-fn put(out: &mut [u64], j: usize, v: u64)
-    ensures { λ _. ⌜ now (out .exit) ≡ set (now (out .entry)) j v ⌝ }
-{
-    if j < out.len() {
-        out[j] = v;
     }
 }

@@ -6,7 +6,7 @@
 --   masks       is-within-once, are-apart-once, is-proper-once, count-taxa-once, lowest-taxon-once, comes-before-once, every-taxon-
 --               once, side-once, union-of-once, taxa-without-once, has-taxon-once, only-taxon-once
 --   words       decimal-once
---   rising      insert-at-once
+--   records     mask-of-once, place-of-once, identifier-of-once, insert-record-once, put-record-once
 --   head        taxa-once, lanes-once, tree-room-once, split-room-once, places-once, first-constant-once, second-constant-once, find-
 --               taxon-once
 --   opening     numbers-in-range-once, constants-good-once, names-good-once, is-name-once, same-names-once, store-size-once, write-
@@ -42,7 +42,11 @@ use Rattle.masks.proofs.taxa_without.Reads as taxa-without
 use Rattle.masks.proofs.has_taxon.Reads as has-taxon
 use Rattle.masks.proofs.only_taxon.Reads as only-taxon
 use Rattle.words.proofs.decimal.Reads as decimal
-use Rattle.rising.proofs.insert_at.Reads as insert-at
+use Rattle.records.proofs.mask_of.Reads as mask-of
+use Rattle.records.proofs.place_of.Reads as place-of
+use Rattle.records.proofs.identifier_of.Reads as identifier-of
+use Rattle.records.proofs.insert_record.Reads as insert-record
+use Rattle.records.proofs.put_record.Reads as put-record
 use Rattle.head.proofs.taxa.Reads as taxa
 use Rattle.head.proofs.lanes.Reads as lanes
 use Rattle.head.proofs.tree_room.Reads as tree-room
@@ -149,13 +153,25 @@ has-taxon-once k x q r y z a b = both a b
 pub only-taxon-once : AnswerOnce only-taxon.Post
 only-taxon-once k x q r y z a b = both a b
 
--- ---- words, rising lists
+-- ---- words, records
 
 pub decimal-once : AnswerOnce decimal.Post
 decimal-once k x q r y z a b = both a b
 
-pub insert-at-once : Once insert-at.Post (λ x q r y z. now (arg1 y) ≡ now (arg1 z))
-insert-at-once k x q r y z a b = both a b
+pub mask-of-once : AnswerOnce mask-of.Post
+mask-of-once k x q r y z a b = both a b
+
+pub place-of-once : AnswerOnce place-of.Post
+place-of-once k x q r y z a b = both a b
+
+pub identifier-of-once : AnswerOnce identifier-of.Post
+identifier-of-once k x q r y z a b = both a b
+
+pub insert-record-once : Once insert-record.Post (λ x q r y z. now (arg1 y) ≡ now (arg1 z))
+insert-record-once k x q r y z a b = both a b
+
+pub put-record-once : Once put-record.Post (λ x q r y z. now (arg1 y) ≡ now (arg1 z))
+put-record-once k x q r y z a b = both a b
 
 -- ---- the head of a store
 

@@ -3,7 +3,7 @@
 --
 --   find-slot-once                            where a mask goes in a rising list
 --   build-index-once                          the index of the names, in every entry that is used
---   judge-once                                the verdict on a text, and the three lists
+--   judge-once                                the verdict on a text, and the list of records
 --   write-tree-once                           a tree written
 --   find-row-once, row-in-once                the row of a split
 use Prim.Native.Nat.{ℕ, _≤_, _<_}
@@ -11,59 +11,66 @@ use native.Mathlib.Omega.{arith}
 use mathlib.Core.Path.{_≡_, refl, sym, ap, subst, _∙_}
 use mathlib.Core.Logic.{⊎-elim}
 use mathlib.Core.Bool.{Bool, true, false, true≢false}
-use mathlib.Core.List.{List, [], _++_, map, append-nil}
+use mathlib.Core.List.{List, [], _∷_, _++_}
 use mathlib.Core.Option.{Option, none, some}
-use lib.ListN.{length, getD, take, drop}
-use lib.Seq.{length-take-le, getD-at}
+use lib.ListN.{length, getD, take, drop, List·getD-append}
+use lib.Seq.{length-take-le, getD-at, getD-take}
 use denote.Ref.{now}
-use Rattle.trees.specs.Hash.{place, identifier}
 use Rattle.trees.specs.Opening.{Opening}
 use Rattle.theorems.specs.ListLaws.{Mem, less-or-not}
 use Rattle.theorems.specs.RisingLaws.{Rising}
-use Rattle.rising.specs.Slot.{insertAt, SlotFound}
-use Rattle.rising.specs.SlotLaws.{insertAt-length, insertAt-before, insert-taken, mem-at}
-use Rattle.rising.specs.declared.Slot.{Slot}
-use Rattle.rising.specs.declared.Slot.the-variants.{Free, Taken}
+use Rattle.answers.specs.Answers.{refusalNumber}
+use Rattle.records.specs.Records.{withRecords, putIn}
+use Rattle.records.specs.RecordLaws.{put-length}
+use Rattle.records.specs.Slot.{SlotFound}
+use Rattle.records.specs.SlotLaws.{insert-taken, mem-at}
+use Rattle.records.specs.declared.Slot.{Slot}
+use Rattle.records.specs.declared.Slot.the-variants.{Free, Taken}
 use Rattle.head.specs.Head.{namesAt}
 use Rattle.layout.specs.WholeFacts.{whole-at-facts}
 use Rattle.layout.specs.OrderLaws.{mask-same}
 use Rattle.finding.specs.Rows.{FoundAs}
 use Rattle.finding.specs.declared.Found.{Found}
 use Rattle.finding.specs.declared.Found.the-variants.{Row, Nothing}
-use Rattle.newick.specs.Splits.{Stands}
 use Rattle.newick.specs.Judge.{JudgedAs}
 use Rattle.newick.specs.declared.Judged.{Judged}
 use Rattle.newick.specs.declared.Judged.the-variants.{Refused, Splits}
 use Rattle.writer.specs.Text.{Wrote}
 use Rattle.writer.specs.declared.Text.{Text}
 use Rattle.writer.specs.declared.Text.the-variants.{Bytes, TooShort}
-use Rattle.rising.proofs.find_slot.Reads as find-slot
+use Rattle.records.proofs.find_slot.Reads as find-slot
 use Rattle.head.proofs.build_index.Reads as build-index
 use Rattle.newick.proofs.judge.Reads as judge
 use Rattle.writer.proofs.write_tree.Reads as write-tree
 use Rattle.finding.proofs.find_row.Reads as find-row
 use Rattle.rows.proofs.row_in.Reads as row-in
-use Rattle.promises.specs.Once.{Once, OnceIf, AnswerOnce, arg1, arg2, arg3, arg4, arg5, arg6, arg7}
-use Rattle.promises.specs.Outcomes.{refusalIn, valueOr, gives≢refused, both}
+use Rattle.promises.specs.Once.{Once, OnceIf, AnswerOnce, arg1, arg2, arg3, arg4, arg5}
+use Rattle.promises.specs.Outcomes.{refusal-one, refusalIn, valueOr, gives≢refused, both}
 
 -- ---- a rising list
 
-insertAt-here : (j m d : ℕ) (l : List ℕ) → j ≤ length l → getD (insertAt j m l) j d ≡ m
-unfolding insertAt
-insertAt-here j m d l h = getD-at (take j l) m (drop j l) d j (length-take-le j l h)
+put-here : (j m d : ℕ) (l : List ℕ) → j ≤ length l → getD (putIn j (m ∷ []) l) j d ≡ m
+unfolding putIn
+put-here j m d l h = getD-at (take j l) m (drop j l) d j (length-take-le j l h)
+
+-- before place j nothing has changed
+put-before : (i j : ℕ) (v l : List ℕ) (d : ℕ) → i < j → j ≤ length l → getD (putIn j v l) i d ≡ getD l i d
+unfolding putIn
+put-before i j v l d h g =
+    List·getD-append (take j l) (v ++ drop j l) d i (omega (arith, length-take-le j l g)) ∙ getD-take j l i d h
 
 -- what goes to a free place is not in the list yet
 free-new : (l : List ℕ) (m j : ℕ) → Rising l → SlotFound l m (Free j) → Mem m l → ⊥
 unfolding SlotFound
-free-new l m j r a h = omega (arith, insertAt-length j m l (a .0), ap length (sym (a .1) ∙ insert-taken l m r h))
+free-new l m j r a h = omega (arith, put-length j (m ∷ []) l, ap length (sym (a .1) ∙ insert-taken l m r h))
 
 -- of two free places, the one behind is not behind the mask itself
 free-before : (l : List ℕ) (m j k : ℕ) → Rising l → SlotFound l m (Free j) → SlotFound l m (Free k) → j < k → ⊥
 unfolding SlotFound
 free-before l m j k r a b h =
-    let e = insertAt-before j k m 0 l [] h (b .0) in
-    let d = insertAt-here j m 0 l (a .0) in
-    let c : getD l j 0 ≡ m = sym e ∙ ap (λ (w : List ℕ). getD w j 0) (append-nil (insertAt k m l) ∙ sym (b .1) ∙ a .1) ∙ d in
+    let e = put-before j k (m ∷ []) l 0 h (b .0) in
+    let d = put-here j m 0 l (a .0) in
+    let c : getD l j 0 ≡ m = sym e ∙ ap (λ (w : List ℕ). getD w j 0) (sym (b .1) ∙ a .1) ∙ d in
     free-new l m j r a (subst (λ (n : ℕ). Mem n l) c (mem-at l j (omega (arith, b .0))))
 
 slot-both : (l : List ℕ) (m : ℕ) (q r : Slot) → Rising l → SlotFound l m q → SlotFound l m r → q ≡ r
@@ -90,28 +97,17 @@ build-index-once k x q r y z a b = (λ i h. both (a .firsts i h) (b .firsts i h)
 
 -- ---- a text read
 
-stands-both : (o : Opening) (l k ms ps is a b c d e f : List ℕ) → l ≡ k → Stands o l ms ps is a b c → Stands o k ms ps is d e f → (a ≡ d) × (b ≡ e) × (c ≡ f)
-stands-both o l k ms ps is a b c d e f q x y = (
-  x .masks ∙ ap (λ (z : List ℕ). z ++ drop (length z) ms) q ∙ sym (y .masks),
-  x .places ∙ ap (λ (z : List ℕ). map (place (o .first) (o .numbers .places)) z ++ drop (length z) ps) q ∙ sym (y .places),
-  x .identifiers ∙ ap (λ (z : List ℕ). map (identifier (o .second)) z ++ drop (length z) is) q ∙ sym (y .identifiers),
-)
-
-judged-both : (o : Opening) (s : List ℕ) (q r : Judged) (ms ps is a b c d e f : List ℕ) → JudgedAs o s q ms ps is a b c → JudgedAs o s r ms ps is d e f
-    → (q ≡ r) × (a ≡ d) × (b ≡ e) × (c ≡ f)
+judged-both : (o : Opening) (s : List ℕ) (q r : Judged) (u v w : List ℕ) → JudgedAs o s q u v → JudgedAs o s r u w → (q ≡ r) × (v ≡ w)
 unfolding JudgedAs refusalIn valueOr
-judged-both o s (Refused j) (Refused k) ms ps is a b c d e f x y =
-    (ap Refused (ap refusalIn (sym (x .0) ∙ y .0)), both (x .1) (y .1), both (x .2) (y .2), both (x .3) (y .3))
-judged-both o s (Refused j) (Splits k) ms ps is a b c d e f x y = absurd (gives≢refused (y .0) j (sym (y .1) ∙ x .0))
-judged-both o s (Splits j) (Refused k) ms ps is a b c d e f x y = absurd (gives≢refused (x .0) k (sym (x .1) ∙ y .0))
-judged-both o s (Splits j) (Splits k) ms ps is a b c d e f x y =
+judged-both o s (Refused j) (Refused k) u v w x y = (ap Refused (refusal-one j k (ap refusalIn (sym (x .0) ∙ y .0))), both (x .1) (y .1))
+judged-both o s (Refused j) (Splits k) u v w x y = absurd (gives≢refused (y .0) (refusalNumber j) (sym (y .1) ∙ x .0))
+judged-both o s (Splits j) (Refused k) u v w x y = absurd (gives≢refused (x .0) (refusalNumber k) (sym (x .1) ∙ y .0))
+judged-both o s (Splits j) (Splits k) u v w x y =
     let q : x .0 ≡ y .0 = ap (valueOr []) (sym (x .1) ∙ y .1) in
-    let z = stands-both o (x .0) (y .0) ms ps is a b c d e f q (x .3) (y .3) in
-    (ap Splits (x .2 ∙ ap length q ∙ sym (y .2)), z .0, z .1, z .2)
+    (ap Splits (x .2 ∙ ap length q ∙ sym (y .2)), x .3 ∙ ap (λ (l : List ℕ). withRecords o l u) q ∙ sym (y .3))
 
-pub judge-once : Once judge.Post
-    (λ x q r y z. (q ≡ r) × (now (arg5 y) ≡ now (arg5 z)) × (now (arg6 y) ≡ now (arg6 z)) × (now (arg7 y) ≡ now (arg7 z)))
-judge-once k x q r y z a b = judged-both _ _ q r _ _ _ _ _ _ _ _ _ a b
+pub judge-once : Once judge.Post (λ x q r y z. (q ≡ r) × (now (arg5 y) ≡ now (arg5 z)))
+judge-once k x q r y z a b = judged-both _ _ q r _ _ _ a b
 
 -- ---- a tree written
 

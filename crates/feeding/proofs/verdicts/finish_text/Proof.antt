@@ -1,12 +1,10 @@
 -- `feeding::verdicts::finish_text` meets its contract: 6, the text's own refusal, or the tree if there is room. Assumes nothing.
-use mathlib.Core.Path.{refl, sym, ap, _∙_}
+use mathlib.Core.Path.{refl, sym, _∙_}
 use native.Mathlib.Omega.{arith}
 use borrow.Author.Needs.{needs}
-use Rattle.trees.specs.Plain.{refused}
-use Rattle.theorems.specs.VerdictLaws.{refusal-numbers}
 use Rattle.answers.specs.Answers.{refusalNumber, progressGiven}
 use Rattle.lanes.specs.LaneLaws.{lane-overrun}
-use Rattle.feeding.specs.FinishLaws.{verdict-over, verdict-refused, verdict-room, held-text, judged-refused, judged-gives, opening-kept, front-tree, judgeable, accepts-size, finish-refused, finish-room}
+use Rattle.feeding.specs.FinishLaws.{verdict-over, verdict-refused, verdict-room, held-text, judged-refused, judged-gives, opening-kept, front-tree, splits-of, accepts-size, finish-refused, finish-room}
 use Rattle.feeding.proofs.verdicts.finish_text.Statement.{statement}
 use Rattle.feeding.proofs.verdicts.finish_text.Tie as tie
 
@@ -20,61 +18,52 @@ returns c =
 
 judge-lane-requires : tie.Need-judge-lane-requires
 judge-lane-requires c κs =
-    let d = c .before .before .before .before .before .before .before .before in
-    let n = c .before .before .before .before .before .lane-length .ensures .1 in
-    (d .pre .0, (d .pre .1 .0, (d .pre .1 .1, (omega (arith, n, c .before .before .before .before .if1 .left), (omega arith, omega arith, omega arith)))))
-
-refusal-of-requires : tie.Need-refusal-of-requires
-refusal-of-requires c κs =
-    let j = judged-refused _ _ _ _ _ _ _ _ _ (c .before .before .before .before .before .before .before .before .before .before .judge-lane .ensures) _ (c .before .judged .given .1) in
-    refusal-numbers _ _ _ j
+    let d = c .before .before .before .before .before .before in
+    let n = c .before .before .before .lane-length .ensures .1 in
+    (d .pre .0, (d .pre .1 .0, (d .pre .1 .1, (omega (arith, n, c .before .before .if1 .left), omega arith))))
 
 returns-2 : tie.Need-returns-2
 unfolding progressGiven
 returns-2 c =
-    let d = c .before .before .before .before .before .before .before .before .before .before .before .before .before .before .before .before .before .before .before .before in
-    let n = c .before .before .before .before .before .before .before .before .before .before .before .before .before .before .before .before .before in
-    let j = judged-refused _ _ _ _ _ _ _ _ _ (c .before .before .before .before .before .before .before .before .before .before .before .judge-lane .ensures) _ (c .before .before .judged .given .1) in
-    let t = held-text _ (d .pre .0) _ (d .pre .1 .0) _ (n .lane-length .ensures .0) (c .before .before .before .before .before .before .before .before .before .before .before .before .before .before .before .before .if1 .left) in
-    finish-refused _ _ (d .pre .1 .0) _ (c .before .before .before .before .before .before .empty-lane2 .ensures) _ _ (verdict-refused _ _ _ _ t j) (ap refused (c .refusal-of .ensures))
+    let i = c .before .before .before .before .before .before .before .before .before .before .before in
+    let d = i .before .before .before .before in
+    let j = judged-refused _ _ _ _ _ (c .before .before .before .before .before .before .before .before .judge-lane .ensures) _ (c .before .judged .given .1) in
+    let t = held-text _ (d .pre .0) _ (d .pre .1 .0) _ (i .before .lane-length .ensures .0) (i .if1 .left) in
+    finish-refused _ _ (d .pre .1 .0) _ (c .before .before .before .before .before .empty-lane2 .ensures) _ _ (verdict-refused _ _ _ _ t j) refl
 
-accept-tree-requires : tie.Need-accept-tree-requires
-accept-tree-requires c κs =
-    let d = c .before .before .before .before .before .before .before .before .before .before .before .before .before .before .before .before .before .before .before .before .before .before .before in
-    let j = judged-gives _ _ _ _ _ _ _ _ _ (c .before .before .before .before .before .before .before .before .before .before .before .before .before .before .judge-lane .ensures) _ (c .before .before .before .before .before .judged2 .given .1) in
-    let e = c .before .before .before .before .before .before .before .before .before .empty-lane2 .ensures in
-    (e .whole, judgeable _ _ _ (j .0) _ _ _ _ _ _ _ (d .pre .0) (opening-kept _ _ _ _ e) (j .1) (j .2) (omega arith) (omega arith) (omega arith) (j .3))
+accept-requires : tie.Need-accept-requires
+accept-requires c κs =
+    let d = c .before .before .before .before .before .before .before .before .before .before .before .before .before .before .before .before .before in
+    let j = judged-gives _ _ _ _ _ (c .before .before .before .before .before .before .before .before .before .before .judge-lane .ensures) _ (c .before .before .before .judged2 .given .1) in
+    let e = c .before .before .before .before .before .before .before .empty-lane2 .ensures in
+    (e .whole, splits-of _ _ _ (j .0) _ _ _ (d .pre .0) (opening-kept _ _ _ _ e) (j .1) (j .2) (j .3))
 
 returns-3 : tie.Need-returns-3
 returns-3 c =
-    let d = c .before .before .before .before .before .before .before .before .before .before .before .before .before .before .before .before .before .before .before .before .before .before .before .before .before .before in
-    let n = c .before .before .before .before .before .before .before .before .before .before .before .before .before .before .before .before .before .before .before .before .before .before .before in
-    let j = judged-gives _ _ _ _ _ _ _ _ _ (c .before .before .before .before .before .before .before .before .before .before .before .before .before .before .before .before .before .judge-lane .ensures) _ (c .before .before .before .before .before .before .before .before .judged2 .given .1) in
-    let t = held-text _ (d .pre .0) _ (d .pre .1 .0) _ (n .lane-length .ensures .0) (c .before .before .before .before .before .before .before .before .before .before .before .before .before .before .before .before .before .before .before .before .before .before .if1 .left) in
-    let e = front-tree _ _ _ _ _ _ _ _ _ (j .2) (j .3) in
-    finish-room _ _ (d .pre .1 .0) _ (c .before .before .before .before .before .before .before .before .before .before .before .before .empty-lane2 .ensures) (j .0) _ _ _ e (verdict-room _ _ _ _ t (j .1)) (c .before .before .accept-tree .ensures)
+    let i = c .before .before .before .before .before .before .before .before .before .before .before .before .before .before .before .before in
+    let d = i .before .before .before .before in
+    let j = judged-gives _ _ _ _ _ (c .before .before .before .before .before .before .before .before .before .before .before .before .before .judge-lane .ensures) _ (c .before .before .before .before .before .before .judged2 .given .1) in
+    let t = held-text _ (d .pre .0) _ (d .pre .1 .0) _ (i .before .lane-length .ensures .0) (i .if1 .left) in
+    let e = front-tree _ _ _ _ _ (j .2) (j .3) in
+    finish-room _ _ (d .pre .1 .0) _ (c .before .before .before .before .before .before .before .before .before .before .empty-lane2 .ensures) (j .0) _ _ _ e
+    (verdict-room _ _ _ _ t (j .1)) (c .before .before .accept .ensures)
 
 pub finish-text-spec : {M : Type 1} → statement M
 finish-text-spec =
     tie.close
     (tie.spec
-    (λ c κs. (c .before .before .pre .0, c .before .before .pre .1 .0))
-    (λ c κs. (c .before .before .before .before .before .pre .0, c .before .before .before .before .before .pre .1 .0))
+    (λ c κs. search needs)
+    (λ c κs. search needs)
     (λ c. c .before .before .empty-lane .ensures .size)
     returns
     (λ c. search needs)
-    (λ c. search needs)
-    (λ c. search needs)
     judge-lane-requires
-    (λ c κs. (c .before .before .before .before .before .before .before .before .before .before .before .before .before .pre .0, c .before .before .before .before .before .before .before .before .before .before .before .before .before .pre .1 .0))
-    (λ c. search needs)
-    refusal-of-requires
+    (λ c κs. search needs)
     (λ c. search needs)
     (λ c. search needs)
     (λ c. search needs)
-    (λ c. search needs)
-    accept-tree-requires
-    (λ c. c .before .before .before .before .before .before .empty-lane2 .ensures .size)
+    accept-requires
+    (λ c. c .before .before .before .before .before .empty-lane2 .ensures .size)
     returns-2
-    (λ c. accepts-size _ _ _ _ (c .before .before .accept-tree .ensures) ∙ c .before .before .before .before .before .before .before .before .before .before .before .before .empty-lane2 .ensures .size)
+    (λ c. accepts-size _ _ _ _ (c .before .before .accept .ensures) ∙ c .before .before .before .before .before .before .before .before .before .before .empty-lane2 .ensures .size)
     returns-3)

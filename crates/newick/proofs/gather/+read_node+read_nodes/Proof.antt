@@ -18,7 +18,7 @@ use Rattle.newick.proofs.gather.read_nodes.Reads as read-nodes
 use Rattle.newick.proofs.gather.read_nodes.Kinds as read-nodes-kinds
 use Rattle.newick.proofs.gather.+read_node+read_nodes.Lts-read_nodes as read-nodes-lts
 use Rattle.newick.proofs.gather.join_sums.Reads as join-sums-reads
-use Rattle.newick.proofs.gather.put_record.Reads as put-record-reads
+use Rattle.records.proofs.put_record.Reads as put-record-reads
 use Rattle.newick.proofs.gather.take_leaf.Reads as take-leaf-reads
 use Rattle.text.proofs.next_symbol.Reads as next-symbol-reads
 use Rattle.text.proofs.read_closing.Reads as read-closing-reads
