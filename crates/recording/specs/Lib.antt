@@ -3,4 +3,5 @@ pub mod Added
 pub mod Listed
 pub mod Entering
 pub mod ListSoundLaws
+pub mod EnteringLaws
 pub mod Recording
