@@ -4,14 +4,13 @@
 --   ones cs rs                the counts cs with one more at each of the rows rs
 --   Adding s rs j u           u is s with the first j of the rows rs counted
 --   CountsAdded s rs t        t is s with all of them counted
---   Writing s at n rs j u     u is s with the number n and the first j of the rows rs from at on
+--   Writing s at rs j u       u is s with the first j of the rows rs behind the number of them at at
 --   ListWritten s at rs t     t is s with the list of the rows rs in the 128 bytes from at on
-use Prim.Native.Nat.{ℕ, _+_, _*_, _≤_, _<_}
+use Prim.Native.Nat.{ℕ, _+_, _≤_, _<_}
 use mathlib.Core.Path.{_≡_}
 use mathlib.Core.Logic.{_⊎_}
 use mathlib.Core.List.{List, [], _∷_}
 use lib.ListN.{length, getD, set, take, drop}
-use Rattle.fields.specs.Field.{number}
 use Rattle.head.specs.Head.{numbersAt}
 use Rattle.layout.specs.Columns.{columnAt}
 use Rattle.layout.specs.Store.{countsFrom, linksFrom, listFrom, partsAt, splitsHeldAt}
@@ -40,9 +39,8 @@ pub record CountsAdded (s rs t : List ℕ) : Type 0 where
 
 -- ---- the list
 
-pub record Writing (s : List ℕ) (at n : ℕ) (rs : List ℕ) (j : ℕ) (u : List ℕ) : Type 0 where
+pub record Writing (s : List ℕ) (at : ℕ) (rs : List ℕ) (j : ℕ) (u : List ℕ) : Type 0 where
   pub size : length u ≡ length s
-  pub entries : number 2 u at ≡ n
   pub rows : columnAt 2 (at + 2) j u ≡ take j rs
   pub outside : (i : ℕ) → (i < at) ⊎ (at + 128 ≤ i) → getD u i 0 ≡ getD s i 0
 

@@ -21,10 +21,10 @@ use Rattle.theorems.specs.ListLaws.{Mem, member-not, keep-most}
 use Rattle.theorems.specs.RisingLaws.{Rising}
 use Rattle.theorems.specs.OpeningLaws.{good-opening}
 use Rattle.fields.specs.Field.{number, put}
-use Rattle.fields.specs.FieldLaws.{put-length, put-outside, number-put, number-put-outside}
+use Rattle.fields.specs.FieldLaws.{put-length, put-outside, number-put}
 use Rattle.head.specs.Head.{fromTo, upTo, numbersAt, openingAt}
 use Rattle.head.specs.HeadLaws.{upTo-length, upTo-at}
-use Rattle.layout.specs.Columns.{columnAt, column-at, column-length, column-more, column-set}
+use Rattle.layout.specs.Columns.{columnAt, column-at, column-length, column-beside, column-more, column-set}
 use Rattle.layout.specs.Store.{maskIn, countsFrom, linksFrom, listFrom, partsAt, treesHeldAt, splitsHeldAt, countAt}
 use Rattle.layout.specs.StoreLaws.{counts-from, links-from, size-is, splits-held-is, shaped-at}
 use Rattle.layout.specs.WholeStore.{listedIn}
@@ -36,38 +36,36 @@ use Rattle.recording.specs.Entering.{countsOf, ones, Adding, CountsAdded
 
 -- ---- the loop that writes the list
 
-module _ (s : List ℕ) (at n : ℕ) (l : List ℕ) (few : n ≤ 62) (inside : at + 128 ≤ length s) where
-  -- what is put among the 128 bytes leaves the others
-  put-kept : (u : List ℕ) (a v : ℕ) → at ≤ a → a + 2 ≤ at + 128 → (i : ℕ) → (i < at) ⊎ (at + 128 ≤ i) → getD (put 2 u a v) i 0 ≡ getD u i 0
-  put-kept u a v p q i (inl h) = put-outside 2 u a v i (inl (omega arith))
-  put-kept u a v p q i (inr h) = put-outside 2 u a v i (inr (omega arith))
-
-  pub writing-none : Writing s at n l 0 (put 2 s at n)
+module _ (s : List ℕ) (at : ℕ) (l : List ℕ) where
+  pub writing-none : Writing s at l 0 s
   unfolding columnAt upTo fromTo
-  writing-none =
-      record {
-        size = put-length 2 s at n;
-        entries = number-put 2 s at n (omega arith) (omega arith);
-        rows = refl;
-        outside = put-kept s at n (omega arith) (omega arith);
-      }
+  writing-none = record { size = refl; rows = refl; outside = λ i h. refl }
 
-  module _ (j : ℕ) (u : List ℕ) (w : Writing s at n l j u) where
-    pub writing-more : j < n → n ≤ length l → getD l j 0 < 65536 → Writing s at n l (j + 1) (put 2 u (at + 2 + 2 * j) (getD l j 0))
-    writing-more h m b =
+  module _ (inside : at + 128 ≤ length s) (j : ℕ) (u : List ℕ) (w : Writing s at l j u) where
+    -- what is put among the 128 bytes leaves the others
+    put-kept : (a v : ℕ) → at ≤ a → a + 2 ≤ at + 128 → (i : ℕ) → (i < at) ⊎ (at + 128 ≤ i) → getD (put 2 u a v) i 0 ≡ getD s i 0
+    put-kept a v p q i (inl h) = put-outside 2 u a v i (inl (omega arith)) ∙ w .outside i (inl h)
+    put-kept a v p q i (inr h) = put-outside 2 u a v i (inr (omega arith)) ∙ w .outside i (inr h)
+
+    pub writing-more : j < 62 → j < length l → getD l j 0 < 65536 → Writing s at l (j + 1) (put 2 u (at + 2 + 2 * j) (getD l j 0))
+    writing-more few h b =
         record {
           size = put-length 2 u (at + 2 + 2 * j) (getD l j 0) ∙ w .size;
-          entries = number-put-outside 2 2 u (at + 2 + 2 * j) (getD l j 0) at (inl (omega arith)) ∙ w .entries;
           rows =
               rw (add-one j) (column-more 2 (at + 2) j (getD l j 0) u b (omega (arith, w .size))
               ∙ ap (λ (r : List ℕ). r ++ getD l j 0 ∷ []) (w .rows)
-              ∙ sym (take-suc l j 0 (omega arith)));
-          outside = λ i q. put-kept u (at + 2 + 2 * j) (getD l j 0) (omega arith) (omega arith) i q ∙ w .outside i q;
+              ∙ sym (take-suc l j 0 h));
+          outside = put-kept (at + 2 + 2 * j) (getD l j 0) (omega arith) (omega arith);
         }
 
-    pub writing-all : j ≡ n → ListWritten s at (take n l) u
+    pub writing-all : j ≤ 62 → ListWritten s at (take j l) (put 2 u at j)
     unfolding listFrom
-    writing-all e = record { size = w .size; list = rw (w .entries, ← e) (w .rows); outside = w .outside }
+    writing-all few =
+        record {
+          size = put-length 2 u at j ∙ w .size;
+          list = rw (number-put 2 u at j (omega (arith, w .size)) (omega arith)) (column-beside 2 (at + 2) j 2 at j u (inl (omega arith)) ∙ w .rows);
+          outside = put-kept at j (omega arith) (omega arith);
+        }
 
 -- ---- one more at each of some rows
 

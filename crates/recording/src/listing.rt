@@ -48,10 +48,10 @@ fn write_list(s: &mut [u8], at: usize, n: usize, rows: &[u64])
     requires { ⌜ ((j : ℕ) → j < n → getD (now rows) j 0 < 65536) ⌝ }
     ensures { λ r. ⌜ ListWritten (now (s .entry)) at (take n (now (rows .entry))) (now (s .exit)) ⌝ }
 {
-    fields::put16(s, at, n as u16);
     let mut j = 0;
     while j < n {
         fields::put16(s, at + 2 + 2 * j, rows[j] as u16);
         j += 1;
     }
+    fields::put16(s, at, n as u16);
 }
