@@ -4,4 +4,6 @@ pub mod Listed
 pub mod Entering
 pub mod ListSoundLaws
 pub mod EnteringLaws
+pub mod KeptLaws
+pub mod ListedLaws
 pub mod Recording
