@@ -1,172 +1,242 @@
--- One turn of each loop of entering a tree. Assumes nothing.
+-- Entering a tree: one turn of the loop, and what all steps leave. Assumes nothing.
 --
---   writing-none, writing-more, writing-all     the loop that writes the list
---   few-trees, counts-inside                    how many trees there are at most, and where the counts end
---   adding-none, adding-more, adding-all        the loop that adds to the counts
---   adding-fits                                 the count of the next row lies inside, and one more fits
+--   Room, room-is                    where the next tree's list and the counts lie
+--   entering-none, entering-more     the loop
+--   entering-fits                    the next row fits 2 bytes; its count lies inside, and one more fits
+--   entered                          all steps
 use Prim.Native.Nat.{ℕ, suc, _+_, _*_, _≤_, _<_}
 use native.Mathlib.Numerals.{add-one}
 use native.Mathlib.Omega.{arith}
 use mathlib.Core.Path.{_≡_, refl, sym, ap, ap₂, _∙_}
-use mathlib.Core.Logic.{_⊎_, inl, inr}
+use mathlib.Core.Logic.{_⊎_, inl, inr, ⊎-map}
 use mathlib.Core.Bool.{Bool, true, false, _||_}
 use mathlib.Core.List.{List, [], _∷_, _++_, map}
 use lib.Dec.{eqb}
-use lib.ListN.{length, getD, set, take, drop, length-set}
-use lib.Seq.{take-suc, drop-cons, drop-length, take-length, getD-set-same, getD-set-other, ext-getD}
+use lib.ListN.{length, getD, take, drop}
+use lib.Seq.{take-suc, take-length, drop-cons, drop-length}
 use borrow.Author.Tests.{eqb-true, eqb-false}
 use Rattle.trees.specs.Plain.{member}
+use Rattle.trees.specs.Opening.{Numbers}
 use Rattle.trees.specs.Consensus.{count}
-use Rattle.theorems.specs.ListLaws.{Mem, member-not, keep-most}
-use Rattle.theorems.specs.RisingLaws.{Rising}
+use Rattle.theorems.specs.ListLaws.{member-not, keep-most}
 use Rattle.theorems.specs.OpeningLaws.{good-opening}
 use Rattle.fields.specs.Field.{number, put}
-use Rattle.fields.specs.FieldLaws.{put-length, put-outside, number-put}
+use Rattle.fields.specs.FieldLaws.{put-length, put-outside, number-put, number-put-outside}
 use Rattle.head.specs.Head.{fromTo, upTo, numbersAt, openingAt}
-use Rattle.head.specs.HeadLaws.{upTo-length, upTo-at}
-use Rattle.layout.specs.Columns.{columnAt, column-at, column-length, column-beside, column-more, column-set}
-use Rattle.layout.specs.Store.{maskIn, countsFrom, linksFrom, listFrom, partsAt, treesHeldAt, splitsHeldAt, countAt}
-use Rattle.layout.specs.StoreLaws.{counts-from, links-from, size-is, splits-held-is, shaped-at}
+use Rattle.head.specs.HeadLaws.{upTo-same}
+use Rattle.layout.specs.Columns.{columnAt, column-same, column-beside, column-more, upTo-more}
+use Rattle.layout.specs.Store.{laneFrom, treeFrom, masksFrom, identifiersFrom, countsFrom, linksFrom, orderFrom, placesFrom, sizeAt, listFrom, textFrom, partsAt, treesHeldAt, splitsHeldAt, maskAt, countAt}
+use Rattle.layout.specs.StoreLaws.{lane-from, tree-from, masks-from, identifiers-from, counts-from, links-from, order-from, places-from, size-is, trees-held-is, splits-held-is, count-is, list-length, length-is}
 use Rattle.layout.specs.WholeStore.{listedIn}
 use Rattle.layout.specs.WholeFacts.{HeadAt}
 use Rattle.layout.specs.Sound.{Sound}
-use Rattle.layout.specs.UpToLaws.{mem-map, mem-getD}
-use Rattle.recording.specs.Listed.{oneIf, withList, Rows}
-use Rattle.recording.specs.Entering.{countsOf, ones, Adding, CountsAdded, Writing, ListWritten}
+use Rattle.layout.specs.UpToLaws.{less-or-not, mem-map, mem-getD}
+use Rattle.recording.specs.Listed.{oneIf, withList, Rows, Listed}
+use Rattle.recording.specs.Entering.{nextFrom, Entering}
+use Rattle.recording.specs.KeptLaws.{Kept, number-kept, list-kept, text-kept, numbers-kept, opening-kept}
 
--- ---- the loop that writes the list
+one-most : (b : Bool) → oneIf b ≤ 1
+unfolding oneIf
+one-most true = omega arith
+one-most false = omega arith
 
-module _ (s : List ℕ) (at : ℕ) (l : List ℕ) where
-  pub writing-none : Writing s at l 0 s
-  unfolding columnAt upTo fromTo
-  writing-none = record { size = refl; rows = refl; outside = λ i h. refl }
+-- ---- where things lie
 
-  module _ (inside : at + 128 ≤ length s) (j : ℕ) (u : List ℕ) (w : Writing s at l j u) where
-    -- what is put among the 128 bytes leaves the others
-    put-kept : (a v : ℕ) → at ≤ a → a + 2 ≤ at + 128 → (i : ℕ) → (i < at) ⊎ (at + 128 ≤ i) → getD (put 2 u a v) i 0 ≡ getD s i 0
-    put-kept a v p q i (inl h) = put-outside 2 u a v i (inl (omega arith)) ∙ w .outside i (inl h)
-    put-kept a v p q i (inr h) = put-outside 2 u a v i (inr (omega arith)) ∙ w .outside i (inr h)
+pub record Room (s : List ℕ) : Type 0 where
+  pub taxa : numbersAt s .taxa ≤ 64
+  pub trees : treesHeldAt s ≤ 1023
+  pub splits : splitsHeldAt s ≤ 4096
+  pub list : (4096 + 4104 * numbersAt s .lanes ≤ nextFrom s) × (nextFrom s + 128 ≤ masksFrom (numbersAt s))
+  pub identifiers : (masksFrom (numbersAt s) + 8 * splitsHeldAt s ≤ identifiersFrom (numbersAt s)) × (masksFrom (numbersAt s) ≤ countsFrom (numbersAt s))
+  pub counts : identifiersFrom (numbersAt s) + 8 * splitsHeldAt s ≤ countsFrom (numbersAt s)
+  pub links : countsFrom (numbersAt s) + 4 * splitsHeldAt s ≤ linksFrom (numbersAt s)
+  pub order : (linksFrom (numbersAt s) ≤ orderFrom (numbersAt s)) × (linksFrom (numbersAt s) ≤ placesFrom (numbersAt s))
+  pub end : (linksFrom (numbersAt s) ≤ sizeAt s) × (sizeAt s ≤ length s)
 
-    pub writing-more : j < 62 → j < length l → getD l j 0 < 65536 → Writing s at l (j + 1) (put 2 u (at + 2 + 2 * j) (getD l j 0))
-    writing-more few h b =
-        record {
-          size = put-length 2 u (at + 2 + 2 * j) (getD l j 0) ∙ w .size;
-          rows =
-              rw (add-one j) (column-more 2 (at + 2) j (getD l j 0) u b (omega (arith, w .size))
-              ∙ ap (λ (r : List ℕ). r ++ getD l j 0 ∷ []) (w .rows)
-              ∙ sym (take-suc l j 0 h));
-          outside = put-kept (at + 2 + 2 * j) (getD l j 0) (omega arith) (omega arith);
-        }
-
-    pub writing-all : j ≤ 62 → ListWritten s at (take j l) (put 2 u at j)
-    unfolding listFrom
-    writing-all few =
-        record {
-          size = put-length 2 u at j ∙ w .size;
-          list = rw (number-put 2 u at j (omega (arith, w .size)) (omega arith)) (column-beside 2 (at + 2) j 2 at j u (inl (omega arith)) ∙ w .rows);
-          outside = put-kept at j (omega arith) (omega arith);
-        }
-
--- ---- one more at each of some rows
-
-ones-length : (cs rs : List ℕ) → length (ones cs rs) ≡ length cs
-unfolding ones
-ones-length cs [] = refl
-ones-length cs (x ∷ rs) = ones-length (set cs x _) rs ∙ length-set cs x _
-
--- where the rows are different, as those of rising masks are
-ones-at : (f : ℕ → ℕ) (cs rs : List ℕ) → Rising (map f rs) → ((k : ℕ) → Mem k rs → k < length cs) → (k : ℕ)
-    → getD (ones cs rs) k 0 ≡ getD cs k 0 + oneIf (member k rs)
-unfolding ones member oneIf
-ones-at f cs [] r b k = omega arith
-ones-at f cs (x ∷ rs) r b k =
-    ones-at f (set cs x (getD cs x 0 + 1)) rs (r .1) (λ i m. rw (length-set cs x (getD cs x 0 + 1)) (b i (inr m))) k ∙ go (eqb k x) refl
-  where
-    go : (t : Bool) → eqb k x ≡ t → getD (set cs x (getD cs x 0 + 1)) k 0 + oneIf (member k rs) ≡ getD cs k 0 + oneIf (t || member k rs)
-    go true e =
-        let d = eqb-true k x e in
-        let n = member-not k rs (λ m. omega (arith, r .0 (f k) (mem-map f rs k m), ap f d)) in
-        rw (n, d) (omega (arith, getD-set-same cs x (getD cs x 0 + 1) 0 (b x (inl refl))))
-    go false e = rw (getD-set-other cs x k (getD cs x 0 + 1) 0 (eqb-false k x e))
-
--- ---- the loop that adds to the counts
-
-module _ (s : List ℕ) (g : HeadAt s) where
-  pub few-trees : treesHeldAt s ≤ 1024
-  unfolding openingAt
-  few-trees = omega (arith, g .trees-fit, good-opening (openingAt s) (g .opening-good) .ranges .most-trees)
-
-  pub counts-inside : (countsFrom (numbersAt s) + 4 * splitsHeldAt s ≤ linksFrom (numbersAt s)) × (linksFrom (numbersAt s) ≤ length s)
-  counts-inside =
-      let c = counts-from (numbersAt s) in
-      let l = links-from (numbersAt s) in
-      (omega (arith, g .splits-fit), omega (arith, size-is s, g .reached))
-
-  counts-are : countsOf s s ≡ partsAt s .counts
-  unfolding partsAt
-  counts-are = ap (λ (n : ℕ). columnAt 4 (countsFrom (numbersAt s)) n s) (splits-held-is s)
-
-  module _ (rs : List ℕ) (f : Sound (openingAt s) (partsAt s)) (r : Rows (partsAt s) rs) where
-    pub adding-none : Adding s rs 0 s
-    unfolding listedIn count
-    adding-none = record {
-      size = refl;
-      counts = ap (λ (c : List ℕ). ones c rs) counts-are;
-      few =
-          λ k h.
-          let a = keep-most (member k) (take (treesHeldAt s) (partsAt s .lists)) in
-          let b = ap (λ (l : List (List ℕ)). length l) (take-length (partsAt s .lists)) in
-          rw counts-are (omega (arith, f .counts k h, few-trees));
-      outside = λ i h. refl;
+pub room-is : (s : List ℕ) → HeadAt s → treesHeldAt s < numbersAt s .treeRoom → Room s
+unfolding openingAt
+room-is s g h =
+    let n = numbersAt s in
+    let r = good-opening (openingAt s) (g .opening-good) .ranges in
+    let m = masks-from n in
+    let c = counts-from n in
+    let l = links-from n in
+    let i = identifiers-from n in
+    let f = g .splits-fit in
+    record {
+      taxa = r .most-taxa;
+      trees = omega (arith, r .most-trees);
+      splits = omega (arith, r .most-splits);
+      list = (omega (arith, tree-from n (treesHeldAt s)), omega (arith, tree-from n (treesHeldAt s)));
+      identifiers = (omega arith, omega arith);
+      counts = omega arith;
+      links = omega arith;
+      order = (omega (arith, order-from n), omega (arith, places-from n));
+      end = (omega (arith, size-is s), g .reached);
     }
 
-    module _ (j : ℕ) (u : List ℕ) (a : Adding s rs j u) where
-      -- the count of the next row, at the place that the code computes
-      module _ (h : j < length rs) (at : ℕ) (p : at ≡ countsFrom (numbersAt s) + 4 * getD rs j 0) where
-        row : getD rs j 0 < splitsHeldAt s
-        row = r .below (getD rs j 0) (mem-getD rs j h)
+module _ (s rs : List ℕ) (z : Room s) (f : Sound (openingAt s) (partsAt s)) (r : Rows (partsAt s) rs) where
+  -- ---- the loop
 
-        next : getD (countsOf s u) (getD rs j 0) 0 ≡ number 4 u at
-        next = rw p (column-at 4 (countsFrom (numbersAt s)) (splitsHeldAt s) u (getD rs j 0) row)
+  pub entering-none : Entering s rs 0 s
+  unfolding columnAt upTo fromTo
+  entering-none =
+      record { size = refl; rows = refl; counts = λ k h. ap (λ (c : ℕ). c + oneIf (member k rs)) (sym (count-is s k h)); rises = r .rises; outside = λ i p q. refl }
 
-        pub adding-fits : (at + 4 ≤ length u) × (number 4 u at ≤ 1024 + j)
-        adding-fits = (omega (arith, a .size, row, counts-inside), rw (← next) (a .few (getD rs j 0) row))
+  module _ (j : ℕ) (u : List ℕ) (e : Entering s rs j u) (h : j < length rs)
+      (x to at : ℕ) (d : x ≡ getD rs j 0) (o : to ≡ nextFrom s + 2 + 2 * j) (p : at ≡ countsFrom (numbersAt s) + 4 * x) where
+    row : x < splitsHeldAt s
+    row = rw d (r .below (getD rs j 0) (mem-getD rs j h))
 
-        module _ (v : ℕ) (e : v ≡ number 4 u at) (l : j ≤ 62) where
-          counts-set : countsOf s (put 4 u at (v + 1)) ≡ set (countsOf s u) (getD rs j 0) (getD (countsOf s u) (getD rs j 0) 0 + 1)
-          counts-set =
-              rw (next, ← e, p)
-              (column-set 4 (countsFrom (numbersAt s)) (splitsHeldAt s) (v + 1) u (omega (arith, adding-fits)) (getD rs j 0) row (omega (arith, a .size, counts-inside)))
+    rest : drop j rs ≡ x ∷ drop (suc j) rs
+    rest = rw d (drop-cons rs j 0 h)
 
-          few-more : (k : ℕ) (t : Bool) → eqb k (getD rs j 0) ≡ t → k < splitsHeldAt s
-              → getD (set (countsOf s u) (getD rs j 0) (getD (countsOf s u) (getD rs j 0) 0 + 1)) k 0 ≤ 1024 + (j + 1)
-          few-more k true q m =
-              rw (eqb-true k (getD rs j 0) q, getD-set-same (countsOf s u) (getD rs j 0) (getD (countsOf s u) (getD rs j 0) 0 + 1) 0 (rw (column-length 4 (countsFrom (numbersAt s)) (splitsHeldAt s) u) row))
-              (omega (arith, a .few (getD rs j 0) row))
-          few-more k false q m = rw (getD-set-other (countsOf s u) (getD rs j 0) k (getD (countsOf s u) (getD rs j 0) 0 + 1) 0 (eqb-false k (getD rs j 0) q)) (omega (arith, a .few k m))
+    -- with the row written
+    abbrev w : List ℕ
+    w = put 2 u to x
 
-          pub adding-more : Adding s rs (j + 1) (put 4 u at (v + 1))
-          unfolding ones
-          adding-more =
-              record {
-                size = put-length 4 u at (v + 1) ∙ a .size;
-                counts = rw (counts-set, add-one j) (ap (ones (countsOf s u)) (sym (drop-cons rs j 0 h)) ∙ a .counts);
-                few = λ k m. rw counts-set (few-more k (eqb k (getD rs j 0)) refl m);
-                outside = outside;
-              }
-            where
-              outside : (i : ℕ) → (i < countsFrom (numbersAt s)) ⊎ (linksFrom (numbersAt s) ≤ i) → getD (put 4 u at (v + 1)) i 0 ≡ getD s i 0
-              outside i (inl q) = put-outside 4 u at (v + 1) i (inl (omega arith)) ∙ a .outside i (inl q)
-              outside i (inr q) = put-outside 4 u at (v + 1) i (inr (omega (arith, row, counts-inside))) ∙ a .outside i (inr q)
+    beside : (b : ℕ) → countsFrom (numbersAt s) ≤ b → number 4 w b ≡ number 4 u b
+    beside b l = number-put-outside 4 2 u to x b (inr (omega (arith, z .list, z .identifiers, r .few)))
 
-      pub adding-all : j ≡ length rs → CountsAdded s rs u
-      unfolding withList ones
-      adding-all e = record {
-        size = a .size;
-        counts =
-            rw (e, drop-length rs) at (a .counts)
-            ∙ ext-getD 0 _ _ (ones-length (partsAt s .counts) rs ∙ shaped-at s .counts ∙ sym (upTo-length _ (splitsHeldAt s))) (λ i q.
-            ones-at (maskIn (partsAt s)) (partsAt s .counts) rs (r .rises) (λ k m. rw (shaped-at s .counts) (r .below k m)) i
-            ∙ sym (upTo-at _ (splitsHeldAt s) i 0 (omega (arith, ones-length (partsAt s .counts) rs, shaped-at s .counts))));
-        outside = a .outside;
-      }
+    count-few : countAt s x ≤ 1024
+    unfolding listedIn count
+    count-few =
+        let a = keep-most (member x) (take (treesHeldAt s) (partsAt s .lists)) in
+        let b = ap (λ (l : List (List ℕ)). length l) (take-length (partsAt s .lists)) in
+        omega (arith, f .counts x row, z .trees)
+
+    pub entering-fits : (x < 65536) × (at + 4 ≤ length s) × (number 4 w at ≤ 1025)
+    entering-fits = (
+      omega (arith, row, z .splits),
+      omega (arith, row, z .links, z .end),
+      rw (beside at (omega arith), p) (omega (arith, e .counts x row, count-few, one-most (member x rs))),
+    )
+
+    module _ (v : ℕ) (q : v ≡ number 4 w at) where
+      one-more : (k : ℕ) (b : Bool) → eqb k x ≡ b → number 4 (put 4 w at (v + 1)) (countsFrom (numbersAt s) + 4 * k) + oneIf (member k (drop (suc j) rs))
+          ≡ number 4 u (countsFrom (numbersAt s) + 4 * k) + oneIf (b || member k (drop (suc j) rs))
+      unfolding oneIf
+      one-more k true y =
+          let a = eqb-true k x y in
+          let n = member-not k (drop (suc j) rs) (λ m. omega (arith, (rw rest at (e .rises)) .0 (maskAt s k) (mem-map (maskAt s) (drop (suc j) rs) k m), ap (maskAt s) a)) in
+          let c = number-put 4 w at (v + 1) (omega (arith, entering-fits .1, put-length 2 u to x, e .size)) (omega (arith, entering-fits .2)) in
+          rw (n, a, ← p) (omega (arith, c, beside at (omega arith)))
+      one-more k false y =
+          let a = number-put-outside 4 4 w at (v + 1) (countsFrom (numbersAt s) + 4 * k) (⊎-map (λ l. omega arith) (λ l. omega (arith, eqb-false k x y)) (less-or-not k x)) in
+          rw (a, beside (countsFrom (numbersAt s) + 4 * k) (omega arith))
+
+      pub entering-more : Entering s rs (j + 1) (put 4 w at (v + 1))
+      unfolding member
+      entering-more =
+          record {
+            size = put-length 4 w at (v + 1) ∙ put-length 2 u to x ∙ e .size;
+            rows =
+                rw (add-one j, take-suc rs j 0 h, ← d, ← e .rows)
+                (column-beside 2 (nextFrom s + 2) (suc j) 4 at (v + 1) w (inr (omega (arith, z .list, z .identifiers, r .few)))
+                ∙ rw o (column-more 2 (nextFrom s + 2) j x u (entering-fits .0) (omega (arith, e .size, z .list, z .identifiers, z .links, z .end, r .few))));
+            counts = λ k l. rw (add-one j) (one-more k (eqb k x) refl ∙ rw rest at (e .counts k l));
+            rises = rw (add-one j) ((rw rest at (e .rises)) .1);
+            outside =
+                λ i a b.
+                put-outside 4 w at (v + 1) i (⊎-map (λ l. omega arith) (λ l. omega (arith, row, z .links)) b)
+                ∙ put-outside 2 u to x i (⊎-map (λ l. omega arith) (λ l. omega (arith, r .few)) a)
+                ∙ e .outside i a b;
+          }
+
+  -- ---- the bytes behind all steps
+
+  module _ (u t : List ℕ) (e : Entering s rs (length rs) u) (y : t ≡ put 2 (put 2 u (nextFrom s) (length rs)) 10 (treesHeldAt s + 1)) where
+    abbrev n : Numbers
+    n = numbersAt s
+
+    size : length t ≡ length s
+    size = rw y (put-length 2 _ 10 _ ∙ put-length 2 u (nextFrom s) (length rs) ∙ e .size)
+
+    byte : (i : ℕ) → (i < 10) ⊎ (12 ≤ i) → (i < nextFrom s) ⊎ (nextFrom s + 128 ≤ i) → (i < countsFrom n) ⊎ (linksFrom n ≤ i) → getD t i 0 ≡ getD s i 0
+    byte i a b c = rw y (put-outside 2 _ 10 _ i a ∙ put-outside 2 u (nextFrom s) (length rs) i (⊎-map (λ l. l) (λ l. omega arith) b) ∙ e .outside i b c)
+
+    front : Kept s t 0 10
+    front i a b = byte i (inl b) (inl (omega (arith, z .list))) (inl (omega (arith, z .list, z .identifiers)))
+
+    before : Kept s t 12 (nextFrom s)
+    before i a b = byte i (inr a) (inl b) (inl (omega (arith, z .list, z .identifiers)))
+
+    between : Kept s t (masksFrom n) (countsFrom n)
+    between i a b = byte i (inr (omega (arith, z .list))) (inr (omega (arith, z .list))) (inl b)
+
+    behind : (i : ℕ) → linksFrom n ≤ i → getD t i 0 ≡ getD s i 0
+    behind i a = byte i (inr (omega (arith, z .list, z .identifiers, z .links))) (inr (omega (arith, z .list, z .identifiers, z .links))) (inr a)
+
+    -- ---- the parts
+
+    trees : number 2 t 10 ≡ suc (number 2 s 10)
+    trees = rw (y, ← trees-held-is s, ← add-one (treesHeldAt s)) (number-put 2 _ 10 (treesHeldAt s + 1) (omega (arith, put-length 2 u (nextFrom s) (length rs), e .size, z .list, z .identifiers, z .links, z .end)) (omega (arith, z .trees)))
+
+    splits : number 2 t 12 ≡ number 2 s 12
+    splits = number-kept s t 12 (nextFrom s) before 2 12 (omega arith) (omega (arith, z .list))
+
+    counted : (k : ℕ) → k < splitsHeldAt s → number 4 t (countsFrom n + 4 * k) ≡ countAt s k + oneIf (member k rs)
+    unfolding member oneIf
+    counted k h =
+        let a : number 4 t (countsFrom n + 4 * k) ≡ number 4 u (countsFrom n + 4 * k) =
+        rw y (number-put-outside 4 2 _ 10 _ _ (inr (omega (arith, z .list, z .identifiers))) ∙ number-put-outside 4 2 u _ _ _ (inr (omega (arith, z .list, z .identifiers)))) in
+        omega (arith, rw (drop-length rs) at (e .counts k h))
+
+    old : (i : ℕ) → i < number 2 s 10 → listFrom t (treeFrom n i) ≡ listFrom s (treeFrom n i)
+    old i h =
+        let k : i < treesHeldAt s = omega (arith, trees-held-is s) in
+        let a = tree-from n i in
+        let b = tree-from n (treesHeldAt s) in
+        list-kept s t 12 (nextFrom s) before (treeFrom n i) (omega arith) (omega (arith, f .lists i k .few, list-length s i k))
+
+    new : listFrom t (nextFrom s) ≡ rs
+    unfolding listFrom
+    new =
+        rw (
+          y,
+          number-put-outside 2 2 _ 10 (treesHeldAt s + 1) (nextFrom s) (inr (omega (arith, z .list)))
+              ∙ number-put 2 u (nextFrom s) (length rs) (omega (arith, e .size, z .list, z .identifiers, z .links, z .end)) (omega (arith, r .few)),
+        )
+        (column-beside 2 (nextFrom s + 2) (length rs) 2 10 _ _ (inl (omega (arith, z .list)))
+        ∙ column-beside 2 (nextFrom s + 2) (length rs) 2 (nextFrom s) _ u (inl (omega arith))
+        ∙ e .rows
+        ∙ take-length rs)
+
+    lane-end : (k : ℕ) → k < n .lanes → (12 ≤ laneFrom k) × (laneFrom k + 4104 ≤ nextFrom s)
+    lane-end k h = (omega (arith, lane-from k), omega (arith, lane-from k, z .list))
+
+    parts : partsAt t ≡ withList rs (partsAt s)
+    unfolding partsAt withList columnAt openingAt
+    parts =
+        let few = splits-held-is s in
+        rw (
+          numbers-kept s t front,
+          ap (λ (x : Numbers). x .places) (numbers-kept s t front),
+          ap (λ (x : Numbers). x .lanes) (numbers-kept s t front),
+          splits,
+          trees,
+          column-same 8 (masksFrom n) (number 2 s 12) t s (λ i a b. between i a (omega (arith, z .identifiers))),
+          column-same 8 (identifiersFrom n) (number 2 s 12) t s (λ i a b. between i (omega (arith, z .identifiers)) (omega (arith, z .counts))),
+          rw few at (upTo-same _ _ (splitsHeldAt s) counted),
+          few,
+          column-same 2 (linksFrom n) (number 2 s 12) t s (λ i a b. behind i a),
+          column-same 2 (orderFrom n) (number 2 s 12) t s (λ i a b. behind i (omega (arith, z .order))),
+          column-same 2 (placesFrom n) (n .places) t s (λ i a b. behind i (omega (arith, z .order))),
+          upTo-more (λ i. listFrom t (treeFrom n i)) (number 2 s 10),
+          upTo-same _ _ (number 2 s 10) old,
+          ← trees-held-is s,
+          new,
+          upTo-same _ _ (n .lanes) (λ k h. number-kept s t 12 (nextFrom s) before 2 (laneFrom k) (lane-end k h .0) (omega (arith, lane-end k h))),
+          upTo-same _ _ (n .lanes) (λ k h. text-kept s t 12 (nextFrom s) before (omega (arith, z .list)) size (laneFrom k) (lane-end k h .0) (omega (arith, f .lanes k h, length-is s k h)) (lane-end k h .1)),
+        )
+
+    pub entered : ((i : ℕ) → getD s i 0 < 256) → Listed s rs t
+    unfolding numbersAt
+    entered bytes = record {
+      parts = parts;
+      opening =
+          opening-kept s t front (λ i a b. before i (omega arith) (omega (arith, z .list)))
+          (omega (arith, z .list, z .identifiers, z .links, z .end)) size bytes (z .taxa);
+      size = size;
+      behind = λ i a. behind i (omega (arith, z .end));
+    }

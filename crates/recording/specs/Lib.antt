@@ -3,7 +3,6 @@ pub mod Added
 pub mod Listed
 pub mod Entering
 pub mod ListSoundLaws
-pub mod EnteringLaws
 pub mod KeptLaws
-pub mod ListedLaws
+pub mod EnteringLaws
 pub mod Recording
