@@ -1,7 +1,6 @@
 -- The definitions that the contracts cite, and their laws.
 pub mod Added
 pub mod Listed
-pub mod Entering
 pub mod ListSoundLaws
 pub mod KeptLaws
 pub mod EnteringLaws

@@ -12,8 +12,7 @@ use Rattle.head.specs.Head.{numbersAt, openingAt}
 use Rattle.layout.specs.Store.{treeFrom, countsFrom, partsAt, treesHeldAt}
 use Rattle.layout.specs.Sound.{Sound}
 use Rattle.recording.specs.Listed.{Rows}
-use Rattle.recording.specs.Entering.{nextFrom, Entering}
-use Rattle.recording.specs.EnteringLaws.{Room, room-is, entering-none, entering-fits, entering-more, entered}
+use Rattle.recording.specs.EnteringLaws.{nextFrom, Entering, Room, room-is, entering-none, entering-fits, entering-more, entered}
 use Rattle.recording.proofs.listing.list_tree.Statement.{statement}
 use Rattle.recording.proofs.listing.list_tree.Tie as tie
 
@@ -44,11 +43,11 @@ module _ (s rows : List ℕ) (n trees from counts j : ℕ) (u : List ℕ) (i : I
   at-is : counts + 4 * getD rows j 0 ≡ countsFrom (numbersAt s) + 4 * getD rows j 0
   at-is = rw (i .counts-is)
 
-  fits : (getD rows j 0 < 65536) × (counts + 4 * getD rows j 0 + 4 ≤ length s) × (number 4 (put 2 u (from + 2 + 2 * j) (getD rows j 0)) (counts + 4 * getD rows j 0) ≤ 1025)
+  fits : (getD rows j 0 < 65536) × (counts + 4 * getD rows j 0 + 4 ≤ length s) × (number 4 (put 2 u (from + 2 + 2 * j) (getD rows j 0)) (counts + 4 * getD rows j 0) ≤ 1024)
   fits = entering-fits s (take n rows) (i .room) f r j u (i .entering) short _ _ _ (sym (getD-take n rows j 0 h)) to-is at-is
 
   module _ (w : List ℕ) (q : w ≡ put 2 u (from + 2 + 2 * j) (getD rows j 0)) where
-    written : (counts + 4 * getD rows j 0 + 4 ≤ length w) × (number 4 w (counts + 4 * getD rows j 0) ≤ 1025)
+    written : (counts + 4 * getD rows j 0 + 4 ≤ length w) × (number 4 w (counts + 4 * getD rows j 0) ≤ 1024)
     written = rw q (omega (arith, fits .1, put-length 2 u (from + 2 + 2 * j) (getD rows j 0), i .entering .size), fits .2)
 
     again : (v : ℕ) → v ≡ number 4 w (counts + 4 * getD rows j 0) → Inv s rows n trees from counts (j + 1) (put 4 w (counts + 4 * getD rows j 0) (v + 1))
@@ -66,12 +65,12 @@ module _ (s rows : List ℕ) (n trees from counts j : ℕ) (u : List ℕ) (i : I
 inside : (s rows : List ℕ) (n trees from counts j : ℕ) (u : List ℕ) → Inv s rows n trees from counts j u → (4096 ≤ from) × (from + 128 ≤ length u)
 inside s rows n trees from counts j u i =
     let z = i .room in
-    (omega (arith, i .from-is, z .list), omega (arith, i .from-is, z .list, z .identifiers, z .links, z .end, i .entering .size))
+    (omega (arith, i .from-is, z .list), omega (arith, i .from-is, z, i .entering .size))
 
 tree-from-requires : tie.Need-tree-from-requires Inv-loop μ-loop
 tree-from-requires c κs =
     let p = c .before .before .before .before .before .pre in
-    (p .0 .0 .head-there, omega (arith, c .before .trees-held .ensures, room-is _ (p .0 .0) (p .1 .0) .trees))
+    (p .0 .0 .head-there, omega (arith, c .before .trees-held .ensures, room-is _ (p .0 .0) (p .1 .0) .few))
 
 loop-holds : tie.Need-loop-holds Inv-loop μ-loop
 loop-holds c =
@@ -182,8 +181,8 @@ list-tree-spec =
     loop-again
     (λ c. omega arith)
     (λ c κs. omega (arith, inside _ _ _ _ _ _ _ _ (c .before .before .loop .inv)))
-    (λ c. omega (arith, c .before .before .before .before .before .before .loop .inv .trees-is, c .before .before .before .before .before .before .loop .inv .room .trees))
-    (λ c. omega (arith, c .before .before .before .before .before .before .loop .inv .trees-is, c .before .before .before .before .before .before .loop .inv .room .trees))
+    (λ c. omega (arith, c .before .before .before .before .before .before .loop .inv .trees-is, c .before .before .before .before .before .before .loop .inv .room .few))
+    (λ c. omega (arith, c .before .before .before .before .before .before .loop .inv .trees-is, c .before .before .before .before .before .before .loop .inv .room .few))
     put16-requires-3
     (λ c. search needs)
     returns)
