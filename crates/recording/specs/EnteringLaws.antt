@@ -9,10 +9,10 @@
 use Prim.Native.Nat.{ℕ, suc, _+_, _*_, _≤_, _<_}
 use native.Mathlib.Numerals.{add-one}
 use native.Mathlib.Omega.{arith}
-use mathlib.Core.Path.{_≡_, refl, sym, ap, _∙_}
+use mathlib.Core.Path.{_≡_, refl, ap, _∙_}
 use mathlib.Core.Logic.{_⊎_, inl, inr, ⊎-map}
 use mathlib.Core.Bool.{Bool, true, false, _||_}
-use mathlib.Core.List.{List, [], _∷_, _++_, map}
+use mathlib.Core.List.{List, _∷_, map}
 use lib.Dec.{eqb}
 use lib.ListN.{length, getD, take, drop}
 use lib.Seq.{take-suc, take-length, drop-cons, drop-length}
@@ -28,7 +28,7 @@ use Rattle.fields.specs.FieldLaws.{put-length, put-outside, number-put, number-
 use Rattle.head.specs.Head.{fromTo, upTo, numbersAt, openingAt}
 use Rattle.head.specs.HeadLaws.{upTo-same}
 use Rattle.layout.specs.Columns.{columnAt, column-same, column-beside, column-more, upTo-more}
-use Rattle.layout.specs.Store.{laneFrom, treeFrom, masksFrom, identifiersFrom, countsFrom, linksFrom, orderFrom, placesFrom, sizeAt, listFrom, textFrom, partsAt, treesHeldAt, splitsHeldAt, maskAt, countAt}
+use Rattle.layout.specs.Store.{laneFrom, treeFrom, masksFrom, identifiersFrom, countsFrom, linksFrom, orderFrom, placesFrom, sizeAt, listFrom, partsAt, treesHeldAt, splitsHeldAt, maskAt, countAt}
 use Rattle.layout.specs.StoreLaws.{lane-from, tree-from, masks-from, identifiers-from, counts-from, links-from, order-from, places-from, size-is, trees-held-is, splits-held-is, count-is, list-length, length-is}
 use Rattle.layout.specs.WholeStore.{listedIn}
 use Rattle.layout.specs.WholeFacts.{HeadAt}
@@ -86,9 +86,7 @@ module _ (s rs : List ℕ) (z : Room s) (f : Sound (openingAt s) (partsAt s)) (r
 
   pub entering-none : Entering s rs 0 s
   unfolding columnAt upTo fromTo
-  entering-none =
-      let c : (k : ℕ) → k < splitsHeldAt s → number 4 s (countsFrom n + 4 * k) + oneIf (member k rs) ≡ countAt s k + oneIf (member k rs) = λ k h. rw (count-is s k h) in
-      record { size = refl; rows = refl; counts = c; rises = r .rises; outside = λ i p q. refl }
+  entering-none = record { size = refl; rows = refl; counts = λ k h. rw (count-is s k h); rises = r .rises; outside = λ i p q. refl }
 
   -- the next row x is put at `to`, and its count is at `at`
   module _ (j : ℕ) (u : List ℕ) (e : Entering s rs j u) (h : j < length rs)
@@ -191,8 +189,11 @@ module _ (s rs : List ℕ) (z : Room s) (f : Sound (openingAt s) (partsAt s)) (r
     new : listFrom t (nextFrom s) ≡ rs
     unfolding listFrom
     new =
-        rw (y, number-put-outside 2 2 _ 10 (treesHeldAt s + 1) (nextFrom s) (inr (omega (arith, z .list)))
-        ∙ number-put 2 u (nextFrom s) (length rs) (omega (arith, e .size, z)) (omega (arith, r .few)))
+        rw (
+          y,
+          number-put-outside 2 2 _ 10 (treesHeldAt s + 1) (nextFrom s) (inr (omega (arith, z .list)))
+              ∙ number-put 2 u (nextFrom s) (length rs) (omega (arith, e .size, z)) (omega (arith, r .few)),
+        )
         (column-beside 2 (nextFrom s + 2) (length rs) 2 10 _ _ (inl (omega (arith, z .list)))
         ∙ column-beside 2 (nextFrom s + 2) (length rs) 2 (nextFrom s) _ u (inl (omega arith))
         ∙ e .rows
@@ -225,7 +226,7 @@ module _ (s rs : List ℕ) (z : Room s) (f : Sound (openingAt s) (partsAt s)) (r
           new,
           upTo-same _ _ (n .lanes) (λ k h. number-kept s t 12 (nextFrom s) before 2 (laneFrom k) (lane k h .0) (omega (arith, lane k h))),
           upTo-same _ _ (n .lanes) (λ k h.
-          text-kept s t 12 (nextFrom s) before (omega (arith, z)) size (laneFrom k) (lane k h .0) (omega (arith, f .lanes k h, length-is s k h)) (lane k h .1)),
+              text-kept s t 12 (nextFrom s) before (omega (arith, z)) size (laneFrom k) (lane k h .0) (omega (arith, f .lanes k h, length-is s k h)) (lane k h .1)),
         )
 
     pub entered : ((i : ℕ) → getD s i 0 < 256) → Listed s rs t

@@ -12,60 +12,53 @@ use Rattle.head.specs.Head.{numbersAt, openingAt}
 use Rattle.layout.specs.Store.{treeFrom, countsFrom, partsAt, treesHeldAt}
 use Rattle.layout.specs.Sound.{Sound}
 use Rattle.recording.specs.Listed.{Rows}
-use Rattle.recording.specs.EnteringLaws.{nextFrom, Entering, Room, room-is, entering-none, entering-fits, entering-more, entered}
+use Rattle.recording.specs.EnteringLaws.{nextFrom, Room, room-is, Entering, entering-none, entering-fits, entering-more, entered}
 use Rattle.recording.proofs.listing.list_tree.Statement.{statement}
 use Rattle.recording.proofs.listing.list_tree.Tie as tie
 
--- what the code has read, and how far it has come
-record Inv (s rows : List ℕ) (n trees from counts j : ℕ) (u : List ℕ) : Type 0 where
+-- what is known before the loop
+record Given (s rows : List ℕ) (n trees from counts : ℕ) : Type 0 where
   room : Room s
+  sound : Sound (openingAt s) (partsAt s)
+  tree : Rows (partsAt s) (take n rows)
+  long : n ≤ length rows
   trees-is : trees ≡ treesHeldAt s
   from-is : from ≡ nextFrom s
   counts-is : counts ≡ countsFrom (numbersAt s)
-  within : j ≤ n
-  entering : Entering s (take n rows) j u
 
 abbrev Inv-loop : tie.InvT-loop
-Inv-loop s₀ n rows trees from counts j₀ s j = Inv s₀ rows n trees from counts j s
+Inv-loop s₀ n rows trees from counts j₀ s j = Given s₀ rows n trees from counts × (j ≤ n) × Entering s₀ (take n rows) j s
 
 abbrev μ-loop : tie.MeasureT-loop
 μ-loop s₀ n rows trees from counts j₀ s j = n - j
 
--- one turn of the loop
-module _ (s rows : List ℕ) (n trees from counts j : ℕ) (u : List ℕ) (i : Inv s rows n trees from counts j u) (f : Sound (openingAt s) (partsAt s)) (r : Rows (partsAt s) (take n rows))
-    (h : j < n) (l : n ≤ length rows) where
-  short : j < length (take n rows)
-  short = omega (arith, length-take-le n rows l)
+module _ {s rows : List ℕ} {n trees from counts : ℕ} (g : Given s rows n trees from counts) (j : ℕ) (u : List ℕ) (e : Entering s (take n rows) j u) where
+  -- the list lies inside
+  inside : (4096 ≤ from) × (from + 128 ≤ length u)
+  inside = (omega (arith, g .from-is, g .room .list), omega (arith, g .from-is, g .room, e .size))
 
-  to-is : from + 2 + 2 * j ≡ nextFrom s + 2 + 2 * j
-  to-is = rw (i .from-is)
+  -- one turn of the loop
+  module _ (h : j < n) where
+    short : j < length (take n rows)
+    short = omega (arith, length-take-le n rows (g .long))
 
-  at-is : counts + 4 * getD rows j 0 ≡ countsFrom (numbersAt s) + 4 * getD rows j 0
-  at-is = rw (i .counts-is)
+    to-is : from + 2 + 2 * j ≡ nextFrom s + 2 + 2 * j
+    to-is = rw (g .from-is)
 
-  fits : (getD rows j 0 < 65536) × (counts + 4 * getD rows j 0 + 4 ≤ length s) × (number 4 (put 2 u (from + 2 + 2 * j) (getD rows j 0)) (counts + 4 * getD rows j 0) ≤ 1024)
-  fits = entering-fits s (take n rows) (i .room) f r j u (i .entering) short _ _ _ (sym (getD-take n rows j 0 h)) to-is at-is
+    at-is : counts + 4 * getD rows j 0 ≡ countsFrom (numbersAt s) + 4 * getD rows j 0
+    at-is = rw (g .counts-is)
 
-  module _ (w : List ℕ) (q : w ≡ put 2 u (from + 2 + 2 * j) (getD rows j 0)) where
-    written : (counts + 4 * getD rows j 0 + 4 ≤ length w) × (number 4 w (counts + 4 * getD rows j 0) ≤ 1024)
-    written = rw q (omega (arith, fits .1, put-length 2 u (from + 2 + 2 * j) (getD rows j 0), i .entering .size), fits .2)
+    fits : (getD rows j 0 < 65536) × (counts + 4 * getD rows j 0 + 4 ≤ length s)
+        × (number 4 (put 2 u (from + 2 + 2 * j) (getD rows j 0)) (counts + 4 * getD rows j 0) ≤ 1024)
+    fits = entering-fits s (take n rows) (g .room) (g .sound) (g .tree) j u e short _ _ _ (sym (getD-take n rows j 0 h)) to-is at-is
 
-    again : (v : ℕ) → v ≡ number 4 w (counts + 4 * getD rows j 0) → Inv s rows n trees from counts (j + 1) (put 4 w (counts + 4 * getD rows j 0) (v + 1))
-    again v e =
-        record {
-          room = i .room;
-          trees-is = i .trees-is;
-          from-is = i .from-is;
-          counts-is = i .counts-is;
-          within = omega arith;
-          entering = rw q (entering-more s (take n rows) (i .room) f r j u (i .entering) short _ _ _ (sym (getD-take n rows j 0 h)) to-is at-is v (rw q at e));
-        }
+    module _ (w : List ℕ) (q : w ≡ put 2 u (from + 2 + 2 * j) (getD rows j 0)) where
+      written : (counts + 4 * getD rows j 0 + 4 ≤ length w) × (number 4 w (counts + 4 * getD rows j 0) ≤ 1024)
+      written = rw q (omega (arith, fits .1, put-length 2 u (from + 2 + 2 * j) (getD rows j 0), e .size), fits .2)
 
--- the list lies inside
-inside : (s rows : List ℕ) (n trees from counts j : ℕ) (u : List ℕ) → Inv s rows n trees from counts j u → (4096 ≤ from) × (from + 128 ≤ length u)
-inside s rows n trees from counts j u i =
-    let z = i .room in
-    (omega (arith, i .from-is, z .list), omega (arith, i .from-is, z, i .entering .size))
+      counted : (v : ℕ) → v ≡ number 4 w (counts + 4 * getD rows j 0) → Entering s (take n rows) (j + 1) (put 4 w (counts + 4 * getD rows j 0) (v + 1))
+      counted v r =
+          rw q (entering-more s (take n rows) (g .room) (g .sound) (g .tree) j u e short _ _ _ (sym (getD-take n rows j 0 h)) to-is at-is v (rw q at r))
 
 tree-from-requires : tie.Need-tree-from-requires Inv-loop μ-loop
 tree-from-requires c κs =
@@ -76,83 +69,111 @@ loop-holds : tie.Need-loop-holds Inv-loop μ-loop
 loop-holds c =
     let p = c .before .before .before .before .before .before .before .before .pre in
     let e = c .before .before .before .before .trees-held .ensures in
-    let z = room-is _ (p .0 .0) (p .1 .0) in
-    record {
-      room = z;
-      trees-is = e;
-      from-is = c .before .before .tree-from .ensures .0 ∙ ap (treeFrom _) e;
-      counts-is = c .counts-from .ensures .0;
-      within = omega arith;
-      entering = entering-none _ _ z (p .0 .1) (p .1 .1 .1);
-    }
+    let z = room-is _ (p .0 .0) (p .1 .0) in (
+      record {
+        room = z;
+        sound = p .0 .1;
+        tree = p .1 .1 .1;
+        long = p .1 .1 .0 .1;
+        trees-is = e;
+        from-is = c .before .before .tree-from .ensures .0 ∙ ap (treeFrom _) e;
+        counts-is = c .counts-from .ensures .0;
+      },
+      omega arith,
+      entering-none _ _ z (p .0 .1) (p .1 .1 .1),
+    )
 
 mul-at : tie.Need-mul-at Inv-loop μ-loop
 mul-at c =
-    let d = c .before .before .before .before .before .before .before .before .before .before .before in
     let l = c .before .before .loop in
-    let x = fits _ _ _ _ _ _ (l .j) (l .s) (l .inv) (d .pre .0 .1) (d .pre .1 .1 .1) (omega arith) (d .pre .1 .1 .0 .1) in
-    omega (arith, d .good .0, x .1)
+    let x = fits (l .inv .0) (l .j) (l .s) (l .inv .2) (omega arith) in
+    omega (arith, c .before .before .before .before .before .before .before .before .before .before .before .good .0, x .1)
 
 add-at : tie.Need-add-at Inv-loop μ-loop
 add-at c =
-    let d = c .before .before .before .before .before .before .before .before .before .before .before in
     let l = c .before .before .loop in
-    let x = fits _ _ _ _ _ _ (l .j) (l .s) (l .inv) (d .pre .0 .1) (d .pre .1 .1 .1) (omega arith) (d .pre .1 .1 .0 .1) in
-    omega (arith, d .good .0, x .1)
+    let x = fits (l .inv .0) (l .j) (l .s) (l .inv .2) (omega arith) in
+    omega (arith, c .before .before .before .before .before .before .before .before .before .before .before .good .0, x .1)
+
+add-put16 : tie.Need-add-put16 Inv-loop μ-loop
+add-put16 c =
+    let l = c .before .before .before .loop in
+    omega (arith, c .before .before .before .before .before .before .before .before .before .before .before .before .good .0, inside (l .inv .0) (l .j) (l .s) (l .inv .2))
+
+add-put16-2 : tie.Need-add-put16-2 Inv-loop μ-loop
+add-put16-2 c =
+    let l = c .before .before .before .loop in
+    omega (arith, c .before .before .before .before .before .before .before .before .before .before .before .before .good .0, inside (l .inv .0) (l .j) (l .s) (l .inv .2))
 
 cast-put16 : tie.Need-cast-put16 Inv-loop μ-loop
 cast-put16 c =
-    let d = c .before .before .before .before .before .before .before .before .before .before .before .before in
     let l = c .before .before .before .loop in
-    let x = fits _ _ _ _ _ _ (l .j) (l .s) (l .inv) (d .pre .0 .1) (d .pre .1 .1 .1) (omega arith) (d .pre .1 .1 .0 .1) in
+    let x = fits (l .inv .0) (l .j) (l .s) (l .inv .2) (omega arith) in
     omega (arith, x .0)
 
 put16-requires : tie.Need-put16-requires Inv-loop μ-loop
-put16-requires c κs = omega (arith, inside _ _ _ _ _ _ _ _ (c .before .before .before .loop .inv))
+put16-requires c κs =
+    let l = c .before .before .before .loop in
+    omega (arith, inside (l .inv .0) (l .j) (l .s) (l .inv .2))
 
 get32-requires : tie.Need-get32-requires Inv-loop μ-loop
 get32-requires c κs =
-    let d = c .before .before .before .before .before .before .before .before .before .before .before .before .before .before .before .before .before in
     let l = c .before .before .before .before .before .before .before .before .loop in
-    let x = written _ _ _ _ _ _ (l .j) (l .s) (l .inv) (d .pre .0 .1) (d .pre .1 .1 .1) (omega arith) (d .pre .1 .1 .0 .1) _ (c .before .before .before .before .put16 .ensures) in
+    let x = written (l .inv .0) (l .j) (l .s) (l .inv .2) (omega arith) _ (c .before .before .before .before .put16 .ensures) in
     x .0
 
 add-put32 : tie.Need-add-put32 Inv-loop μ-loop
 add-put32 c =
-    let d = c .before .before .before .before .before .before .before .before .before .before .before .before .before .before .before .before .before .before in
     let l = c .before .before .before .before .before .before .before .before .before .loop in
-    let x = written _ _ _ _ _ _ (l .j) (l .s) (l .inv) (d .pre .0 .1) (d .pre .1 .1 .1) (omega arith) (d .pre .1 .1 .0 .1) _ (c .before .before .before .before .before .put16 .ensures) in
+    let x = written (l .inv .0) (l .j) (l .s) (l .inv .2) (omega arith) _ (c .before .before .before .before .before .put16 .ensures) in
     omega (arith, c .get32 .ensures, x .1)
 
 put32-requires : tie.Need-put32-requires Inv-loop μ-loop
 put32-requires c κs =
-    let d = c .before .before .before .before .before .before .before .before .before .before .before .before .before .before .before .before .before .before in
     let l = c .before .before .before .before .before .before .before .before .before .loop in
-    let x = written _ _ _ _ _ _ (l .j) (l .s) (l .inv) (d .pre .0 .1) (d .pre .1 .1 .1) (omega arith) (d .pre .1 .1 .0 .1) _ (c .before .before .before .before .before .put16 .ensures) in
+    let x = written (l .inv .0) (l .j) (l .s) (l .inv .2) (omega arith) _ (c .before .before .before .before .before .put16 .ensures) in
     x .0
 
 loop-again : tie.Need-loop-again Inv-loop μ-loop
 loop-again c =
-    let d = c .before .before .before .before .before .before .before .before .before .before .before .before .before .before .before .before .before .before .before .before .before in
-    let l = c .before .before .before .before .before .before .before .before .before .before .before .before .loop in
-    let x = again _ _ _ _ _ _ (l .j) (l .s) (l .inv) (d .pre .0 .1) (d .pre .1 .1 .1) (omega arith) (d .pre .1 .1 .0 .1) _ (c .before .before .before .before .before .before .before .before .put16 .ensures) _ (c .before .before .before .get32 .ensures) in
-    rw (c .before .before .put32 .ensures) x
+    let r = c .before .before .before in
+    let w = r .before .before .before .before .before in
+    let l = w .before .before .before .before .loop in
+    let x = counted (l .inv .0) (l .j) (l .s) (l .inv .2) (omega arith) _ (w .put16 .ensures) _ (r .get32 .ensures) in
+    (l .inv .0, omega arith, rw (c .before .before .put32 .ensures) x)
+
+put16-requires-2 : tie.Need-put16-requires-2 Inv-loop μ-loop
+put16-requires-2 c κs =
+    let l = c .before .before .loop in
+    omega (arith, inside (l .inv .0) (l .j) (l .s) (l .inv .2))
+
+few : tie.Need-add-put16-3 Inv-loop μ-loop
+few c =
+    let g = c .before .before .before .before .before .before .loop .inv .0 in
+    omega (arith, g .trees-is, g .room .few)
+
+few-2 : tie.Need-cast-put16-3 Inv-loop μ-loop
+few-2 c =
+    let g = c .before .before .before .before .before .before .loop .inv .0 in
+    omega (arith, g .trees-is, g .room .few)
 
 put16-requires-3 : tie.Need-put16-requires-3 Inv-loop μ-loop
 put16-requires-3 c κs =
     let l = c .before .before .before .before .before .before .loop in
     let e = ap (λ (x : List ℕ). length x) (c .before .before .before .put162 .ensures) ∙ put-length 2 (l .s) _ _ in
-    omega (arith, e, inside _ _ _ _ _ _ _ _ (l .inv))
+    omega (arith, e, inside (l .inv .0) (l .j) (l .s) (l .inv .2))
 
 returns : tie.Need-returns Inv-loop μ-loop
 returns c =
-    let d = c .before .before .before .before .before .before .before .before .before .before .before .before .before .before .before .before .before .before in
-    let l = c .before .before .before .before .before .before .before .before .before .loop in
-    let i = l .inv in
-    let m = length-take-le (d .args .n) (d .args .rows .now) (d .pre .1 .1 .0 .1) in
-    let k : l .j ≡ length (take (d .args .n) (d .args .rows .now)) = omega (arith, i .within) in
-    let y = c .before .before .put163 .ensures ∙ ap₂ (λ (a : List ℕ) (x : ℕ). put 2 a 10 (x + 1)) (c .before .before .before .before .before .before .put162 .ensures ∙ ap₂ (put 2 (l .s)) (i .from-is) (sym m)) (i .trees-is) in
-    entered _ _ (i .room) (d .pre .0 .1) (d .pre .1 .1 .1) (l .s) _ (rw k at (i .entering)) y (λ x. omega (arith, c .before .before .before .before .before .before .before .before .before .before .before .before .before .before .before .before .before .slice-known .given x))
+    let w = c .before .before .before .before .before .before in
+    let l = w .before .before .before .loop in
+    let b = w .before .before .before .before .before .before .before .before .before .before .before in
+    let g = l .inv .0 in
+    let m = length-take-le (b .before .args .n) (b .before .args .rows .now) (g .long) in
+    let k : l .j ≡ length (take (b .before .args .n) (b .before .args .rows .now)) = omega arith in
+    let y = w .put162 .ensures ∙ ap₂ (put 2 (l .s)) (g .from-is) (sym m) in
+    let z = c .before .before .put163 .ensures ∙ ap₂ (λ (v : List ℕ) (x : ℕ). put 2 v 10 (x + 1)) y (g .trees-is) in
+    entered _ _ (g .room) (g .sound) (g .tree) (l .s) _ (rw k at (l .inv .2)) z (λ i. omega (arith, b .slice-known .given i))
 
 pub list-tree-spec : {M : Type 1} → statement M
 list-tree-spec =
@@ -168,9 +189,9 @@ list-tree-spec =
     (λ c. omega arith)
     mul-at
     add-at
-    (λ c. omega (arith, c .before .before .before .before .before .before .before .before .before .before .before .before .good .0, inside _ _ _ _ _ _ _ _ (c .before .before .before .loop .inv)))
+    add-put16
     (λ c. omega arith)
-    (λ c. omega (arith, c .before .before .before .before .before .before .before .before .before .before .before .before .good .0, inside _ _ _ _ _ _ _ _ (c .before .before .before .loop .inv)))
+    add-put16-2
     cast-put16
     put16-requires
     get32-requires
@@ -180,9 +201,9 @@ list-tree-spec =
     (λ c. omega arith)
     loop-again
     (λ c. omega arith)
-    (λ c κs. omega (arith, inside _ _ _ _ _ _ _ _ (c .before .before .loop .inv)))
-    (λ c. omega (arith, c .before .before .before .before .before .before .loop .inv .trees-is, c .before .before .before .before .before .before .loop .inv .room .few))
-    (λ c. omega (arith, c .before .before .before .before .before .before .loop .inv .trees-is, c .before .before .before .before .before .before .loop .inv .room .few))
+    put16-requires-2
+    few
+    few-2
     put16-requires-3
     (λ c. search needs)
     returns)
