@@ -97,7 +97,11 @@ module _ (s rs : List ℕ) (z : Room s) (f : Sound (openingAt s) (partsAt s)) (r
     row : x < splitsHeldAt s
     row = r .below x mem
 
-    rest : drop j rs ≡ x ∷ drop (suc j) rs
+    -- the rows behind it
+    abbrev ys : List ℕ
+    ys = drop (suc j) rs
+
+    rest : drop j rs ≡ x ∷ ys
     rest = rw d (drop-cons rs j 0 h)
 
     beside : (b : ℕ) → countsFrom n ≤ b → number 4 (put 2 u to x) b ≡ number 4 u b
@@ -116,17 +120,16 @@ module _ (s rs : List ℕ) (z : Room s) (f : Sound (openingAt s) (partsAt s)) (r
       abbrev w : List ℕ
       w = put 4 (put 2 u to x) at (v + 1)
 
-      one-more : (k : ℕ) (b : Bool) → eqb k x ≡ b
-          → number 4 w (countsFrom n + 4 * k) + oneIf (member k (drop (suc j) rs)) ≡ number 4 u (countsFrom n + 4 * k) + oneIf (b || member k (drop (suc j) rs))
+      one-more : (k : ℕ) (b : Bool) → eqb k x ≡ b → number 4 w (countsFrom n + 4 * k) + oneIf (member k ys) ≡ number 4 u (countsFrom n + 4 * k) + oneIf (b || member k ys)
       unfolding oneIf
       one-more k true y =
           let a = eqb-true k x y in
-          let m = member-not k (drop (suc j) rs) (λ l. omega (arith, (rw rest at (e .rises)) .0 (maskAt s k) (mem-map (maskAt s) (drop (suc j) rs) k l), ap (maskAt s) a)) in
+          let m = member-not k ys (λ l. omega (arith, (rw rest at (e .rises)) .0 (maskAt s k) (mem-map (maskAt s) ys k l), ap (maskAt s) a)) in
           let c = number-put 4 (put 2 u to x) at (v + 1) (omega (arith, entering-fits .1, put-length 2 u to x, e .size)) (omega (arith, entering-fits .2)) in
           rw (m, a, ← p) (omega (arith, c, beside at (omega arith)))
       one-more k false y =
-          let a = number-put-outside 4 4 (put 2 u to x) at (v + 1) (countsFrom n + 4 * k) (⊎-map (λ l. omega arith) (λ l. omega (arith, eqb-false k x y)) (less-or-not k x)) in
-          rw (a, beside (countsFrom n + 4 * k) (omega arith))
+          let c : (countsFrom n + 4 * k + 4 ≤ at) ⊎ (at + 4 ≤ countsFrom n + 4 * k) = ⊎-map (λ l. omega arith) (λ l. omega (arith, eqb-false k x y)) (less-or-not k x) in
+          rw (number-put-outside 4 4 (put 2 u to x) at (v + 1) (countsFrom n + 4 * k) c, beside (countsFrom n + 4 * k) (omega arith))
 
       pub entering-more : Entering s rs (j + 1) w
       unfolding member

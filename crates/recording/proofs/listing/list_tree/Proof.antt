@@ -97,13 +97,15 @@ add-at c =
 
 add-put16 : tie.Need-add-put16 Inv-loop μ-loop
 add-put16 c =
-    let l = c .before .before .before .loop in
-    omega (arith, c .before .before .before .before .before .before .before .before .before .before .before .before .good .0, inside (l .inv .0) (l .j) (l .s) (l .inv .2))
+    let b = c .before .before .before in
+    let l = b .loop in
+    omega (arith, b .before .before .before .before .before .before .before .before .before .good .0, inside (l .inv .0) (l .j) (l .s) (l .inv .2))
 
 add-put16-2 : tie.Need-add-put16-2 Inv-loop μ-loop
 add-put16-2 c =
-    let l = c .before .before .before .loop in
-    omega (arith, c .before .before .before .before .before .before .before .before .before .before .before .before .good .0, inside (l .inv .0) (l .j) (l .s) (l .inv .2))
+    let b = c .before .before .before in
+    let l = b .loop in
+    omega (arith, b .before .before .before .before .before .before .before .before .before .good .0, inside (l .inv .0) (l .j) (l .s) (l .inv .2))
 
 cast-put16 : tie.Need-cast-put16 Inv-loop μ-loop
 cast-put16 c =
