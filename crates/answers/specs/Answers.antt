@@ -1,6 +1,7 @@
 -- The answers of the calls, as document 01 has them: each enum case with its number and values.
 --
 --   refusalNumber r                                   the number of a refusal in the table of document 01
+--   refusing r                                        the answer that refuses with that number
 --   finishGiven, numberGiven, splitGiven, progressGiven     an answer of the code, as the definitions of crate trees have it
 use Prim.Native.Nat.{ℕ}
 use Rattle.trees.specs.Plain.{Answer, refused, gives}
@@ -33,6 +34,9 @@ refusalNumber why.NoTreeRoom = 11
 refusalNumber why.NoSplitRoom = 12
 refusalNumber why.NoSuchNumber = 13
 refusalNumber why.NoTrees = 14
+
+abbrev pub refusing : {A : Type 0} → Refusal → Answer A
+refusing r = refused (refusalNumber r)
 
 unfoldable pub finishGiven : Finish → Answer (Unit {0})
 unfolding refusalNumber

@@ -14,6 +14,7 @@ use mathlib.Core.Bool.{Bool, true, false}
 use mathlib.Core.List.{List, _∷_}
 use lib.ListN.{length, getD, set, replicate, length-set, length-replicate}
 use lib.Seq.{getD-set-same, getD-set-other}
+use Rattle.theorems.specs.ListLaws.{equal-or-not}
 use Rattle.trees.specs.Plain.{if_then_else_, keep}
 use Rattle.trees.specs.Hash.{identifier, collide, collisions}
 use Rattle.head.specs.Head.{fromTo, upTo, numbersAt, firstAt, secondAt}
@@ -24,7 +25,6 @@ use Rattle.layout.specs.WholeFacts.{SplitsAt, whole-at-facts}
 use Rattle.store.specs.ListTests.{oneIf}
 use Rattle.store.specs.CountLaws.{one-most}
 use Rattle.store.specs.Chain.{placeIn}
-use Rattle.store.specs.ChainTests.{equal-or-not}
 use Rattle.colliding.specs.Collisions.{Placed, Numbered, alike, alikeTo, countFrom, pairsFrom}
 use Rattle.colliding.specs.PlacedLaws.{held-most, placed-all}
 
@@ -141,5 +141,5 @@ module _ (s places identifiers : List ℕ) (h : ℕ) (d : Numbered s h places id
 
 pub collisions-counted : (s places identifiers : List ℕ) → Numbered s (splitsHeldAt s) places identifiers
     → pairsFrom places identifiers 0 (splitsHeldAt s) ≡ collisions (firstAt s) (secondAt s) (numbersAt s .places) (masksAt s)
-unfolding masksAt upTo
+unfolding upTo
 collisions-counted s places identifiers d = from-collisions s places identifiers (splitsHeldAt s) d 0 (splitsHeldAt s) (omega arith)

@@ -14,16 +14,15 @@ use lib.Dec.{eqb}
 use lib.ListN.{getD, set, replicate, length-set, length-replicate}
 use lib.Seq.{getD-set-same, getD-set-other}
 use borrow.Author.Tests.{eqb-true, eqb-false}
+use Rattle.theorems.specs.ListLaws.{less-or-not, equal-or-not}
 use Rattle.trees.specs.Plain.{if_then_else_}
 use Rattle.head.specs.Head.{numbersAt}
 use Rattle.layout.specs.Store.{splitsHeldAt, maskAt, linkAt, startAt}
-use Rattle.layout.specs.WholeStore.{highestBelow, wholeAt}
+use Rattle.layout.specs.WholeStore.{highestBelow, wholeAt, highestIn}
 use Rattle.layout.specs.WholeFacts.{ChainsAt, whole-at-facts, facts-head}
 use Rattle.store.specs.GoodHeadLaws.{GoodHead, good-head}
-use Rattle.layout.specs.UpToLaws.{less-or-not}
 use Rattle.store.specs.Chain.{placeIn}
 use Rattle.store.specs.ChainLaws.{highest-most, place-below}
-use Rattle.store.specs.ChainTests.{equal-or-not}
 use Rattle.colliding.specs.Collisions.{Placed, PlacedPart}
 
 -- ---- a whole store
@@ -43,7 +42,7 @@ module _ (s : List ℕ) (whole : wholeAt s ≡ true) where
 module _ (s : List ℕ) (p : ℕ) where
   -- it has the place
   pub highest-has : (n k : ℕ) → highestBelow s p n ≡ suc k → placeIn s (maskAt s k) ≡ p
-  unfolding highestBelow
+  unfolding highestIn
   highest-has zero k e = absurd (omega arith)
   highest-has (suc n) k e = go (eqb (placeIn s (maskAt s n)) p) refl e (highest-has n k)
     where
@@ -54,7 +53,7 @@ module _ (s : List ℕ) (p : ℕ) where
 
   -- none above it has the place
   pub highest-over : (n k : ℕ) → k < n → highestBelow s p n ≤ k → placeIn s (maskAt s k) ≡ p → ⊥
-  unfolding highestBelow
+  unfolding highestIn
   highest-over zero k h l e = omega arith
   highest-over (suc n) k h l e = go (eqb (placeIn s (maskAt s n)) p) refl l (highest-over n k) (less-or-not k n)
     where

@@ -1,2 +1,3 @@
--- The laws of the calls that compare trees.
+-- What the calls that compare trees answer, and its laws.
+pub mod Asked
 pub mod CompareLaws

@@ -2,13 +2,13 @@
 // matrix, and the collision number of their splits. Each call does its own checking and asks nothing
 // of what it is given.
 //
-// What each answers is said in crate table, `specs/Asked.antt`, by the definitions of crate trees,
+// What each answers is said in `specs/Asked.antt`, by the definitions of crate trees,
 // `specs/Questions.antt`.
 ghost use mathlib.Core.Path.{_≡_};
 ghost use lib.ListN.{length};
 ghost use Rattle.answers.specs.Answers.{numberGiven};
-ghost use Rattle.table.specs.Promises.{lengthGiven, front};
-ghost use Rattle.table.specs.Asked.{oneSidedAsked, doubledAsked, matrixAsked, collisionsAsked};
+ghost use Rattle.answers.specs.Filled.{lengthGiven, front};
+ghost use Rattle.comparing.specs.Asked.{oneSidedAsked, doubledAsked, matrixAsked, collisionsAsked};
 use answers::Number;
 use answers::Refusal;
 use answers::Tree;

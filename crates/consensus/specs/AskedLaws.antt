@@ -1,148 +1,94 @@
--- What the calls that write a tree answer: a law for each return of the code. Assumes nothing.
+-- What the calls that write a tree answer, by what the bytes hold. Assumes nothing.
 --
---   text-written, text-short                              what the writer leaves, as an answer
---   strict-refused, strict-none, strict-given             the strict consensus: 1, 14, or the tree of the strict splits
---   majority-refused, majority-none, majority-given       the majority consensus: 1, 14, or the tree of the majority splits
---   accepted-refused, accepted-missing, accepted-given    an accepted tree: 1, 13, or the tree of its splits
+--   text-written, text-short             what the writer leaves, as an answer
+--   consensusBy g                        the question for the tree of the splits that g chooses
+--   strict-by, majority-by               both consensus trees are such questions
+--   no-consensus, consensus-given        their returns: 14, or what is given of the tree of those splits
+--   accepted-missing, accepted-given     an accepted tree: 13, or what is given of the tree of its splits
 use Prim.Native.Nat.{ℕ, _≤_, _<_}
-use mathlib.Core.Path.{_≡_, refl, ap, _∙_}
-use mathlib.Core.Bool.{true, false}
+use mathlib.Core.Path.{_≡_, refl, _∙_}
+use mathlib.Core.Bool.{true}
 use mathlib.Core.List.{List}
 use lib.ListN.{length}
-use borrow.Author.Tests.{lt-ltb, le-ltb, eq-eqb, ne-eqb}
-use Rattle.trees.specs.Plain.{Answer, refused}
+use Rattle.trees.specs.Plain.{Answer}
+use Rattle.trees.specs.Held.{Held}
 use Rattle.trees.specs.Consensus.{strict, majority}
 use Rattle.trees.specs.Written.{written}
-use Rattle.trees.specs.Questions.{ifRoom, ifTree, ifTrees, tree, strictOf, majorityOf, writtenOf}
+use Rattle.trees.specs.Questions.{ifRoom, ifTrees, tree, strictOf, majorityOf, writtenOf}
+use Rattle.answers.specs.declared.Refusal.the-variants as why
 use Rattle.answers.specs.declared.Number.{Number}
 use Rattle.answers.specs.declared.Number.the-variants as number
-use Rattle.answers.specs.declared.Refusal.the-variants as why
-use Rattle.answers.specs.Answers.{refusalNumber, numberGiven}
+use Rattle.answers.specs.Answers.{refusing}
+use Rattle.answers.specs.Filled.{FilledAs}
+use Rattle.answers.specs.AnswerLaws.{filled-refused, filled-short, filled-given, filled-as}
 use Rattle.head.specs.Head.{namesAt, openingAt}
-use Rattle.layout.specs.Store.{treesHeldAt, treeAt, heldAt}
+use Rattle.layout.specs.Store.{treesHeldAt, treeAt, heldAt, heldIn}
 use Rattle.layout.specs.WholeStore.{wholeAt}
-use Rattle.store.specs.RecordedAtLaws.{trees-length, tree-at}
+use Rattle.store.specs.RecordedAtLaws.{tree-at}
+use Rattle.store.specs.Lent.{ifWhole}
+use Rattle.store.specs.LentLaws.{asked-missing, asked-there, asked-none, asked-some}
 use Rattle.writer.specs.declared.Text.the-variants.{Bytes, TooShort}
 use Rattle.writer.specs.Text.{Wrote}
-use Rattle.table.specs.Promises.{lengthGiven, front}
-use Rattle.table.specs.Filled.{FilledAs}
-use Rattle.table.specs.QuestionLaws.{not-whole, when-whole}
 use Rattle.consensus.specs.Consensus.{strictAsked, majorityAsked, writtenAsked, textAsked}
 
 -- ---- a text that is written
 
-module _ (t before after : List ℕ) where
-  room-enough : (n : ℕ) → Wrote t before (Bytes n) after → FilledAs (ifRoom (length before) t) (number.Gives n) before after
-  unfolding Wrote ifRoom numberGiven lengthGiven front
-  room-enough n w = rw (← w .0, le-ltb (length before) n (w .1), ← w .0) (refl, w .2)
-
-  room-short : Wrote t before TooShort after → FilledAs (ifRoom (length before) t) (number.Refused why.TooShort) before after
-  unfolding Wrote ifRoom numberGiven refusalNumber lengthGiven front
-  room-short w = rw (lt-ltb (length before) (length t) (w .0)) (refl, w .1)
-
 module _ (s l before after : List ℕ) where
   pub text-written : (n : ℕ) → Wrote (written (namesAt s) l) before (Bytes n) after → FilledAs (textAsked s l (length before)) (number.Gives n) before after
-  unfolding textAsked
-  text-written = room-enough (written (namesAt s) l) before after
+  unfolding Wrote
+  text-written n w = filled-given (textAsked s l (length before)) before (written (namesAt s) l) refl n after (w .0) (w .1) (rw (← w .0) (w .2))
 
   pub text-short : Wrote (written (namesAt s) l) before TooShort after → FilledAs (textAsked s l (length before)) (number.Refused why.TooShort) before after
-  unfolding textAsked
-  text-short = room-short (written (namesAt s) l) before after
+  unfolding Wrote
+  text-short w = rw (w .1) (filled-short (textAsked s l (length before)) before (written (namesAt s) l) refl (w .0))
 
--- ---- any question of what the bytes hold
-
--- its text has the names of the head
+-- the names that are held are those of the head
 text-held : (s l : List ℕ) (room : ℕ) → ifRoom room (written (heldAt s .opening .names) l) ≡ textAsked s l room
-unfolding textAsked heldAt openingAt
+unfolding heldIn openingAt
 text-held s l room = refl
 
-module _ (s : List ℕ) (a : Answer (List ℕ)) where
-  -- 14
-  none-held : treesHeldAt s ≡ 0 → ifTrees (heldAt s) a ≡ refused 14
-  unfolding ifTrees
-  none-held z = rw (trees-length s, eq-eqb (treesHeldAt s) 0 z)
+-- ---- the consensus trees
 
-  some-held : (treesHeldAt s ≡ 0 → ⊥) → ifTrees (heldAt s) a ≡ a
-  unfolding ifTrees
-  some-held z = rw (trees-length s, ne-eqb (treesHeldAt s) 0 z)
+abbrev pub consensusBy : (List (List ℕ) → List ℕ) → ℕ → Held → Answer (List ℕ)
+consensusBy g room h = ifTrees h (ifRoom room (written (h .opening .names) (g (h .trees))))
 
-  -- 13
-  tree-missing : (i : ℕ) → treesHeldAt s ≤ i → ifTree (heldAt s) i a ≡ refused 13
-  unfolding ifTree
-  tree-missing i h = rw (trees-length s, le-ltb i (treesHeldAt s) h)
+module _ (s : List ℕ) (room : ℕ) where
+  pub strict-by : strictAsked s room ≡ ifWhole s (consensusBy strict room)
+  unfolding strictOf
+  strict-by = refl
 
-  tree-there : (i : ℕ) → i < treesHeldAt s → ifTree (heldAt s) i a ≡ a
-  unfolding ifTree
-  tree-there i h = rw (trees-length s, lt-ltb i (treesHeldAt s) h)
+  pub majority-by : majorityAsked s room ≡ ifWhole s (consensusBy majority room)
+  unfolding majorityOf
+  majority-by = refl
 
--- a refusal leaves the buffer as it was
-module _ (x : Answer (List ℕ)) (out : List ℕ) where
-  refused-1 : x ≡ refused 1 → FilledAs x (number.Refused why.NotWhole) out out
-  unfolding numberGiven refusalNumber lengthGiven front
-  refused-1 e = rw e (refl, refl)
+module _ (g : List (List ℕ) → List ℕ) (s out : List ℕ) (w : wholeAt s ≡ true) (x : Answer (List ℕ)) (is : x ≡ ifWhole s (consensusBy g (length out))) where
+  -- what is asked where there are trees
+  abbrev text : Held → Answer (List ℕ)
+  text h = ifRoom (length out) (written (h .opening .names) (g (h .trees)))
 
-  refused-13 : x ≡ refused 13 → FilledAs x (number.Refused why.NoSuchNumber) out out
-  unfolding numberGiven refusalNumber lengthGiven front
-  refused-13 e = rw e (refl, refl)
+  pub no-consensus : treesHeldAt s ≡ 0 → FilledAs x (number.Refused why.NoTrees) out out
+  no-consensus z = filled-refused x out why.NoTrees (is ∙ asked-none s w text z)
 
-  refused-14 : x ≡ refused 14 → FilledAs x (number.Refused why.NoTrees) out out
-  unfolding numberGiven refusalNumber lengthGiven front
-  refused-14 e = rw e (refl, refl)
+  pub consensus-given : (treesHeldAt s ≡ 0 → ⊥) → (l : List ℕ) → l ≡ g (heldAt s .trees) → (r : Number) (m : List ℕ)
+      → FilledAs (textAsked s l (length out)) r out m → FilledAs x r out m
+  consensus-given z l e r m f = filled-as x out _ (is ∙ asked-some s w text z ∙ text-held s _ _) r m (rw (← e) f)
 
--- ---- the three questions
+-- ---- an accepted tree
 
-module _ (s out : List ℕ) where
-  pub strict-refused : wholeAt s ≡ false → FilledAs (strictAsked s (length out)) (number.Refused why.NotWhole) out out
-  unfolding strictAsked
-  strict-refused e = refused-1 _ out (not-whole s (λ h. strictOf h (length out)) e)
+module _ (s out : List ℕ) (w : wholeAt s ≡ true) (i : ℕ) where
+  abbrev one : Held → Answer (List ℕ)
+  one h = ifRoom (length out) (written (h .opening .names) (tree h i))
 
-  pub majority-refused : wholeAt s ≡ false → FilledAs (majorityAsked s (length out)) (number.Refused why.NotWhole) out out
-  unfolding majorityAsked
-  majority-refused e = refused-1 _ out (not-whole s (λ h. majorityOf h (length out)) e)
+  pub accepted-missing : treesHeldAt s ≤ i → FilledAs (writtenAsked s i (length out)) (number.Refused why.NoSuchNumber) out out
+  accepted-missing h = filled-refused _ out why.NoSuchNumber asked
+    where
+      asked : writtenAsked s i (length out) ≡ refusing why.NoSuchNumber
+      asked = unfold writtenOf in asked-missing s w one i h
 
-  pub accepted-refused : (i : ℕ) → wholeAt s ≡ false → FilledAs (writtenAsked s i (length out)) (number.Refused why.NotWhole) out out
-  unfolding writtenAsked
-  accepted-refused i e = refused-1 _ out (not-whole s (λ h. writtenOf h i (length out)) e)
-
-  module _ (w : wholeAt s ≡ true) where
-    -- ---- the strict consensus
-
-    strict-asked : strictAsked s (length out) ≡ ifTrees (heldAt s) (textAsked s (strict (heldAt s .trees)) (length out))
-    unfolding strictAsked strictOf
-    strict-asked = when-whole s (λ h. strictOf h (length out)) w ∙ ap (ifTrees (heldAt s)) (text-held s (strict (heldAt s .trees)) (length out))
-
-    pub strict-none : treesHeldAt s ≡ 0 → FilledAs (strictAsked s (length out)) (number.Refused why.NoTrees) out out
-    strict-none z = refused-14 _ out (strict-asked ∙ none-held s _ z)
-
-    pub strict-given : (treesHeldAt s ≡ 0 → ⊥) → (l : List ℕ) → l ≡ strict (heldAt s .trees) → (r : Number) (m : List ℕ)
-        → FilledAs (textAsked s l (length out)) r out m → FilledAs (strictAsked s (length out)) r out m
-    strict-given z l e r m f = rw (strict-asked, some-held s (textAsked s (strict (heldAt s .trees)) (length out)) z, ← e) f
-
-    -- ---- the majority consensus
-
-    majority-asked : majorityAsked s (length out) ≡ ifTrees (heldAt s) (textAsked s (majority (heldAt s .trees)) (length out))
-    unfolding majorityAsked majorityOf
-    majority-asked = when-whole s (λ h. majorityOf h (length out)) w ∙ ap (ifTrees (heldAt s)) (text-held s (majority (heldAt s .trees)) (length out))
-
-    pub majority-none : treesHeldAt s ≡ 0 → FilledAs (majorityAsked s (length out)) (number.Refused why.NoTrees) out out
-    majority-none z = refused-14 _ out (majority-asked ∙ none-held s _ z)
-
-    pub majority-given : (treesHeldAt s ≡ 0 → ⊥) → (l : List ℕ) → l ≡ majority (heldAt s .trees) → (r : Number) (m : List ℕ)
-        → FilledAs (textAsked s l (length out)) r out m → FilledAs (majorityAsked s (length out)) r out m
-    majority-given z l e r m f = rw (majority-asked, some-held s (textAsked s (majority (heldAt s .trees)) (length out)) z, ← e) f
-
-    -- ---- an accepted tree
-
-    module _ (i : ℕ) where
-      accepted-asked : writtenAsked s i (length out) ≡ ifTree (heldAt s) i (textAsked s (tree (heldAt s) i) (length out))
-      unfolding writtenAsked writtenOf
-      accepted-asked = when-whole s (λ h. writtenOf h i (length out)) w ∙ ap (ifTree (heldAt s) i) (text-held s (tree (heldAt s) i) (length out))
-
-      pub accepted-missing : treesHeldAt s ≤ i → FilledAs (writtenAsked s i (length out)) (number.Refused why.NoSuchNumber) out out
-      accepted-missing h = refused-13 _ out (accepted-asked ∙ tree-missing s _ i h)
-
-      pub accepted-given : i < treesHeldAt s → (l : List ℕ) → l ≡ treeAt s i → (r : Number) (m : List ℕ)
-          → FilledAs (textAsked s l (length out)) r out m → FilledAs (writtenAsked s i (length out)) r out m
-      unfolding tree
-      accepted-given h l e r m f =
-          rw (accepted-asked, tree-there s (textAsked s (tree (heldAt s) i) (length out)) i h, tree-at s i h, ← e) f
+  pub accepted-given : i < treesHeldAt s → (l : List ℕ) → l ≡ treeAt s i → (r : Number) (m : List ℕ)
+      → FilledAs (textAsked s l (length out)) r out m → FilledAs (writtenAsked s i (length out)) r out m
+  unfolding tree
+  accepted-given h l e r m f = filled-as _ out _ (asked ∙ text-held s _ _) r m (rw (tree-at s i h, ← e) f)
+    where
+      asked : writtenAsked s i (length out) ≡ one (heldAt s)
+      asked = unfold writtenOf in asked-there s w one i h

@@ -13,7 +13,7 @@ use lib.Dec.{leb}
 use lib.ListN.{take, drop}
 use Rattle.trees.specs.Plain.{keep}
 use Rattle.trees.specs.Consensus.{recorded, count}
-use Rattle.layout.specs.Store.{splitsHeldAt, countAt, orderAt, masksAt, heldAt}
+use Rattle.layout.specs.Store.{splitsHeldAt, countAt, orderAt, masksAt, heldAt, heldIn}
 
 unfoldable pub inEnough : ℕ → List (List ℕ) → ℕ → Bool
 unfolding count
@@ -24,7 +24,7 @@ unfolding keep recorded inEnough
 chosen least ts = keep (inEnough least ts) (recorded ts)
 
 unfoldable pub chosenFrom : ℕ → List ℕ → ℕ → List ℕ
-unfolding keep inEnough masksAt heldAt
+unfolding keep inEnough heldIn
 chosenFrom least s k = keep (inEnough least (heldAt s .trees)) (drop k (masksAt s))
 
 pub record Chose (least : ℕ) (s l : List ℕ) (n k : ℕ) : Type 0 where

@@ -10,10 +10,10 @@ use mathlib.Core.List.{List, [], _∷_}
 use lib.Dec.{leb, ltb, eqb}
 use lib.ListN.{length}
 use borrow.Author.Tests.{leb-true, le-leb, ltb-true, lt-ltb, eqb-true, eq-eqb}
+use Rattle.theorems.specs.ListLaws.{same-bool}
 use Rattle.trees.specs.Plain.{keep}
 use Rattle.trees.specs.Consensus.{recorded, count, isStrict, isMajority, strict, majority}
 use Rattle.theorems.specs.ConsensusLaws.{count-most}
-use Rattle.layout.specs.UpToLaws.{bool-same}
 use Rattle.consensus.specs.Chosen.{inEnough, chosen}
 
 pub keep-same : (p q : ℕ → Bool) (l : List ℕ) → ((m : ℕ) → p m ≡ q m) → keep p l ≡ keep q l
@@ -30,7 +30,7 @@ module _ (ts : List (List ℕ)) where
       (λ m.
       let c = count ts m in
       let n = length ts in
-      bool-same (leb n c) (eqb c n) (λ e. eq-eqb c n (omega (arith, leb-true n c e, count-most ts m))) (λ e. le-leb n c (omega (arith, eqb-true c n e))))
+      same-bool (leb n c) (eqb c n) (λ e. eq-eqb c n (omega (arith, leb-true n c e, count-most ts m))) (λ e. le-leb n c (omega (arith, eqb-true c n e))))
 
   -- "majority if twice its count is more than t"
   pub chosen-majority : chosen (length ts / 2 + 1) ts ≡ majority ts
@@ -40,5 +40,5 @@ module _ (ts : List (List ℕ)) where
       (λ m.
       let c = count ts m in
       let n = length ts in
-      bool-same (leb (n / 2 + 1) c) (ltb n (2 * c)) (λ e. lt-ltb n (2 * c) (omega (arith, leb-true (n / 2 + 1) c e)))
+      same-bool (leb (n / 2 + 1) c) (ltb n (2 * c)) (λ e. lt-ltb n (2 * c) (omega (arith, leb-true (n / 2 + 1) c e)))
       (λ e. le-leb (n / 2 + 1) c (omega (arith, ltb-true n (2 * c) e))))

@@ -10,20 +10,16 @@ use Rattle.trees.specs.Plain.{Answer}
 use Rattle.trees.specs.Written.{written}
 use Rattle.trees.specs.Questions.{ifRoom, strictOf, majorityOf, writtenOf}
 use Rattle.head.specs.Head.{namesAt}
-use Rattle.table.specs.Promises.{ifWhole}
+use Rattle.store.specs.Lent.{ifWhole}
 
-unfoldable pub strictAsked : List ℕ → ℕ → Answer (List ℕ)
-unfolding ifWhole strictOf
+abbrev pub strictAsked : List ℕ → ℕ → Answer (List ℕ)
 strictAsked s room = ifWhole s (λ h. strictOf h room)
 
-unfoldable pub majorityAsked : List ℕ → ℕ → Answer (List ℕ)
-unfolding ifWhole majorityOf
+abbrev pub majorityAsked : List ℕ → ℕ → Answer (List ℕ)
 majorityAsked s room = ifWhole s (λ h. majorityOf h room)
 
-unfoldable pub writtenAsked : List ℕ → ℕ → ℕ → Answer (List ℕ)
-unfolding ifWhole writtenOf
+abbrev pub writtenAsked : List ℕ → ℕ → ℕ → Answer (List ℕ)
 writtenAsked s i room = ifWhole s (λ h. writtenOf h i room)
 
-unfoldable pub textAsked : List ℕ → List ℕ → ℕ → Answer (List ℕ)
-unfolding ifRoom written namesAt
+abbrev pub textAsked : List ℕ → List ℕ → ℕ → Answer (List ℕ)
 textAsked s l room = ifRoom room (written (namesAt s) l)

@@ -15,11 +15,10 @@ use mathlib.Core.Logic.{_⊎_, inl, inr}
 use mathlib.Core.List.{List, _++_}
 use lib.ListN.{length, getD, set, take, drop, length-set, take-append-drop}
 use lib.Seq.{length-take-le, getD-set-same, getD-set-other, getD-take, drop-set-lt, ext-getD}
+use Rattle.theorems.specs.ListLaws.{less-or-not, equal-or-not}
 use Rattle.trees.specs.Distance.{doubled, matrix}
 use Rattle.theorems.specs.DistanceLaws.{doubled-sym}
 use Rattle.layout.specs.Store.{treesHeldAt, treeAt, heldAt}
-use Rattle.layout.specs.UpToLaws.{less-or-not}
-use Rattle.store.specs.ChainTests.{equal-or-not}
 use Rattle.store.specs.RecordedAtLaws.{trees-length, tree-at}
 use Rattle.distances.specs.Entries.{Written, Filled}
 use Rattle.theorems.specs.MatrixLaws.{matrix-length, matrix-at}

@@ -60,7 +60,6 @@ module _ (s : List ℕ) (w : wholeAt s ≡ true) where
         (a, rw a (row-few (getD (listAt s i) j 0) (mem-getD (listAt s i) j l)))
 
   pub list-same : (i j : ℕ) → i < treesHeldAt s → j < treesHeldAt s → oneSided (treeAt s i) (treeAt s j) ≡ oneSided (listAt s i) (listAt s j)
-  unfolding treeAt
   list-same i j h f =
       oneSided-map (maskAt s) (listAt s i) (listAt s j) (λ k m. member-at s w k j (facts .lists i h .numbers-below k m) f)
 

@@ -9,7 +9,8 @@
 --   gone-holds, gone-verdicts, gone-outside     and behind the last text
 --   batching-length    there are as many verdicts as texts
 --   batched-length     the verdicts' buffer is as long as before
---   batch-not-whole, batch-no-lane, batch-short, batch-done     what each return of the code promises
+--   batch-refused      what a refusal promises
+--   batch-no-lane, batch-short, batch-done     what each return promises, of whole bytes
 use Prim.Native.Nat.{ℕ, zero, suc, _+_, _-_, _≤_, _<_}
 use native.Mathlib.Numerals.{add-one}
 use native.Mathlib.Omega.{arith}
@@ -25,21 +26,23 @@ use Rattle.trees.specs.Plain.{if_then_else_, every, member, Answer, refused, gi
 use Rattle.trees.specs.Opening.{Opening, storeSize}
 use Rattle.trees.specs.Held.{Held, moreWanted, accepted, laneOf, longer, verdict, beforeSemicolon, finished, finishing, feeding}
 use Rattle.trees.specs.Held as held
-use Rattle.trees.specs.Batch.{semicolons, verdictNumber, withVerdict, batching, batch}
+use Rattle.trees.specs.Batch.{Batched, semicolons, verdictNumber, withVerdict, batching, batch}
 use Rattle.theorems.specs.WrittenFedLaws.{feedingBy, feeding-by}
 use Rattle.theorems.specs.OwnLaneLaws.{feeding-opening}
+use Rattle.answers.specs.declared.Refusal.{Refusal}
 use Rattle.answers.specs.declared.Refusal.the-variants as why
 use Rattle.answers.specs.declared.Number.the-variants as number
 use Rattle.answers.specs.declared.Fed.{Fed}
-use Rattle.answers.specs.Answers.{refusalNumber, numberGiven, progressGiven}
+use Rattle.answers.specs.Answers.{refusalNumber, refusing, numberGiven, progressGiven}
 use Rattle.head.specs.Head.{numbersAt, namesAt, openingAt}
 use Rattle.head.specs.Index.{Indexed}
-use Rattle.layout.specs.Store.{sizeAt, heldAt}
+use Rattle.layout.specs.Store.{sizeAt, heldAt, heldIn}
 use Rattle.layout.specs.WholeStore.{wholeAt}
 use Rattle.layout.specs.WholeFacts.{whole-at-facts}
 use Rattle.store.specs.RecordedAtLaws.{trees-length}
 use Rattle.store.specs.HeldWholeLaws.{held-numbers, opening-facts}
-use Rattle.table.specs.Promises.{ifWhole, Holds}
+use Rattle.store.specs.Lent.{Holds}
+use Rattle.store.specs.LentLaws.{when-whole}
 use Rattle.feeding.specs.Feeding.{batchOf, isAccepted, SameOutside, isRefusal, noneAccepted, BatchedAs}
 use Rattle.feeding.specs.Texts.{FedWell, Small}
 use Rattle.feeding.specs.EndLaws.{end-inside, one-text, has-text, lacks-text}
@@ -133,14 +136,14 @@ going-none s l p n v w e = record {
 
 module _ (s₀ : List ℕ) (l : ℕ) (p : List ℕ) (n : ℕ) (v₀ s v : List ℕ) (at i : ℕ) (m : l < numbersAt s₀ .lanes) (g : Going s₀ l p n v₀ s v at i) where
   numbers-in : numbersAt s ≡ numbersAt s₀
-  unfolding heldAt openingAt
+  unfolding heldIn openingAt
   numbers-in = ap (λ (o : Opening). o .numbers) (g .opening)
 
   pub going-lane : l < numbersAt s .lanes
   going-lane = rw numbers-in m
 
   pub going-index : (starts links : List ℕ) → Indexed (namesAt s₀) starts links → Indexed (namesAt s) starts links
-  unfolding heldAt openingAt
+  unfolding heldIn openingAt
   going-index starts links x = rw (ap (λ (o : Opening). o .names) (g .opening)) x
 
   -- the rest of the piece, as it is lent
@@ -254,33 +257,33 @@ pub batched-length : (n : ℕ) (h : Held) (l : ℕ) (p v x : List ℕ) → n ≤
 batched-length n h l p v x f e =
     rw e (omega (arith, length-append (batching n h l p .verdicts) (drop n v), batching-length n h l p, length-drop n v))
 
-module _ (s : List ℕ) (l : ℕ) (p v : List ℕ) where
-  pub batch-not-whole : wholeAt s ≡ false → BatchedAs (batchOf s l p (length v)) l (number.Refused why.NotWhole) s v s v
-  unfolding batchOf ifWhole BatchedAs numberGiven refusalNumber
-  batch-not-whole e = rw e (refl, refl, refl)
+-- a refusal leaves the lent bytes and the verdicts' buffer as found
+pub batch-refused : (x : Answer Batched) (l : ℕ) (s v : List ℕ) (r : Refusal) → x ≡ refusing r → BatchedAs x l (number.Refused r) s v s v
+unfolding BatchedAs numberGiven
+batch-refused x l s v r e = rw e (refl, refl, refl)
 
-  module _ (w : wholeAt s ≡ true) where
-    batch-whole : batchOf s l p (length v) ≡ batch (heldAt s) l p (length v)
-    unfolding batchOf ifWhole
-    batch-whole = rw w
+module _ (s : List ℕ) (l : ℕ) (p v : List ℕ) (w : wholeAt s ≡ true) where
+  batch-whole : batchOf s l p (length v) ≡ batch (heldAt s) l p (length v)
+  batch-whole = when-whole s (λ h. batch h l p (length v)) w
 
-    pub batch-no-lane : numbersAt s .lanes ≤ l → BatchedAs (batchOf s l p (length v)) l (number.Refused why.NoLane) s v s v
-    batch-no-lane h = rw (batch-whole, nowhere) (unfold BatchedAs numberGiven refusalNumber in (refl, refl, refl))
-      where
-        nowhere : batch (heldAt s) l p (length v) ≡ refused 5
-        nowhere = unfold batch in rw (held-numbers s, le-ltb l (numbersAt s .lanes) h)
+  pub batch-no-lane : numbersAt s .lanes ≤ l → batchOf s l p (length v) ≡ refusing why.NoLane
+  batch-no-lane h = batch-whole ∙ nowhere
+    where
+      nowhere : batch (heldAt s) l p (length v) ≡ refusing why.NoLane
+      nowhere = unfold batch refusalNumber in rw (held-numbers s, le-ltb l (numbersAt s .lanes) h)
 
-    module _ (m : l < numbersAt s .lanes) (n : ℕ) (e : n ≡ semicolons p) where
-      batch-here : batch (heldAt s) l p (length v) ≡ (if ltb (length v) n then refused 4 else gives (batching n (heldAt s) l p))
-      unfolding batch
-      batch-here = rw (held-numbers s, lt-ltb l (numbersAt s .lanes) m, e)
+  module _ (m : l < numbersAt s .lanes) (n : ℕ) (e : n ≡ semicolons p) where
+    batch-here : batch (heldAt s) l p (length v) ≡ (if ltb (length v) n then refused 4 else gives (batching n (heldAt s) l p))
+    unfolding batch
+    batch-here = rw (held-numbers s, lt-ltb l (numbersAt s .lanes) m, e)
 
-      pub batch-short : length v < n → BatchedAs (batchOf s l p (length v)) l (number.Refused why.TooShort) s v s v
-      batch-short h = rw (batch-whole, batch-here, lt-ltb (length v) n h) (unfold BatchedAs numberGiven refusalNumber in (refl, refl, refl))
+    pub batch-short : length v < n → batchOf s l p (length v) ≡ refusing why.TooShort
+    unfolding refusalNumber
+    batch-short h = batch-whole ∙ batch-here ∙ rw (lt-ltb (length v) n h)
 
-      pub batch-done : n ≤ length v → (t x : List ℕ) → Holds (batching n (heldAt s) l p .after) s t → x ≡ batching n (heldAt s) l p .verdicts ++ drop n v
-          → (noneAccepted (batching n (heldAt s) l p .verdicts) ≡ true → SameOutside s l t)
-          → BatchedAs (batchOf s l p (length v)) l (number.Gives n) s v t x
-      batch-done h t x a q f =
-          rw (batch-whole, batch-here, le-ltb (length v) n h)
-          (unfold BatchedAs numberGiven in (ap gives (sym (batching-length n (heldAt s) l p)), a, rw (batching-length n (heldAt s) l p) q, f))
+    pub batch-done : n ≤ length v → (t x : List ℕ) → Holds (batching n (heldAt s) l p .after) s t → x ≡ batching n (heldAt s) l p .verdicts ++ drop n v
+        → (noneAccepted (batching n (heldAt s) l p .verdicts) ≡ true → SameOutside s l t)
+        → BatchedAs (batchOf s l p (length v)) l (number.Gives n) s v t x
+    batch-done h t x a q f =
+        rw (batch-whole, batch-here, le-ltb (length v) n h)
+        (unfold BatchedAs numberGiven in (ap gives (sym (batching-length n (heldAt s) l p)), a, rw (batching-length n (heldAt s) l p) q, f))

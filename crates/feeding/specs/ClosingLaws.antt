@@ -1,16 +1,13 @@
 -- Closing a lane, return by return. Assumes nothing.
 --
---   closed-refused     what closing answers, where its number is a refusal's
---   closed-done        and where it is neither 6 nor 7
 --   close-not-whole, close-no-lane, close-lane     what each return of the code promises
 use Prim.Native.Nat.{ℕ, _≤_, _<_}
 use mathlib.Core.Path.{_≡_, refl, sym, ap, _∙_}
-use mathlib.Core.Bool.{Bool, true, false}
+use mathlib.Core.Bool.{true, false}
 use mathlib.Core.List.{List, []}
-use borrow.Author.Tests.{lt-ltb, le-ltb}
-use Rattle.trees.specs.Plain.{if_then_else_, every, Answer, refused, gives}
-use Rattle.trees.specs.Text.{isBlank}
-use Rattle.trees.specs.Held.{Lane, holding, overrun, Closed, laneOf, withLane, closed, closing}
+use borrow.Author.Tests.{le-ltb}
+use Rattle.trees.specs.Plain.{refused}
+use Rattle.trees.specs.Held.{holding, Closed, closing}
 use Rattle.answers.specs.declared.Refusal.the-variants as why
 use Rattle.answers.specs.declared.Finish.{Finish}
 use Rattle.answers.specs.declared.Finish.the-variants as finish
@@ -19,30 +16,10 @@ use Rattle.head.specs.Head.{numbersAt}
 use Rattle.layout.specs.Store.{heldAt}
 use Rattle.layout.specs.WholeStore.{wholeAt}
 use Rattle.store.specs.HeldWholeLaws.{held-numbers}
-use Rattle.lanes.specs.Lanes.{LaneIs, closedNumber}
+use Rattle.lanes.specs.Lanes.{LaneIs}
+use Rattle.lanes.specs.ClosingLaws.{closing-here}
 use Rattle.feeding.specs.Feeding.{reached, closedOf, ClosedAs}
 use Rattle.feeding.specs.HoldLaws.{lane-holds, not-whole, no-lane, in-place, both-ways}
-
--- ---- the answer
-
-pub closed-refused : (a : Answer (Unit {0})) (k : ℕ) → k ≡ closedNumber a → (k ≡ 0 → ⊥) → a ≡ refused k
-unfolding closedNumber
-closed-refused (refused j) k e f = ap refused (sym e)
-closed-refused (gives x) k e f = absurd (f e)
-
-pub closed-done : (x : Lane) (k : ℕ) → k ≡ closedNumber (closed x) → (k ≡ 6 → ⊥) → (k ≡ 7 → ⊥) → closed x ≡ gives tt
-unfolding closed closedNumber
-closed-done overrun k e f g = absurd (f e)
-closed-done (holding s) k e f g = go (every isBlank s) e
-  where
-    answer : Bool → Answer (Unit {0})
-    answer b = if b then gives tt else refused 7
-
-    go : (b : Bool) → k ≡ closedNumber (answer b) → answer b ≡ gives tt
-    go true q = refl
-    go false q = absurd (g q)
-
--- ---- the returns
 
 module _ (s : List ℕ) (l : ℕ) where
   closed-not-whole : wholeAt s ≡ false → closedOf s l .answer ≡ refused 1
@@ -78,14 +55,10 @@ module _ (s : List ℕ) (l : ℕ) where
       }
 
     module _ (h : l < numbersAt s .lanes) where
-      closing-here : closing (heldAt s) l ≡ record { answer = closed (laneOf (heldAt s) l); after = withLane (heldAt s) l (holding []) }
-      unfolding closing
-      closing-here = rw (held-numbers s, lt-ltb l (numbersAt s .lanes) h)
-
-      pub close-lane : (r : Finish) (t : List ℕ) → finishGiven r ≡ closed (laneOf (heldAt s) l) → LaneIs s l (holding []) t → ClosedAs s l r t
+      pub close-lane : (r : Finish) (t : List ℕ) → finishGiven r ≡ closing (heldAt s) l .answer → LaneIs s l (holding []) t → ClosedAs s l r t
       close-lane r t e c = record {
-        answer = rw (closed-whole, closing-here) e;
+        answer = rw closed-whole e;
         found = λ f. absurd (both-ways (reached s l) f (in-place s l w h));
-        holds = λ f. rw (closed-whole, closing-here) (lane-holds s l (holding []) t h c);
+        holds = λ f. rw (closed-whole, closing-here s l h) (lane-holds s l (holding []) t h c);
         outside = c .outside;
       }

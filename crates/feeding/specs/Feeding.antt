@@ -27,9 +27,9 @@ use Rattle.answers.specs.declared.Finish.{Finish}
 use Rattle.answers.specs.declared.Number.{Number}
 use Rattle.answers.specs.Answers.{finishGiven, numberGiven, progressGiven}
 use Rattle.head.specs.Head.{numbersAt}
-use Rattle.layout.specs.Store.{laneFrom, heldAt}
+use Rattle.layout.specs.Store.{laneFrom, heldAt, heldIn}
 use Rattle.layout.specs.WholeStore.{wholeAt}
-use Rattle.table.specs.Promises.{ifWhole, Holds}
+use Rattle.store.specs.Lent.{ifWhole, Holds}
 
 -- the call comes to a lane: "checks 1, then 5"
 unfoldable pub reached : List ℕ → ℕ → Bool
@@ -38,15 +38,14 @@ reached s l = wholeAt s && ltb l (numbersAt s .lanes)
 
 -- "Refusals 1 and 5 take 0 bytes"
 unfoldable pub fedOf : List ℕ → ℕ → List ℕ → held.Fed
-unfolding wholeAt heldAt feeding
+unfolding wholeAt heldIn feeding
 fedOf s l p = if wholeAt s then feeding (heldAt s) l p else record { taken = 0; answer = refused 1; after = heldAt s }
 
 unfoldable pub closedOf : List ℕ → ℕ → Closed
-unfolding wholeAt heldAt closing
+unfolding wholeAt heldIn closing
 closedOf s l = if wholeAt s then closing (heldAt s) l else record { answer = refused 1; after = heldAt s }
 
-unfoldable pub batchOf : List ℕ → ℕ → List ℕ → ℕ → Answer Batched
-unfolding ifWhole batch
+abbrev pub batchOf : List ℕ → ℕ → List ℕ → ℕ → Answer Batched
 batchOf s l p room = ifWhole s (λ h. batch h l p room)
 
 -- "accepted, with the tree's number"

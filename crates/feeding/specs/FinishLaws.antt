@@ -28,7 +28,7 @@ use Rattle.answers.specs.declared.Progress.{Progress}
 use Rattle.answers.specs.Answers.{progressGiven}
 use Rattle.fields.specs.Field.{number}
 use Rattle.head.specs.Head.{numbersAt, firstAt, secondAt, openingAt}
-use Rattle.layout.specs.Store.{treesHeldAt, laneFrom, sizeAt, heldAt}
+use Rattle.layout.specs.Store.{treesHeldAt, laneFrom, sizeAt, heldAt, heldIn}
 use Rattle.layout.specs.WholeStore.{wholeAt}
 use Rattle.store.specs.ListTestLaws.{length-map}
 use Rattle.store.specs.RecordedAtLaws.{trees-length}
@@ -39,8 +39,8 @@ use Rattle.newick.specs.Splits.{Stands}
 use Rattle.newick.specs.Judge.{JudgedAs}
 use Rattle.newick.specs.declared.Judged.{Judged}
 use Rattle.newick.specs.declared.Judged.the-variants.{Refused, Splits}
+use Rattle.store.specs.Lent.{Holds}
 use Rattle.recording.specs.Recording.{Recorded}
-use Rattle.table.specs.Promises.{Holds}
 use Rattle.feeding.specs.Feeding.{isAccepted}
 use Rattle.feeding.specs.Texts.{verdictOn, Finished, Judgeable, Accepts}
 use Rattle.feeding.specs.HoldLaws.{size-held, lane-below, lane-holds}
@@ -57,7 +57,7 @@ module _ (s : List ℕ) (l : ℕ) where
   verdict-held x e = rw e
 
   names-held : heldAt s .opening .names ≡ openingAt s .names
-  unfolding heldAt
+  unfolding heldIn
   names-held = refl
 
   pub verdict-refused : (x : List ℕ) (k : ℕ) → laneOf (heldAt s) l ≡ holding x → judged (openingAt s .names) x ≡ refused k → verdictOn s l ≡ refused k
@@ -88,7 +88,7 @@ module _ (o : Opening) (s : List ℕ) (r : Judged) (ms ps is ms′ ps′ is′ :
 
 module _ (s : List ℕ) (l : ℕ) (y : Lane) (u : List ℕ) (c : LaneIs s l y u) where
   pub opening-kept : openingAt u ≡ openingAt s
-  unfolding heldAt withLane
+  unfolding heldIn withLane
   opening-kept = ap (λ (h : Held). h .opening) (c .held)
 
   room-kept : (t : List ℕ) → roomFor (heldAt u) t ≡ roomFor (heldAt s) t

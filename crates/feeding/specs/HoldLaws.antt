@@ -19,8 +19,8 @@ use Rattle.layout.specs.Store.{laneFrom, sizeAt, heldAt}
 use Rattle.layout.specs.StoreLaws.{lane-from, masks-from, size-is}
 use Rattle.layout.specs.WholeStore.{wholeAt}
 use Rattle.store.specs.HeldWholeLaws.{held-numbers}
+use Rattle.store.specs.Lent.{Holds}
 use Rattle.lanes.specs.Lanes.{LaneIs}
-use Rattle.table.specs.Promises.{Holds}
 use Rattle.feeding.specs.Feeding.{reached}
 
 -- the size of what is held is the store's

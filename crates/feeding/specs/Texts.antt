@@ -21,10 +21,10 @@ use Rattle.answers.specs.declared.Fed.{Fed}
 use Rattle.answers.specs.declared.Progress.{Progress}
 use Rattle.answers.specs.Answers.{progressGiven}
 use Rattle.head.specs.Head.{numbersAt, secondAt}
-use Rattle.layout.specs.Store.{treesHeldAt, heldAt}
+use Rattle.layout.specs.Store.{treesHeldAt, heldAt, heldIn}
 use Rattle.store.specs.Chain.{placeIn}
+use Rattle.store.specs.Lent.{Holds}
 use Rattle.recording.specs.Recording.{Recorded}
-use Rattle.table.specs.Promises.{Holds}
 use Rattle.feeding.specs.Feeding.{isAccepted, SameOutside}
 
 pub record Left (h : Held) (s : List ℕ) (l : ℕ) (a : Answer held.Progress) (t : List ℕ) : Type 0 where
@@ -38,7 +38,7 @@ pub record FedWell (s : List ℕ) (l : ℕ) (p : List ℕ) (r : Fed) (t : List �
 
 -- the verdict on the text of lane l
 unfoldable pub verdictOn : List ℕ → ℕ → Answer (List ℕ)
-unfolding heldAt verdict laneOf
+unfolding heldIn verdict laneOf
 verdictOn s l = verdict (heldAt s) (laneOf (heldAt s) l)
 
 pub record Finished (s : List ℕ) (l : ℕ) (r : Progress) (t : List ℕ) : Type 0 where

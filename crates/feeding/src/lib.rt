@@ -47,15 +47,9 @@ pub fn close(s: &mut [u8], l: Lane) -> Finish
     if head::lanes(s) as usize <= l.0 {
         return Finish::Refused(Refusal::NoLane);
     }
-    let k = lanes::closing_number(s, l);
+    let answer = lanes::closing_answer(s, l);
     lanes::empty_lane(s, l);
-    if k == 6 {
-        return Finish::Refused(Refusal::TooLong);
-    }
-    if k == 7 {
-        return Finish::Refused(Refusal::BadForm);
-    }
-    Finish::Done
+    answer
 }
 
 // Feeds a piece with any number of texts to a lane, tests the store once, and writes each verdict: a

@@ -23,7 +23,8 @@ use Rattle.answers.specs.declared.Taxon.{Taxon}
 use Rattle.head.specs.declared.Found.{Found}
 use Rattle.head.specs.declared.Found.the-variants.{At, Nothing}
 use Rattle.head.specs.Index.{key, nextWith, Indexed, foundOf, Below, after, Sought, left}
-use Rattle.head.specs.IndexLaws.{key-below, same-equal, other-key, next-cases, next-left}
+use Rattle.theorems.specs.NameLaws.{same-true}
+use Rattle.head.specs.IndexLaws.{key-below, other-key, next-cases, next-left}
 
 -- ---- the names from a taxon on
 
@@ -161,5 +162,5 @@ pub run-unlike : (v w : List ℕ) → (length v ≡ length w → ⊥) → sameBy
 run-unlike v w n = go (sameBytes v w) refl
   where
     go : (t : Bool) → sameBytes v w ≡ t → t ≡ false
-    go true e = absurd (n (ap length (same-equal v w e)))
+    go true e = absurd (n (ap length (same-true v w e)))
     go false e = refl

@@ -3,7 +3,7 @@
 --   upTo-length, upTo-at, upTo-same     a list made by `upTo`
 --   names-length, first-length, second-length     each list has an element for each taxon
 --   names-at, first-at, second-at       the element of taxon i
---   name-slice                          a name is a slice of the bytes
+--   run-slice, name-slice               a run of bytes is a slice of them, and so is a name
 --   numbers-same, names-same, first-same, second-same, head-same     the opening lies in the first 4,096 bytes
 use mathlib.Core.Path.{_≡_, refl, sym, ap, ap₂, _∙_}
 use Prim.Native.Nat.{ℕ, zero, suc, _+_, _*_, _≤_, _<_}
@@ -79,7 +79,7 @@ module _ (s : List ℕ) where
 
 -- ---- a name, as the code reads it
 
-run-slice : (b n : ℕ) (s : List ℕ) → take n (drop b s) ≡ slice b (b + n) s
+pub run-slice : (b n : ℕ) (s : List ℕ) → take n (drop b s) ≡ slice b (b + n) s
 run-slice zero n s = rw zero-add
 run-slice (suc b) n [] = rw (take-nil, take-nil, drop-nil)
 run-slice (suc b) n (x ∷ s) = rw suc-add (run-slice b n s)

@@ -1,7 +1,7 @@
 -- The laws of the keys and of the index. Assumes nothing.
 --
 --   key-below, key-none, key-more      the key, as a loop makes it
---   same-equal, other-key              equal bytes are one list; other keys, other bytes
+--   other-key                          other keys, other bytes
 --   next-none, next-here, next-later   `nextWith`, a taxon at a time
 --   next-cases                         what holds a taxon at a time holds of `nextWith`
 --   next-left                          the entries of a chain rise
@@ -9,33 +9,17 @@
 use Prim.Native.Nat.{ℕ, zero, suc, _+_, _-_, _*_, _%_, _≤_, _<_}
 use native.Mathlib.Numerals.{add-one}
 use native.Mathlib.Omega.{arith}
-use mathlib.Core.Path.{_≡_, refl, sym, ap, ap₂, _∙_}
+use mathlib.Core.Path.{_≡_, refl, sym, ap, _∙_}
 use mathlib.Core.Logic.{_⊎_, inl, inr}
-use mathlib.Core.Bool.{Bool, true, false, true≢false}
-use mathlib.Core.List.{List, [], _∷_}
-use lib.Dec.{eqb, ltb}
+use mathlib.Core.Bool.{Bool, true, false}
+use mathlib.Core.List.{List, []}
 use lib.ListN.{length, getD, set, drop, drop-of-length-le, replicate, getD-replicate}
 use lib.Seq.{slice, slice-empty, slice-cons, drop-cons, getD-set-same, getD-set-other}
-use borrow.Author.Tests.{ltb-true, ltb-false, eqb-true, eqb-false, eq-eqb, ne-eqb}
+use borrow.Author.Tests.{eq-eqb, ne-eqb}
 use Rattle.trees.specs.Plain.{sameBytes}
-use Rattle.theorems.specs.ListLaws.{if-true, if-false, and-left, and-right}
+use Rattle.theorems.specs.ListLaws.{less-or-not, equal-or-not, if-true, if-false}
+use Rattle.theorems.specs.NameLaws.{same-true}
 use Rattle.head.specs.Index.{keyFrom, key, nextFrom, nextWith, Indexed, IndexedFrom, left}
-
--- ---- equal or not
-
-equal-or-not : (a b : ℕ) → (a ≡ b) ⊎ (a ≡ b → ⊥)
-equal-or-not a b = go (eqb a b) refl
-  where
-    go : (t : Bool) → eqb a b ≡ t → (a ≡ b) ⊎ (a ≡ b → ⊥)
-    go true e = inl (eqb-true a b e)
-    go false e = inr (eqb-false a b e)
-
-less-or-not : (a b : ℕ) → (a < b) ⊎ (b ≤ a)
-less-or-not a b = go (ltb a b) refl
-  where
-    go : (t : Bool) → ltb a b ≡ t → (a < b) ⊎ (b ≤ a)
-    go true e = inl (ltb-true a b e)
-    go false e = inr (ltb-false a b e)
 
 -- ---- the key
 
@@ -53,18 +37,8 @@ module _ (s : List ℕ) (e : ℕ) where
   unfolding keyFrom
   key-more k i h l = rw (add-one i, slice-cons i e s 0 h l)
 
-pub same-equal : (v w : List ℕ) → sameBytes v w ≡ true → v ≡ w
-unfolding sameBytes
-same-equal [] [] e = refl
-same-equal [] (y ∷ w) e = absurd (true≢false (sym e))
-same-equal (x ∷ v) [] e = absurd (true≢false (sym e))
-same-equal (x ∷ v) (y ∷ w) e =
-    ap₂ (λ (z : ℕ) (l : List ℕ). z ∷ l)
-    (eqb-true x y (and-left (eqb x y) (sameBytes v w) e))
-    (same-equal v w (and-right (eqb x y) (sameBytes v w) e))
-
-pub same-key : (v w : List ℕ) → sameBytes v w ≡ true → key v ≡ key w
-same-key v w e = ap key (same-equal v w e)
+same-key : (v w : List ℕ) → sameBytes v w ≡ true → key v ≡ key w
+same-key v w e = ap key (same-true v w e)
 
 pub other-key : (v w : List ℕ) → (key v ≡ key w → ⊥) → sameBytes v w ≡ false
 other-key v w n = go (sameBytes v w) refl

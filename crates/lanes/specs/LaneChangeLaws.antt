@@ -1,109 +1,176 @@
 -- Whole bytes in which one lane alone changes. Assumes nothing.
 --
---   lane-changed      they stay whole, and hold the same but for that lane, which is what its bytes say
-use Prim.Native.Nat.{ℕ, _+_, _≤_, _<_}
+--   withText l n x p     the parts p with the length n and the text x in lane l
+--   sound-with           they are sound, as p is
+--   parts-with           the parts of bytes that differ in lane l alone
+--   lane-changed         such bytes stay whole, and hold the same but for that lane, which is what its bytes say
+use Prim.Native.Nat.{ℕ, zero, suc, _+_, _*_, _≤_, _<_}
 use native.Mathlib.Omega.{arith}
 use mathlib.Core.Path.{_≡_, refl, sym, ap, _∙_}
 use mathlib.Core.Logic.{_⊎_, inl, inr}
 use mathlib.Core.Bool.{Bool, true, false}
-use mathlib.Core.List.{List, []}
-use lib.Dec.{ltb, eqb}
+use mathlib.Core.List.{List}
+use lib.Dec.{eqb}
 use lib.ListN.{length, getD, set, length-set}
-use lib.Seq.{getD-set-same, getD-set-other, ext-getD}
-use borrow.Author.Tests.{ltb-true, ltb-false, eqb-true, eqb-false}
-use Rattle.trees.specs.Held.{Lane, holding, laneOf, withLane}
+use lib.Seq.{getD-set-same, getD-set-other}
+use borrow.Author.Tests.{eqb-true, eqb-false}
+use Rattle.theorems.specs.ListLaws.{less-or-not}
+use Rattle.trees.specs.Plain.{if_then_else_}
+use Rattle.trees.specs.Opening.{Numbers, Opening}
+use Rattle.trees.specs.Held.{Lane, withLane}
+use Rattle.theorems.specs.OpeningLaws.{good-opening}
 use Rattle.fields.specs.Field.{number}
-use Rattle.head.specs.Head.{numbersAt}
-use Rattle.head.specs.HeadLaws.{numbers-same}
-use Rattle.layout.specs.Store.{laneFrom, treeFrom, sizeAt, laneAt, heldAt}
-use Rattle.layout.specs.StoreLaws.{lane-from, tree-from}
-use Rattle.layout.specs.WholeStore.{wholeAt}
-use Rattle.layout.specs.WholeFacts.{WholeAt, whole-at-facts, facts-whole-at}
-use Rattle.store.specs.PartFrameLaws.{SameBetween, lane-length-frame, lane-frame}
-use Rattle.store.specs.FrameLaws.{opening-frame, trees-frame, facts-frame}
-use Rattle.store.specs.HeldWholeLaws.{held-opening, texts-length}
+use Rattle.head.specs.Head.{upTo, numbersAt, openingAt}
+use Rattle.head.specs.HeadLaws.{numbers-same, head-same, upTo-same}
+use Rattle.layout.specs.Columns.{columnAt, column-same, upTo-set}
+use Rattle.layout.specs.Store.{laneFrom, treeFrom, masksFrom, identifiersFrom, countsFrom, linksFrom, orderFrom, placesFrom, Parts, listFrom, textFrom, partsAt, maskIn, heldIn, heldAt}
+use Rattle.layout.specs.StoreLaws.{lane-from, tree-from, masks-from, identifiers-from, counts-from, links-from, order-from, places-from, size-is}
+use Rattle.layout.specs.KeptLaws.{Kept, number-kept, list-kept, text-kept}
+use Rattle.layout.specs.WholeStore.{highestIn, listedIn, wholeAt}
+use Rattle.layout.specs.WholeFacts.{HeadAt, WholeAt, whole-at-facts}
+use Rattle.layout.specs.Sound.{Sound, whole-sound, sound-whole}
 use Rattle.lanes.specs.Lanes.{LaneIs}
-use Rattle.lanes.specs.LaneLaws.{lane-of, lane-end}
+use Rattle.lanes.specs.LaneLaws.{lane-end, lane-fits}
+
+-- ---- the parts
+
+abbrev withText : ℕ → ℕ → Lane → Parts → Parts
+withText l n x p = record {
+  masks = p .masks;
+  identifiers = p .identifiers;
+  counts = p .counts;
+  links = p .links;
+  order = p .order;
+  starts = p .starts;
+  lists = p .lists;
+  lengths = set (p .lengths) l n;
+  texts = set (p .texts) l x;
+}
+
+module _ (o : Opening) (p : Parts) (l n : ℕ) (x : Lane) where
+  highest-with : (h : ℕ → ℕ) (q k : ℕ) → highestIn h p q k ≡ highestIn h (withText l n x p) q k
+  unfolding highestIn
+  highest-with h q zero = refl
+  highest-with h q (suc k) = ap (λ (r : ℕ). if eqb (h (maskIn p k)) q then suc k else r) (highest-with h q k)
+
+  sound-with : Sound o p → l < o .numbers .lanes → n ≤ 4097 → Sound o (withText l n x p)
+  unfolding listedIn
+  sound-with f m h =
+      let a = f .shaped in
+      let b = f .splits in
+      record {
+        shaped = record { identifiers = a .identifiers; counts = a .counts; links = a .links; order = a .order; starts = a .starts; lengths = length-set (p .lengths) l n ∙ a .lengths; texts = length-set (p .texts) l x ∙ a .texts };
+        splits = record { rows-below = b .rows-below; masks-proper = b .masks-proper; masks-rising = b .masks-rising; identifiers = b .identifiers };
+        lists = λ i q. let c = f .lists i q in record { few = c .few; numbers-below = c .numbers-below; tree-rising = c .tree-rising; agreeing = c .agreeing };
+        counts = f .counts;
+        chains = record { links = λ k q. f .chains .links k q ∙ highest-with _ _ k; starts = λ k q. f .chains .starts k q ∙ highest-with _ k _ };
+        lanes = λ j q. go j q (eqb j l) refl;
+      }
+    where
+      go : (j : ℕ) → j < o .numbers .lanes → (c : Bool) → eqb j l ≡ c → getD (set (p .lengths) l n) j 0 ≤ 4097
+      go j q true e = rw (eqb-true j l e, getD-set-same (p .lengths) l n 0 (omega (arith, f .shaped .lengths))) h
+      go j q false e = rw (getD-set-other (p .lengths) l j n 0 (eqb-false j l e)) (f .lanes j q)
+
+-- ---- the bytes
 
 module _ (s : List ℕ) (w : wholeAt s ≡ true) (l : ℕ) (m : l < numbersAt s .lanes) (bytes : (i : ℕ) → getD s i 0 < 256)
-    (t : List ℕ) (size : length t ≡ length s) (outside : (i : ℕ) → (i < laneFrom l) ⊎ (laneFrom l + 4104 ≤ i) → getD t i 0 ≡ getD s i 0)
-    (fits : number 2 t (laneFrom l) ≤ 4097) where
+    (t : List ℕ) (size : length t ≡ length s) (outside : (i : ℕ) → (i < laneFrom l) ⊎ (laneFrom l + 4104 ≤ i) → getD t i 0 ≡ getD s i 0) where
   facts : WholeAt s
   facts = whole-at-facts s w
 
-  -- ---- what stays
+  front : Kept s t 0 4096
+  front i a b = outside i (inl (omega (arith, lane-from l)))
 
-  head-kept : (i : ℕ) → i < 4096 → getD s i 0 ≡ getD t i 0
-  head-kept i h = sym (outside i (inl (omega (arith, lane-from l))))
-
-  behind-kept : SameBetween s t (treeFrom (numbersAt s) 0) (sizeAt s)
-  behind-kept i a b = sym (outside i (inr (omega (arith, lane-from l, tree-from (numbersAt s) 0))))
-
-  numbers-kept : numbersAt s ≡ numbersAt t
-  numbers-kept = numbers-same s t head-kept
-
-  long : sizeAt s ≤ length t
-  long = omega (arith, facts .head .reached)
+  behind : (hi : ℕ) → Kept s t (laneFrom (numbersAt s .lanes)) hi
+  behind hi i a b = outside i (inr (omega (arith, lane-from l, lane-from (numbersAt s .lanes))))
 
   -- another lane lies before or behind
-  lane-kept : (j : ℕ) → (j ≡ l → ⊥) → SameBetween s t (laneFrom j) (laneFrom j + 4104)
-  lane-kept j n i a b = sym (outside i (go (ltb j l) refl))
+  apart : (j : ℕ) → (j ≡ l → ⊥) → Kept s t (laneFrom j) (laneFrom j + 4104)
+  apart j d i a b = outside i (go (less-or-not j l))
     where
-      go : (c : Bool) → ltb j l ≡ c → (i < laneFrom l) ⊎ (laneFrom l + 4104 ≤ i)
-      go true e = inl (omega (arith, lane-from l, lane-from j, ltb-true j l e))
-      go false e = inr (omega (arith, lane-from l, lane-from j, ltb-false j l e))
+      go : (j < l) ⊎ (l ≤ j) → (i < laneFrom l) ⊎ (laneFrom l + 4104 ≤ i)
+      go (inl q) = inl (omega (arith, lane-from l, lane-from j))
+      go (inr q) = inr (omega (arith, lane-from l, lane-from j))
 
-  -- ---- each lane
+  opening-kept : openingAt t ≡ openingAt s
+  unfolding openingAt
+  opening-kept =
+      let h = facts .head in
+      let few = good-opening (openingAt s) (h .opening-good) .ranges .most-taxa in
+      sym (head-same s t (λ i q. sym (front i (omega arith) q)) (h .head-there) (omega (arith, h .head-there)) bytes few)
 
-  length-fits : (j : ℕ) → j < numbersAt s .lanes → number 2 t (laneFrom j) ≤ 4097
-  length-fits j h = go (eqb j l) refl
-    where
-      go : (c : Bool) → eqb j l ≡ c → number 2 t (laneFrom j) ≤ 4097
-      go true e = rw (eqb-true j l e) fits
-      go false e = rw (← lane-length-frame s t j (lane-kept j (eqb-false j l e))) (facts .lanes j h)
+  numbers-kept : numbersAt t ≡ numbersAt s
+  numbers-kept = sym (numbers-same s t (λ i q. sym (front i (omega arith) q)))
 
-  text-kept : (j : ℕ) → j < numbersAt s .lanes → (j ≡ l → ⊥) → laneAt t j ≡ laneAt s j
-  text-kept j h n =
-      let b = lane-end s w j h in
-      sym (lane-frame s t j (lane-kept j n) b (omega arith) (facts .lanes j h))
+  column-kept : (k : ℕ) (from : Numbers → ℕ) (n o : ℕ) → n ≡ o → laneFrom (numbersAt s .lanes) ≤ from (numbersAt s)
+      → columnAt k (from (numbersAt t)) n t ≡ columnAt k (from (numbersAt s)) o s
+  column-kept k from n o e h = rw (numbers-kept, e) (column-same k (from (numbersAt s)) o t s (λ i p q. behind (suc i) i (omega arith) (omega arith)))
 
-  text-is : (j : ℕ) → j < numbersAt s .lanes → laneAt t j ≡ getD (set (heldAt s .texts) l (laneAt t l)) j (holding [])
-  unfolding laneOf
-  text-is j h = go (eqb j l) refl
-    where
-      go : (c : Bool) → eqb j l ≡ c → laneAt t j ≡ getD (set (heldAt s .texts) l (laneAt t l)) j (holding [])
-      go true e = rw (eqb-true j l e) (sym (getD-set-same (heldAt s .texts) l (laneAt t l) (holding []) (rw texts-length m)))
-      go false e =
-          let n = eqb-false j l e in
-          text-kept j h n ∙ sym (getD-set-other (heldAt s .texts) l j (laneAt t l) (holding []) n ∙ lane-of s j h)
+  lists-kept : upTo (λ i. listFrom t (treeFrom (numbersAt t) i)) (number 2 t 10) ≡ upTo (λ i. listFrom s (treeFrom (numbersAt s) i)) (number 2 s 10)
+  lists-kept =
+      let n = numbersAt s in
+      rw (numbers-kept, number-kept s t 0 4096 front 2 10 (omega arith) (omega arith))
+      (upTo-same _ _ (number 2 s 10) (λ i h.
+      let a = treeFrom n i in
+      list-kept s t _ (a + 2 + 2 * number 2 s a) (behind _) a (omega (arith, lane-from (n .lanes), tree-from n i)) (omega arith)))
 
-  -- ---- all that is held
+  lengths-with : upTo (λ j. number 2 t (laneFrom j)) (numbersAt t .lanes) ≡ set (upTo (λ j. number 2 s (laneFrom j)) (numbersAt s .lanes)) l (number 2 t (laneFrom l))
+  lengths-with =
+      rw numbers-kept
+      (upTo-set (λ j. number 2 t (laneFrom j)) _ (numbersAt s .lanes) l m (λ j h d. number-kept s t _ _ (apart j d) 2 (laneFrom j) (omega arith) (omega arith)))
 
-  texts-are : heldAt t .texts ≡ set (heldAt s .texts) l (laneAt t l)
-  unfolding laneOf
-  texts-are =
-      let a : length (heldAt t .texts) ≡ numbersAt s .lanes = texts-length t ∙ rw numbers-kept in
-      let b : length (set (heldAt s .texts) l (laneAt t l)) ≡ numbersAt s .lanes = length-set (heldAt s .texts) l (laneAt t l) ∙ texts-length s in
-      ext-getD (holding []) (heldAt t .texts) (set (heldAt s .texts) l (laneAt t l)) (a ∙ sym b)
-      (λ j h.
-      let k : j < numbersAt s .lanes = rw (← a) h in
-      lane-of t j (rw (← numbers-kept) k) ∙ text-is j k)
+  texts-with : upTo (λ j. textFrom t (laneFrom j)) (numbersAt t .lanes) ≡ set (upTo (λ j. textFrom s (laneFrom j)) (numbersAt s .lanes)) l (textFrom t (laneFrom l))
+  texts-with =
+      rw numbers-kept
+      (upTo-set (λ j. textFrom t (laneFrom j)) _ (numbersAt s .lanes) l m (λ j h d.
+      text-kept s t _ _ (apart j d) (lane-end s w j h) size (laneFrom j) (omega arith) (lane-fits s w j h) (omega arith)))
 
-  opening-kept : heldAt t .opening ≡ heldAt s .opening
-  opening-kept = held-opening t ∙ sym (opening-frame s t head-kept behind-kept long bytes facts) ∙ sym (held-opening s)
-
-  trees-kept : heldAt t .trees ≡ heldAt s .trees
-  trees-kept = sym (trees-frame s t head-kept behind-kept long bytes facts)
-
-  held-changed : heldAt t ≡ withLane (heldAt s) l (laneAt t l)
-  unfolding withLane
-  held-changed i = record { opening = opening-kept i; trees = trees-kept i; texts = texts-are i }
-
-  pub lane-changed : (x : Lane) → laneAt t l ≡ x → LaneIs s l x t
-  lane-changed x e =
+  parts-with : partsAt t ≡ withText l (number 2 t (laneFrom l)) (textFrom t (laneFrom l)) (partsAt s)
+  unfolding partsAt
+  parts-with i =
+      let n = numbersAt s in
+      let h : laneFrom (n .lanes) ≤ masksFrom n = omega (arith, lane-from (n .lanes), masks-from n) in
+      let e = number-kept s t 0 4096 front 2 12 (omega arith) (omega arith) in
       record {
-        whole = facts-whole-at t (facts-frame s t head-kept behind-kept long bytes facts length-fits);
-        held = held-changed ∙ ap (withLane (heldAt s) l) e;
-        size = size;
-        outside = outside;
+        masks = column-kept 8 masksFrom _ _ e h i;
+        identifiers = column-kept 8 identifiersFrom _ _ e (omega (arith, identifiers-from n)) i;
+        counts = column-kept 4 countsFrom _ _ e (omega (arith, counts-from n)) i;
+        links = column-kept 2 linksFrom _ _ e (omega (arith, links-from n)) i;
+        order = column-kept 2 orderFrom _ _ e (omega (arith, order-from n)) i;
+        starts = column-kept 2 placesFrom _ _ (ap (λ (x : Numbers). x .places) numbers-kept) (omega (arith, places-from n)) i;
+        lists = lists-kept i;
+        lengths = lengths-with i;
+        texts = texts-with i;
       }
+
+  module _ (n : ℕ) (x : Lane) (e : number 2 t (laneFrom l) ≡ n) (fits : n ≤ 4097) (f : textFrom t (laneFrom l) ≡ x) where
+    parts-are : partsAt t ≡ withText l n x (partsAt s)
+    parts-are = rw (← e, ← f) parts-with
+
+    head-at : HeadAt t
+    head-at =
+        let h = facts .head in
+        record {
+          head-there = rw size (h .head-there);
+          opening-good = rw opening-kept (h .opening-good);
+          reached = rw (size, size-is t, numbers-kept, ← size-is s) (h .reached);
+          trees-fit = rw (parts-are, numbers-kept) (h .trees-fit);
+          splits-fit = rw (parts-are, numbers-kept) (h .splits-fit);
+        }
+
+    sound-at : Sound (openingAt t) (partsAt t)
+    unfolding openingAt
+    sound-at = rw (parts-are, opening-kept) (sound-with (openingAt s) (partsAt s) l n x (whole-sound s w) m fits)
+
+    held-with : heldAt t ≡ withLane (heldAt s) l x
+    unfolding heldIn withLane
+    held-with = rw (parts-are, opening-kept)
+
+    pub lane-changed : LaneIs s l x t
+    lane-changed =
+        record {
+          whole = sound-whole t head-at sound-at (rw parts-are (λ k h. facts .counts k h .some-tree));
+          held = held-with;
+          size = size;
+          outside = outside;
+        }

@@ -1,14 +1,12 @@
--- One lane of a store is changed or closed.
+-- One lane of a store is changed.
 --
 --   LaneIs s l x t      the bytes t are whole and hold what s holds, but for lane l, which is x
---   closedNumber a      what closing answers, as a number
 use Prim.Native.Nat.{ℕ, _+_, _≤_, _<_}
 use mathlib.Core.Path.{_≡_}
 use mathlib.Core.Logic.{_⊎_}
 use mathlib.Core.Bool.{true}
 use mathlib.Core.List.{List}
 use lib.ListN.{length, getD}
-use Rattle.trees.specs.Plain.{Answer, refused, gives}
 use Rattle.trees.specs.Held.{Lane, withLane}
 use Rattle.layout.specs.Store.{laneFrom, heldAt}
 use Rattle.layout.specs.WholeStore.{wholeAt}
@@ -19,8 +17,3 @@ pub record LaneIs (s : List ℕ) (l : ℕ) (x : Lane) (t : List ℕ) : Type 0 wh
   pub held : heldAt t ≡ withLane (heldAt s) l x
   pub size : length t ≡ length s
   pub outside : (i : ℕ) → (i < laneFrom l) ⊎ (laneFrom l + 4104 ≤ i) → getD t i 0 ≡ getD s i 0
-
--- what closing answers, as a number: 0 for done, else the refusal's
-unfoldable pub closedNumber : Answer (Unit {0}) → ℕ
-closedNumber (refused k) = k
-closedNumber (gives x) = 0

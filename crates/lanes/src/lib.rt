@@ -1,22 +1,27 @@
 // One lane of a whole store: its text is made longer, emptied, measured, and judged at closing. Every
 // other byte of the store stays as it is.
 //
-// Its contracts cite `specs/Lanes.antt` (`LaneIs`, `closedNumber`), crate trees, `specs/Held.antt`
-// (`longer`, `closed`), and crate layout, `specs/Store.antt`; the laws that callers use stand in
-// `specs/LaneLaws.antt`.
+// Its contracts cite `specs/Lanes.antt` (`LaneIs`), crate trees, `specs/Held.antt` (`longer`,
+// `closing`), and crate layout, `specs/Store.antt`; the laws that callers use stand in
+// `specs/LaneLaws.antt` and `specs/ClosingLaws.antt`.
+use answers::Finish;
 use answers::Lane;
+use layout::lane_from;
+use answers::Refusal;
 ghost use mathlib.Core.Path.{_≡_};
 ghost use mathlib.Core.Bool.{true};
 ghost use mathlib.Core.List.{[]};
-ghost use Prim.Native.Nat.{_≤_, _<_};
+ghost use Prim.Native.Nat.{_+_, _≤_, _<_};
+ghost use lib.ListN.{take, drop};
 ghost use Rattle.trees.specs.Plain.{every};
 ghost use Rattle.trees.specs.Text.{isBlank};
-ghost use Rattle.trees.specs.Held.{holding, longer, laneOf, closed};
+ghost use Rattle.trees.specs.Held.{holding, longer, laneOf, closing};
+ghost use Rattle.answers.specs.Answers.{finishGiven};
 ghost use Rattle.fields.specs.Field.{number};
 ghost use Rattle.head.specs.Head.{numbersAt};
 ghost use Rattle.layout.specs.Store.{laneFrom, heldAt};
 ghost use Rattle.layout.specs.WholeStore.{wholeAt};
-ghost use Rattle.lanes.specs.Lanes.{LaneIs, closedNumber};
+ghost use Rattle.lanes.specs.Lanes.{LaneIs};
 
 // Puts the piece behind the bytes that lane l holds. Past 4,096 bytes the lane has run over, and one
 // that ran over stays so.
@@ -58,31 +63,34 @@ pub fn lane_length(s: &[u8], l: Lane) -> usize
     layout::number16(s, from)
 }
 
-// What closing lane l answers: 6 where it ran over, 7 where it holds any byte but blanks, else 0.
-pub fn closing_number(s: &[u8], l: Lane) -> u32
+// The n bytes of text that lane l holds.
+pub fn text_of(s: &[u8], l: Lane, n: usize) -> &[u8]
     requires { ⌜ wholeAt (now s) ≡ true ⌝ }
     requires { ⌜ l .0 < numbersAt (now s) .lanes ⌝ }
-    ensures { λ r. ⌜ r ≡ closedNumber (closed (laneOf (heldAt (now (s .entry))) (l .0))) ⌝ }
+    requires { ⌜ n ≤ 4096 ⌝ }
+    ensures { λ r. ⌜ now r ≡ take n (drop (laneFrom (l .0) + 8) (now (s .entry))) ⌝ }
+{
+    let from = lane_from(l) + 8;
+    let end = from + n;
+    &s[from..end]
+}
+
+// What closing lane l answers: 6 where it ran over, 7 where it holds any byte but blanks, else done.
+pub fn closing_answer(s: &[u8], l: Lane) -> Finish
+    requires { ⌜ wholeAt (now s) ≡ true ⌝ }
+    requires { ⌜ l .0 < numbersAt (now s) .lanes ⌝ }
+    ensures { λ r. ⌜ finishGiven r ≡ closing (heldAt (now (s .entry))) (l .0) .answer ⌝ }
 {
     let n = lane_length(s, l);
     if n == 4097 {
-        return 6;
+        return Finish::Refused(Refusal::TooLong);
     }
     let b = lane_from(l) + 8;
     let e = b + n;
     if !all_blanks(&s[b..e]) {
-        return 7;
+        return Finish::Refused(Refusal::BadForm);
     }
-    0
-}
-
-// Where lane l begins.
-fn lane_from(l: Lane) -> usize
-    requires { ⌜ l .0 < 8 ⌝ }
-    ensures { λ r. ⌜ r ≡ laneFrom (l .0) ⌝ }
-    ensures { λ r. ⌜ r < 65536 ⌝ }
-{
-    4096 + 4104 * l.0
+    Finish::Done
 }
 
 // Whether every byte of the text is a blank.

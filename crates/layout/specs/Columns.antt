@@ -6,7 +6,7 @@
 --   column-beside                   what is put before or behind it changes nothing
 --   column-more                     a number put behind it is its next
 --   column-set                      a number put over its k-th takes its place
---   upTo-more                       one more at the end of a list made by `upTo`
+--   upTo-more, upTo-set             one more at the end of a list made by `upTo`; one element changed
 use Prim.Native.Nat.{ℕ, zero, suc, _+_, _*_, _^_, _≤_, _<_}
 use native.Mathlib.Nat.{mul-le-mul-left, mul-suc, add-zero, zero-add}
 use native.Mathlib.Omega.{arith}
@@ -14,10 +14,10 @@ use mathlib.Core.Path.{_≡_, refl, sym, ap, ap₂, _∙_}
 use mathlib.Core.Logic.{_⊎_, inl, inr}
 use mathlib.Core.Bool.{Bool, true, false}
 use mathlib.Core.List.{List, [], _∷_, _++_}
-use lib.Dec.{ltb}
+use lib.Dec.{ltb, eqb}
 use lib.ListN.{length, getD, set, length-set}
 use lib.Seq.{ext-getD, getD-set-same, getD-set-other}
-use borrow.Author.Tests.{ltb-true, ltb-false}
+use borrow.Author.Tests.{ltb-true, ltb-false, eqb-true, eqb-false}
 use Rattle.fields.specs.Field.{number, put}
 use Rattle.fields.specs.FieldLaws.{put-outside, number-put, number-put-outside, number-same}
 use Rattle.head.specs.Head.{fromTo, upTo}
@@ -64,6 +64,19 @@ module _ {A : Type 0} (f : ℕ → A) where
   unfolding upTo
   upTo-more n = from-more 0 n ∙ rw zero-add
 
+-- the lists of two functions that differ at k alone
+pub upTo-set : {A : Type 0} (f g : ℕ → A) (n k : ℕ) → k < n → ((i : ℕ) → i < n → (i ≡ k → ⊥) → f i ≡ g i) → upTo f n ≡ set (upTo g n) k (f k)
+upTo-set {A} f g n k h same =
+    ext-getD (f k) _ _ (upTo-length f n ∙ sym (length-set (upTo g n) k (f k) ∙ upTo-length g n)) (λ i l.
+    let b : i < n = omega (arith, upTo-length f n) in
+    upTo-at f n i (f k) b ∙ go i b (eqb i k) refl)
+  where
+    go : (i : ℕ) → i < n → (t : Bool) → eqb i k ≡ t → f i ≡ getD (set (upTo g n) k (f k)) i (f k)
+    go i b true e = rw (eqb-true i k e) (sym (getD-set-same (upTo g n) k (f k) (f k) (omega (arith, upTo-length g n))))
+    go i b false e =
+        let d = eqb-false i k e in
+        same i b d ∙ sym (getD-set-other (upTo g n) k i (f k) (f k) d ∙ upTo-at g n i (f k) b)
+
 module _ (w a n v : ℕ) (s : List ℕ) (l : v < 256 ^ w) where
   pub column-more : a + w * n + w ≤ length s → columnAt w a (suc n) (put w s (a + w * n) v) ≡ columnAt w a n s ++ v ∷ []
   unfolding columnAt
@@ -72,27 +85,15 @@ module _ (w a n v : ℕ) (s : List ℕ) (l : v < 256 ^ w) where
       ∙ ap₂ (λ (x : List ℕ) (y : ℕ). x ++ y ∷ []) (column-beside w a n w (a + w * n) v s (inr (omega arith))) (number-put w s (a + w * n) v h l)
 
   module _ (k : ℕ) (h : k < n) (fits : a + w * n ≤ length s) where
-    at-set : (i : ℕ) → i < n → (i < k) ⊎ (k ≤ i) → (k < i) ⊎ (i ≤ k) → number w (put w s (a + w * k) v) (a + w * i) ≡ getD (set (columnAt w a n s) k v) i 0
-    at-set i b (inl c) d =
-        let e = ends w i k c in
-        number-put-outside w w s (a + w * k) v (a + w * i) (inl (omega arith)) ∙ sym (getD-set-other (columnAt w a n s) k i v 0 (λ z. omega arith) ∙ column-at w a n s i b)
-    at-set i b (inr c) (inl d) =
-        let e = ends w k i d in
-        number-put-outside w w s (a + w * k) v (a + w * i) (inr (omega arith)) ∙ sym (getD-set-other (columnAt w a n s) k i v 0 (λ z. omega arith) ∙ column-at w a n s i b)
-    at-set i b (inr c) (inr d) =
-        let e : i ≡ k = omega arith in
-        let f = ends w k n h in
-        rw e (number-put w s (a + w * k) v (omega arith) l ∙ sym (getD-set-same (columnAt w a n s) k v 0 (omega (arith, column-length w a n s))))
+    others : (i : ℕ) → i < n → (i ≡ k → ⊥) → number w (put w s (a + w * k) v) (a + w * i) ≡ number w s (a + w * i)
+    others i b d = number-put-outside w w s (a + w * k) v (a + w * i) (go (ltb i k) refl)
+      where
+        go : (t : Bool) → ltb i k ≡ t → (a + w * i + w ≤ a + w * k) ⊎ (a + w * k + w ≤ a + w * i)
+        go true e = inl (omega (arith, ends w i k (ltb-true i k e)))
+        go false e = inr (let c = ltb-false i k e in omega (arith, ends w k i (omega arith)))
 
     pub column-set : columnAt w a n (put w s (a + w * k) v) ≡ set (columnAt w a n s) k v
+    unfolding columnAt
     column-set =
-        ext-getD 0 _ _ (column-length w a n _ ∙ sym (length-set (columnAt w a n s) k v ∙ column-length w a n s)) (λ i q.
-        let b : i < n = omega (arith, column-length w a n (put w s (a + w * k) v)) in
-        column-at w a n _ i b ∙ at-set i b (less i k) (less k i))
-      where
-        less : (x y : ℕ) → (x < y) ⊎ (y ≤ x)
-        less x y = go (ltb x y) refl
-          where
-            go : (t : Bool) → ltb x y ≡ t → (x < y) ⊎ (y ≤ x)
-            go true e = inl (ltb-true x y e)
-            go false e = inr (ltb-false x y e)
+        upTo-set _ (λ i. number w s (a + w * i)) n k h others
+        ∙ ap (set (columnAt w a n s) k) (number-put w s (a + w * k) v (omega (arith, ends w k n h)) l)

@@ -2,10 +2,15 @@
 pub mod Columns
 pub mod Store
 pub mod StoreLaws
+pub mod KeptLaws
 pub mod WholeStore
 pub mod AllLaws
 pub mod WholeFacts
+pub mod InsideLaws
 pub mod Sound
 pub mod UpToLaws
 pub mod PigeonLaws
 pub mod OrderLaws
+pub mod HighestLaws
+pub mod InsertLaws
+pub mod OpeningKeptLaws

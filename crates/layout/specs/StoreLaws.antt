@@ -7,7 +7,7 @@
 --   entriesAt, entryAt, list-length, list-at     a tree's list
 --   length-is, lane-is                           a lane
 use Prim.Native.Nat.{ℕ, _+_, _*_, _<_}
-use mathlib.Core.Path.{_≡_, refl, ap, _∙_, sym}
+use mathlib.Core.Path.{_≡_, refl, _∙_, sym}
 use mathlib.Core.List.{List, []}
 use lib.Dec.{eqb}
 use lib.ListN.{length, getD, take, drop}

@@ -1,53 +1,32 @@
 -- Laws of the lists that a store's bytes are read as: members, order, one more at the end. Assumes nothing.
 --
---   less-or-not                   two numbers compared
 --   upTo-mem, mem-upTo            the members of a list made by `upTo`
 --   upTo-rises                    where such a list rises, the function does
 --   length-map, map-at, map-mem, mem-map     a list with a function on each
---   mem-getD, mem-at              what stands in a list is a member, and each member stands somewhere
+--   mem-at                        each member stands somewhere
 --   rising-at                     what stands earlier in a rising list is less
---   bool-same                     two tests are equal where each passes with the other
 --   count-append                  the count behind one more tree
---   listed-nil, listed-next       how many of no trees list a split, and of one tree more
+--   oneIf b, one-most             1 where the test b passes, 0 where it fails
+--   listed-nil, listed-next, listed-step     how many of no trees list a split, and of one tree more
+--   listed-most                   never more than there are trees
 use Prim.Native.Nat.{ℕ, zero, suc, _+_, _≤_, _<_}
 use native.Mathlib.Omega.{arith}
 use mathlib.Core.Path.{_≡_, refl, sym, ap, _∙_}
 use mathlib.Core.Logic.{_⊎_, inl, inr}
 use mathlib.Core.Bool.{Bool, true, false}
 use mathlib.Core.List.{List, [], _∷_, _++_, map}
-use lib.Dec.{ltb}
 use lib.ListN.{length, getD, take}
 use lib.Seq.{take-suc}
-use borrow.Author.Tests.{ltb-true, ltb-false}
 use Rattle.trees.specs.Plain.{if_then_else_, member}
 use Rattle.trees.specs.Consensus.{count}
-use Rattle.theorems.specs.ListLaws.{Mem}
+use Rattle.theorems.specs.ListLaws.{less-or-not, Mem, mem-getD}
 use Rattle.theorems.specs.RisingLaws.{Rising}
 use Rattle.theorems.specs.ConsensusLaws.{count-step}
 use Rattle.head.specs.Head.{fromTo, upTo}
 use Rattle.layout.specs.Store.{Parts, treesIn, listIn}
 use Rattle.layout.specs.WholeStore.{listedIn}
 
--- ---- two numbers, two tests
-
-pub less-or-not : (a b : ℕ) → (a < b) ⊎ (b ≤ a)
-less-or-not a b = go (ltb a b) refl
-  where
-    go : (t : Bool) → ltb a b ≡ t → (a < b) ⊎ (b ≤ a)
-    go true e = inl (ltb-true a b e)
-    go false e = inr (ltb-false a b e)
-
-pub bool-same : (a b : Bool) → (a ≡ true → b ≡ true) → (b ≡ true → a ≡ true) → a ≡ b
-bool-same true b f g = sym (f refl)
-bool-same false true f g = g refl
-bool-same false false f g = refl
-
 -- ---- the members of a list
-
-pub mem-getD : (l : List ℕ) (j : ℕ) → j < length l → Mem (getD l j 0) l
-mem-getD [] j h = absurd (omega arith)
-mem-getD (x ∷ l) zero h = inl refl
-mem-getD (x ∷ l) (suc j) h = inr (mem-getD l j (omega arith))
 
 pub mem-at : (l : List ℕ) (k : ℕ) → Mem k l → (i : ℕ) × (i < length l) × (getD l i 0 ≡ k)
 mem-at (x ∷ l) k (inl e) = (0, omega arith, sym e)
@@ -141,3 +120,23 @@ listed-nil p k = refl
 pub listed-next : (p : Parts) (k t : ℕ) → t < treesIn p → listedIn p k (suc t) ≡ (if member k (listIn p t) then suc (listedIn p k t) else listedIn p k t)
 unfolding listedIn
 listed-next p k t h = ap (λ (ls : List (List ℕ)). count ls k) (take-suc (p .lists) t [] h) ∙ count-append (take t (p .lists)) (listIn p t) k
+
+unfoldable pub oneIf : Bool → ℕ
+oneIf b = if b then 1 else 0
+
+pub one-most : (b : Bool) → oneIf b ≤ 1
+unfolding oneIf
+one-most true = omega arith
+one-most false = omega arith
+
+pub listed-step : (p : Parts) (k t : ℕ) → t < treesIn p → listedIn p k (suc t) ≡ listedIn p k t + oneIf (member k (listIn p t))
+unfolding oneIf
+listed-step p k t h = listed-next p k t h ∙ go (member k (listIn p t))
+  where
+    go : (b : Bool) → (if b then suc (listedIn p k t) else listedIn p k t) ≡ listedIn p k t + (if b then 1 else 0)
+    go true = omega arith
+    go false = omega arith
+
+pub listed-most : (p : Parts) (k t : ℕ) → t ≤ treesIn p → listedIn p k t ≤ t
+listed-most p k zero h = omega (arith, listed-nil p k)
+listed-most p k (suc t) h = omega (arith, listed-step p k t h, one-most (member k (listIn p t)), listed-most p k t (omega arith))

@@ -7,7 +7,8 @@ ghost use Prim.Native.Nat.{_+_, _≤_, _<_, _^_};
 ghost use lib.ListN.{length};
 ghost use Rattle.fields.specs.Field.{number};
 ghost use Rattle.head.specs.Head.{numbersAt};
-ghost use Rattle.layout.specs.Store.{treesHeldAt, splitsHeldAt, treeFrom, masksFrom, identifiersFrom, countsFrom, linksFrom, orderFrom, placesFrom};
+ghost use Rattle.layout.specs.Store.{treesHeldAt, splitsHeldAt, laneFrom, treeFrom, masksFrom, identifiersFrom, countsFrom, linksFrom, orderFrom, placesFrom};
+use answers::Lane;
 use answers::Tree;
 
 // How many trees there are.
@@ -25,6 +26,15 @@ pub fn splits_held(s: &[u8]) -> usize
     ensures { λ r. ⌜ r < 65536 ⌝ }
 {
     number16(s, 12)
+}
+
+// Where lane l begins.
+pub fn lane_from(l: Lane) -> usize
+    requires { ⌜ l .0 < 65536 ⌝ }
+    ensures { λ r. ⌜ r ≡ laneFrom (l .0) ⌝ }
+    ensures { λ r. ⌜ r < 2 ^ 29 ⌝ }
+{
+    4096 + 4104 * l.0
 }
 
 // Where tree i begins.

@@ -10,14 +10,13 @@ use mathlib.Core.Logic.{_⊎_, inl, inr}
 use mathlib.Core.List.{List}
 use lib.ListN.{length, getD, take}
 use lib.Seq.{length-take-le, getD-take}
+use Rattle.theorems.specs.ListLaws.{less-or-not, equal-or-not}
 use Rattle.trees.specs.Plain.{member}
 use Rattle.fields.specs.Field.{number, put}
 use Rattle.fields.specs.FieldLaws.{put-length, put-outside, number-put, number-put-outside}
 use Rattle.store.specs.ListTests.{oneIf}
 use Rattle.store.specs.ListTestLaws.{mem-getD}
-use Rattle.store.specs.ChainTests.{equal-or-not}
 use Rattle.store.specs.CountLaws.{front-other}
-use Rattle.layout.specs.UpToLaws.{less-or-not}
 use Rattle.listing.specs.Entering.{RowsWritten, Countable, CountsAdded}
 use Rattle.listing.specs.RowLaws.{front-mem, next-mem, front-here, front-new}
 

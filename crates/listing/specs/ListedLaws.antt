@@ -9,6 +9,7 @@ use mathlib.Core.Path.{_≡_, sym, ap, _∙_}
 use mathlib.Core.Logic.{_⊎_, inl, inr}
 use mathlib.Core.List.{List, map}
 use lib.ListN.{getD}
+use Rattle.theorems.specs.ListLaws.{less-or-not}
 use Rattle.trees.specs.Opening.{Numbers}
 use Rattle.trees.specs.Held.{withTree}
 use Rattle.theorems.specs.RisingLaws.{true-rising}
@@ -19,7 +20,6 @@ use Rattle.layout.specs.Store.{treesHeldAt, splitsHeldAt, laneFrom, laneAt, mas
 use Rattle.layout.specs.WholeStore.{listed, highestBelow}
 use Rattle.layout.specs.WholeFacts.{HeadAt, SplitsAt, ListAt, ChainsAt}
 use Rattle.layout.specs.Sound.{Sound}
-use Rattle.layout.specs.UpToLaws.{less-or-not}
 use Rattle.store.specs.PartFrameLaws.{size-same, lane-length-frame}
 use Rattle.listing.specs.Listed.{Listed, Rows}
 use Rattle.listing.specs.Entering.{Entered}

@@ -14,8 +14,8 @@
 use Prim.Native.Nat.{ℕ, zero, suc, _+_, _-_, _*_, _/_, _%_, _^_, _≤_, _<_, min}
 use mathlib.Core.Path.{_≡_, refl, sym, ap, _∙_}
 use mathlib.Core.Bool.{true, false, _||_, and-false}
-use mathlib.Core.Logic.{_⊎_, inl, inr, ⊎-elim}
-use native.Mathlib.Nat.{pow-suc, one-mul, div-eq-of-lt, div-lt-iff-lt-mul, eq-zero-or-pos, lt-of-lt-of-le}
+use mathlib.Core.Logic.{_⊎_, ⊎-elim}
+use native.Mathlib.Nat.{pow-suc, one-mul, div-eq-of-lt, div-lt-iff-lt-mul, lt-of-lt-of-le}
 use native.Mathlib.Omega.{arith}
 use lib.Pow.{pow-pos, pow-mono, shl-exact}
 use lib.Bits.{bitAnd, and-step, and-comm}
@@ -23,15 +23,9 @@ use lib.Count.{ones, trailingZeros}
 use lib.Dec.{ltb, eqb}
 use borrow.Author.Tests.{eq-eqb, ne-eqb, lt-ltb, le-ltb, le-leb, lt-leb}
 use Rattle.trees.specs.Mask.{without, apart, within, agree, proper, lowestFrom, lowest}
+use Rattle.theorems.specs.ListLaws.{less-or-not}
+use Rattle.theorems.specs.BitLaws.{even-odd}
 use Rattle.theorems.specs.ProperLaws.{proper-ones}
-
--- ---- cases
-
-lt-or-ge : (a b : ℕ) → (a < b) ⊎ (b ≤ a)
-lt-or-ge a b = ⊎-elim (λ (e : b - a ≡ 0). inr (omega arith)) (λ (h : 0 < b - a). inl (omega arith)) (eq-zero-or-pos (b - a))
-
-even-or-odd : (m : ℕ) → (m % 2 ≡ 0) ⊎ (m % 2 ≡ 1)
-even-or-odd m = ⊎-elim (λ (e : m % 2 ≡ 0). inl e) (λ (h : 0 < m % 2). inr (omega arith)) (eq-zero-or-pos (m % 2))
 
 -- ---- agree
 
@@ -51,7 +45,7 @@ shift-none m k =
     ⊎-elim
     (λ (h : m < 2 ^ k). eq-eqb _ _ (div-eq-of-lt h) ∙ sym (lt-ltb _ _ h))
     (λ (h : 2 ^ k ≤ m). ne-eqb _ _ (shift-some m k h) ∙ sym (le-ltb _ _ h))
-    (lt-or-ge m (2 ^ k))
+    (less-or-not m (2 ^ k))
 
 pub shift-one : (k i : ℕ) → i < k → 1 * 2 ^ i % 2 ^ k ≡ 2 ^ i
 shift-one k i h = shl-exact 1 i k (omega arith) (omega arith) ∙ one-mul (2 ^ i)
@@ -88,7 +82,7 @@ module _ (n m : ℕ) where
   proper-few-ones h = proper-ones n m ∙ rw (lt-leb 2 (ones m) h) (and-false (eqb (m % 2) 0))
 
   few-or-more : (ones m < 2) ⊎ (2 ≤ ones m)
-  few-or-more = lt-or-ge (ones m) 2
+  few-or-more = less-or-not (ones m) 2
 
   two-and-too-many : 2 ≤ ones m → n < ones m + 2 → proper n m ≡ false
   two-and-too-many h l =
@@ -123,7 +117,7 @@ from-trailing (suc f) i m =
     ⊎-elim
     (λ (e : m % 2 ≡ 0). rw (e, lowestFrom) (omega (arith, from-trailing f (suc i) (m / 2))))
     (λ (e : m % 2 ≡ 1). rw (e, lowestFrom) (omega arith))
-    (even-or-odd m)
+    (even-odd m)
 
 trailing-enough : (k j m : ℕ) → 0 < m → m < 2 ^ k → m < 2 ^ j → trailingZeros k m ≡ trailingZeros j m
 unfolding trailingZeros
@@ -134,7 +128,7 @@ trailing-enough (suc k) (suc j) m h p q =
     (λ (e : m % 2 ≡ 0).
     rw e (ap suc (trailing-enough k j (m / 2) (omega arith) (omega (arith, pow-suc 2 k)) (omega (arith, pow-suc 2 j)))))
     (λ (e : m % 2 ≡ 1). rw e)
-    (even-or-odd m)
+    (even-odd m)
 
 pub trailing-lt : (k m : ℕ) → m < 2 ^ k → 0 < m → trailingZeros k m < k
 unfolding trailingZeros
@@ -143,7 +137,7 @@ trailing-lt (suc k) m p h =
     ⊎-elim
     (λ (e : m % 2 ≡ 0). let l : m / 2 < 2 ^ k = omega (arith, pow-suc 2 k) in rw e (omega (arith, trailing-lt k (m / 2) l (omega arith))))
     (λ (e : m % 2 ≡ 1). rw e (omega arith))
-    (even-or-odd m)
+    (even-odd m)
 
 pub trailing-lowest : (k m : ℕ) → m < 2 ^ k → 0 < m → trailingZeros k m ≡ lowest m
 unfolding lowest

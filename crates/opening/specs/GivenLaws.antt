@@ -1,6 +1,6 @@
 -- The laws of an opening's numbers and constants. Assumes nothing.
 --
---   size-most, size-least      how many bytes a store of numbers in range takes
+--   size-least                 a store has at least its head
 --   failed, passed             what a test that the code negates says
 --   between-most               a number in its range is at most the most
 --   range-not-taxa, range-not-lanes, range-not-trees, range-not-splits, range-places     the ranges, one after another
@@ -19,15 +19,10 @@ use borrow.Author.Tests.{leb-true, lt-ltb, eq-eqb, ne-eqb, not-true, not-false}
 use Rattle.trees.specs.Plain.{every}
 use Rattle.trees.specs.Opening.{Numbers, between, inRange, storeSize, goodConstants}
 use Rattle.theorems.specs.ListLaws.{and-right}
-use Rattle.theorems.specs.OpeningLaws.{in-range}
 
 -- ---- the size of a store
 
 -- "at most 64 bytes per split of room, 256 per tree of room, 8,192 per lane and 8,192 besides"
-pub size-most : (x : Numbers) → inRange x ≡ true → storeSize x ≤ 64 * x .splitRoom + 256 * x .treeRoom + 8192 * x .lanes + 8192
-unfolding storeSize
-size-most x e = let r = in-range x e in omega arith
-
 pub size-least : (x : Numbers) → 4096 ≤ storeSize x
 unfolding storeSize
 size-least x = omega arith

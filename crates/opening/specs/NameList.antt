@@ -1,10 +1,9 @@
 -- Parts of a name list's check.
 --
 --   allNames n ns      ns are n names; whether they are different is not asked
---   marks              the bytes from 33 to 126 that no label has
 use Prim.Native.Nat.{ℕ}
 use mathlib.Core.Bool.{Bool, _&&_}
-use mathlib.Core.List.{List, [], _∷_}
+use mathlib.Core.List.{List}
 use lib.Dec.{eqb}
 use lib.ListN.{length}
 use Rattle.trees.specs.Plain.{every}
@@ -13,6 +12,3 @@ use Rattle.trees.specs.Names.{isName}
 unfoldable pub allNames : ℕ → List (List ℕ) → Bool
 unfolding every isName
 allNames n ns = eqb (length ns) n && every isName ns
-
-abbrev pub marks : List ℕ
-marks = 40 ∷ 41 ∷ 91 ∷ 93 ∷ 39 ∷ 58 ∷ 59 ∷ 44 ∷ []

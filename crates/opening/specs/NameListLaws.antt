@@ -6,8 +6,6 @@
 --   again-here, again-next, again-end                a name sought among others
 --   short-not, long-not, name-bytes     one name
 --   label-more, label-not, label-end    its bytes
---   label-low, label-high, label-mark   one byte
---   member-here, member-next, member-end     a byte sought among others
 use Prim.Native.Nat.{ℕ, zero, suc, _+_, _-_, _≤_, _<_}
 use native.Mathlib.Numerals.{add-one}
 use native.Mathlib.Omega.{arith}
@@ -15,15 +13,15 @@ use mathlib.Core.Path.{_≡_, refl, sym, ap, _∙_}
 use mathlib.Core.Bool.{Bool, true, false, _&&_, _||_, not}
 use mathlib.Core.List.{List, _∷_}
 use lib.Dec.{leb, eqb, eqb·suc-suc, eqb·suc-zero, eqb·zero-suc}
-use lib.ListN.{length, getD, drop, drop-of-length-le}
-use lib.Seq.{slice, slice-cons, slice-empty, length-slice, drop-cons}
-use borrow.Author.Tests.{le-leb, lt-leb, eq-eqb, ne-eqb}
-use Rattle.trees.specs.Plain.{every, member, sameBytes, inNames}
+use lib.ListN.{length, getD}
+use lib.Seq.{slice, slice-cons, slice-empty, length-slice}
+use borrow.Author.Tests.{le-leb, lt-leb}
+use Rattle.trees.specs.Plain.{every, sameBytes, inNames}
 use Rattle.trees.specs.Text.{isLabelByte}
 use Rattle.trees.specs.Names.{isName, different, goodNames}
 use Rattle.opening.specs.Walk.{namesFrom, NameEnd}
 use Rattle.opening.specs.WalkLaws.{names-none, some-name}
-use Rattle.opening.specs.NameList.{allNames, marks}
+use Rattle.opening.specs.NameList.{allNames}
 
 -- ---- the check, in two parts
 
@@ -157,36 +155,3 @@ module _ (s : List ℕ) (b e : ℕ) (h : e ≤ length s) where
 pub label-end : (s : List ℕ) (b e : ℕ) → b ≡ e → every isLabelByte (slice b e s) ≡ true
 unfolding every
 label-end s b e q = rw (q, slice-empty e s)
-
--- ---- one byte
-
-module _ (b : ℕ) where
-  pub label-low : b < 33 → isLabelByte b ≡ false
-  unfolding isLabelByte
-  label-low h = ap (λ t. t && (leb b 126 && not (member b marks))) (lt-leb 33 b h)
-
-  module _ (l : 33 ≤ b) where
-    pub label-high : 126 < b → isLabelByte b ≡ false
-    unfolding isLabelByte
-    label-high h = rw (le-leb 33 b l, lt-leb b 126 h)
-
-    pub label-mark : b ≤ 126 → isLabelByte b ≡ not (member b marks)
-    unfolding isLabelByte
-    label-mark h = rw (le-leb 33 b l, le-leb b 126 h)
-
--- ---- a byte sought among others
-
-module _ (m : ℕ) (l : List ℕ) (i : ℕ) where
-  member-cons : i < length l → member m (drop i l) ≡ (eqb m (getD l i 0) || member m (drop (i + 1) l))
-  unfolding member
-  member-cons h = rw (add-one, drop-cons l i 0)
-
-  pub member-here : i < length l → m ≡ getD l i 0 → member m (drop i l) ≡ true
-  member-here h q = member-cons h ∙ ap (λ t. t || member m (drop (i + 1) l)) (eq-eqb m (getD l i 0) q)
-
-  pub member-next : i < length l → (m ≡ getD l i 0 → ⊥) → member m (drop i l) ≡ member m (drop (i + 1) l)
-  member-next h q = member-cons h ∙ ap (λ t. t || member m (drop (i + 1) l)) (ne-eqb m (getD l i 0) q)
-
-  pub member-end : length l ≤ i → member m (drop i l) ≡ false
-  unfolding member
-  member-end h = rw (drop-of-length-le l h)

@@ -9,7 +9,7 @@
 --   reached-none, reached-name, reached-more, reached-all     names as the loop writes them
 --   copied-name                         a name of a list, as the code copies it
 use Prim.Native.Nat.{ℕ, zero, suc, _+_, _*_, _-_, _^_, _≤_, _<_}
-use native.Mathlib.Nat.{add-zero, zero-add, suc-add, mul-zero, mul-suc}
+use native.Mathlib.Nat.{add-zero, mul-zero, mul-suc}
 use native.Mathlib.Numerals.{add-one}
 use native.Mathlib.Omega.{arith}
 use mathlib.Core.Path.{_≡_, refl, sym, ap, _∙_}
@@ -17,7 +17,7 @@ use mathlib.Core.Logic.{_⊎_, inl, inr}
 use mathlib.Core.Bool.{true, _&&_}
 use mathlib.Core.List.{List, [], _∷_}
 use lib.ListN.{length, getD, set, take, drop, length-set, length-drop, drop-of-length-le}
-use lib.Seq.{slice, length-slice, length-take-le, take-nil, drop-nil, take-length, drop-cons, getD-set-same, getD-set-other, getD-take, getD-drop, ext-getD}
+use lib.Seq.{slice, length-slice, length-take-le, take-length, drop-cons, getD-set-same, getD-set-other, getD-take, getD-drop, ext-getD}
 use Rattle.trees.specs.Plain.{every}
 use Rattle.trees.specs.Names.{namesIn, isName}
 use Rattle.trees.specs.Opening.{Numbers}
@@ -28,6 +28,7 @@ use Rattle.fields.specs.FieldLaws.{put-length, put-outside, number-same, number
 use Rattle.fields.specs.Run.{copied}
 use Rattle.fields.specs.RunLaws.{copied-length, copied-inside, copied-outside}
 use Rattle.head.specs.Head.{nameAt}
+use Rattle.head.specs.HeadLaws.{run-slice}
 use Rattle.opening.specs.Walk.{namesFrom, NameEnd}
 use Rattle.opening.specs.WalkLaws.{names-all, names-none}
 use Rattle.opening.specs.Writing.{puts, withName, withNames, inOrder, Lies, Reached}
@@ -210,11 +211,6 @@ module _ (list s : List ℕ) where
   reached-all t at i p h = sym (ap (withNames t i) (names-none list at h)) ∙ p .rest
 
 -- ---- a name of a list
-
-run-slice : (b n : ℕ) (t : List ℕ) → take n (drop b t) ≡ slice b (b + n) t
-run-slice zero n t = rw zero-add
-run-slice (suc b) n [] = rw (take-nil, take-nil, drop-nil)
-run-slice (suc b) n (x ∷ t) = rw suc-add (run-slice b n t)
 
 pub copied-name : (s t : List ℕ) (i b e : ℕ) → b ≤ e → e ≤ length t
     → copied (set s (16 + 33 * i) (e - b)) (17 + 33 * i) t b (e - b) ≡ withName s i (slice b e t)

@@ -10,7 +10,7 @@ ghost use Prim.Native.Nat.{ℕ, _+_, _*_, _≤_, _<_};
 ghost use lib.Dec.{ltb};
 ghost use lib.ListN.{length, getD, drop};
 ghost use lib.Seq.{slice};
-ghost use Rattle.trees.specs.Plain.{every, member, sameBytes, inNames};
+ghost use Rattle.trees.specs.Plain.{every, sameBytes, inNames};
 ghost use Rattle.trees.specs.Text.{isLabelByte};
 ghost use Rattle.trees.specs.Names.{namesIn, isName, different, goodNames};
 ghost use Rattle.trees.specs.Opening.{between, inRange, storeSize, goodConstants};
@@ -19,7 +19,7 @@ ghost use Rattle.fields.specs.Field.{number};
 ghost use Rattle.head.specs.Head.{openingAt};
 ghost use Rattle.opening.specs.Given.{numbersOf, openingOf};
 ghost use Rattle.opening.specs.Walk.{namesFrom, NameEnd};
-ghost use Rattle.opening.specs.NameList.{allNames, marks};
+ghost use Rattle.opening.specs.NameList.{allNames};
 ghost use Rattle.opening.specs.Writing.{puts, withName, withNames, inOrder};
 ghost use Rattle.opening.specs.HeadWriting.{written};
 
@@ -199,42 +199,12 @@ fn all_label_bytes(list: &[u8], b: usize, e: usize) -> bool
 {
     let mut i = b;
     while i < e {
-        if !is_label_byte(list[i]) {
+        if !text::is_label_byte(list[i]) {
             return false;
         }
         i += 1;
     }
     true
-}
-
-// Whether b is a label byte: 33 to 126, without the eight marks.
-fn is_label_byte(b: u8) -> bool
-    ensures { λ r. ⌜ r ≡ isLabelByte b ⌝ }
-{
-    if b < 33 {
-        return false;
-    }
-    if 126 < b {
-        return false;
-    }
-    !is_mark(b)
-}
-
-// The marks that no label has.
-const MARKS: [u8; 8] = [40, 41, 91, 93, 39, 58, 59, 44];
-
-// Whether b is one of the marks.
-fn is_mark(b: u8) -> bool
-    ensures { λ r. ⌜ r ≡ member b marks ⌝ }
-{
-    let mut i = 0;
-    while i < 8 {
-        if b == MARKS[i] {
-            return true;
-        }
-        i += 1;
-    }
-    false
 }
 
 // The end of the name that begins at b: the next space, or the end of the list.

@@ -27,7 +27,7 @@ use Rattle.theorems.specs.WrittenFedLaws.{feedingBy, feeding-by}
 use Rattle.theorems.specs.OwnLaneLaws.{feeding-opening}
 use Rattle.theorems.specs.PieceLaws.{before-unended, before-end, has-end}
 use Rattle.theorems.specs.RunLaws.{more-exactly}
-use Rattle.table.specs.Promises.{lengthGiven, front}
+use Rattle.answers.specs.Filled.{lengthGiven, front}
 use Rattle.feeding.specs.EndLaws.{no-text, one-text}
 use Rattle.promises.specs.Calls.{Question, reply, Made, one, many, ask, reopen, Told, heard, batched, replied, numbersIn, afterBatch, told, after, cut, handed, verdictOf, verdictsTold}
 

@@ -28,7 +28,7 @@ use Rattle.trees.specs.Held.{Held, beforeSemicolon}
 use Rattle.trees.specs.Batch.{semicolons, Batched, batch}
 use Rattle.trees.specs.Questions.{treesHeld, splitsHeld, splitList, splitNumber, treeNumber, oneSidedOf, doubledOf, matrixOf, collisionsOf, strictOf, majorityOf, writtenOf}
 use Rattle.trees.specs.Runs.{Call, feed, Heard, answer, next, Final, acceptedAs, refusedWith, finals}
-use Rattle.table.specs.Promises.{lengthGiven, front}
+use Rattle.answers.specs.Filled.{lengthGiven, front}
 use Rattle.table.specs.Asked.{masksOf, countsOf}
 
 -- ---- questions

@@ -23,11 +23,12 @@ use Rattle.trees.specs.Held as held
 use Rattle.answers.specs.declared.Finish.{Finish}
 use Rattle.answers.specs.declared.Fed.{Fed}
 use Rattle.opening.specs.Given.{numbersOf}
-use Rattle.table.specs.Promises.{ifWhole, OpenedAs}
+use Rattle.table.specs.Promises.{OpenedAs}
 use Rattle.feeding.specs.Feeding.{reached, fedOf, closedOf, isAccepted, FedAs, ClosedAs}
 use Rattle.answers.proofs.refusal_number.Reads as refusal-number
 use Rattle.masks.proofs.agree.Reads as agree
 use Rattle.store.proofs.is_whole.Reads as is-whole
+use Rattle.store.specs.Lent.{ifWhole}
 use Rattle.table.proofs.size.Reads as size
 use Rattle.table.proofs.open.Reads as open-call
 use Rattle.table.proofs.tree_count.Reads as tree-count

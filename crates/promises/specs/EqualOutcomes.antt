@@ -15,7 +15,7 @@
 --               from-once, order-from-once, places-from-once, number16-once
 --   rows        row-of-once, mask-at-once, count-at-once, splits-in-once
 --   finding     find-rows-once
---   lanes       lane-length-once, closing-number-once
+--   lanes       lane-length-once, closing-answer-once
 --   distances   distances-one-sided-once, distances-doubled-once, write-matrix-once
 --   colliding   collision-number-once
 use mathlib.Core.Path.{_≡_}
@@ -74,13 +74,13 @@ use Rattle.rows.proofs.count_at.Reads as count-at
 use Rattle.rows.proofs.splits_in.Reads as splits-in
 use Rattle.finding.proofs.find_rows.Reads as find-rows
 use Rattle.lanes.proofs.lane_length.Reads as lane-length
-use Rattle.lanes.proofs.closing_number.Reads as closing-number
+use Rattle.lanes.proofs.closing_answer.Reads as closing-answer
 use Rattle.distances.proofs.one_sided.Reads as distances-one-sided
 use Rattle.distances.proofs.doubled.Reads as distances-doubled
 use Rattle.distances.proofs.write_matrix.Reads as write-matrix
 use Rattle.colliding.proofs.collision_number.Reads as collision-number
 use Rattle.promises.specs.Once.{Once, AnswerOnce, arg1, arg2, arg5}
-use Rattle.promises.specs.Outcomes.{both}
+use Rattle.promises.specs.Outcomes.{both, finish-both}
 
 -- ---- numbers in bytes, runs of bytes
 
@@ -258,8 +258,8 @@ find-rows-once k x q r y z a b = (both (a .1) (b .1), both (a .0) (b .0))
 pub lane-length-once : AnswerOnce lane-length.Post
 lane-length-once k x q r y z a b = both (a .0) (b .0)
 
-pub closing-number-once : AnswerOnce closing-number.Post
-closing-number-once k x q r y z a b = both a b
+pub closing-answer-once : AnswerOnce closing-answer.Post
+closing-answer-once k x q r y z a b = finish-both q r a b
 
 -- ---- distances, collisions
 

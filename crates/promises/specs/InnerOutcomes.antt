@@ -18,7 +18,7 @@ use lib.Seq.{length-take-le, getD-at}
 use denote.Ref.{now}
 use Rattle.trees.specs.Hash.{place, identifier}
 use Rattle.trees.specs.Opening.{Opening}
-use Rattle.theorems.specs.ListLaws.{Mem}
+use Rattle.theorems.specs.ListLaws.{Mem, less-or-not}
 use Rattle.theorems.specs.RisingLaws.{Rising}
 use Rattle.rising.specs.Slot.{insertAt, SlotFound}
 use Rattle.rising.specs.SlotLaws.{insertAt-length, insertAt-before, insert-taken, mem-at}
@@ -26,7 +26,6 @@ use Rattle.rising.specs.declared.Slot.{Slot}
 use Rattle.rising.specs.declared.Slot.the-variants.{Free, Taken}
 use Rattle.head.specs.Head.{namesAt}
 use Rattle.layout.specs.WholeFacts.{whole-at-facts}
-use Rattle.layout.specs.UpToLaws.{less-or-not}
 use Rattle.layout.specs.OrderLaws.{mask-same}
 use Rattle.finding.specs.Rows.{FoundAs}
 use Rattle.finding.specs.declared.Found.{Found}

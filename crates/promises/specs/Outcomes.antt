@@ -30,8 +30,8 @@ use Rattle.answers.specs.declared.Progress.{Progress}
 use Rattle.answers.specs.declared.Progress.the-variants as progress
 use Rattle.answers.specs.Answers.{refusalNumber, finishGiven, numberGiven, splitGiven, progressGiven}
 use Rattle.head.specs.Head.{openingAt}
-use Rattle.layout.specs.Store.{sizeAt, heldAt}
-use Rattle.table.specs.Promises.{Holds}
+use Rattle.layout.specs.Store.{sizeAt, heldAt, heldIn}
+use Rattle.store.specs.Lent.{Holds}
 use Rattle.feeding.specs.Feeding.{SameOutside}
 use Rattle.promises.specs.Once.{SameStore}
 
@@ -148,7 +148,7 @@ filled-both q r a b = (number-both q r (a .0) (b .0), both (a .1) (b .1))
 -- ---- lent bytes
 
 pub size-holds : (t : List ℕ) {h : Held} → heldAt t ≡ h → sizeAt t ≡ storeSize (h .opening .numbers)
-unfolding sizeAt heldAt openingAt
+unfolding sizeAt heldIn openingAt
 size-holds t e = ap (λ (h : Held). storeSize (h .opening .numbers)) e
 
 pub holds-both : (h : Held) (s t u : List ℕ) → Holds h s t → Holds h s u → SameStore t u

@@ -10,15 +10,14 @@ use mathlib.Core.List.{List, [], _∷_}
 use lib.ListN.{length, getD, take, drop, drop-of-length-le}
 use lib.Seq.{drop-cons, take-at}
 use borrow.Author.Tests.{lt-ltb, le-ltb}
+use Rattle.theorems.specs.ListLaws.{less-or-not}
 use Rattle.trees.specs.Plain.{Answer, refused, gives}
 use Rattle.trees.specs.Questions.{ifRoom}
 use Rattle.answers.specs.declared.Number.{Number}
 use Rattle.answers.specs.declared.Number.the-variants as number
 use Rattle.answers.specs.declared.Refusal.{Refusal}
 use Rattle.answers.specs.Answers.{refusalNumber, numberGiven}
-use Rattle.layout.specs.UpToLaws.{less-or-not}
-use Rattle.table.specs.Promises.{lengthGiven, front}
-use Rattle.table.specs.Filled.{FilledAs}
+use Rattle.answers.specs.Filled.{lengthGiven, front, FilledAs}
 use Rattle.sheet.specs.Sheet.{refusalLine}
 use Rattle.sheet.specs.LineRoomLaws.{lines-fit}
 use Rattle.summary.specs.Summary.{firstLine, summaryBytes, linesFor}

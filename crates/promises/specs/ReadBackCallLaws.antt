@@ -20,10 +20,11 @@ use Rattle.trees.specs.Questions.{ifRoom, ifTree, ifTrees, tree, strictOf, majo
 use Rattle.trees.specs.Runs.{feed, fed, closedLane, answer, next}
 use Rattle.trees.specs.Whole.{goodTree}
 use Rattle.theorems.specs.ReadBackLaws.{NoTreeRoom, NoSplitRoom, ReadBack, reads-back, strict-whole, majority-whole, tree-whole}
+use Rattle.answers.specs.Filled.{lengthGiven, front}
 use Rattle.layout.specs.Store.{heldAt}
 use Rattle.layout.specs.WholeStore.{wholeAt}
 use Rattle.store.specs.HeldWholeLaws.{held-whole}
-use Rattle.table.specs.Promises.{Holds, lengthGiven, front}
+use Rattle.store.specs.Lent.{Holds}
 use Rattle.promises.specs.Calls.{strict, majority, write-accepted, Reply, number, split, filled, bothFilled, fill, reply, one, Told, heard, batched, replied, notOpened, told, after}
 use Rattle.promises.specs.Steps.{Asked, Step}
 use Rattle.promises.specs.StepLaws.{asked-follows, step-follows}

@@ -29,7 +29,7 @@ use Rattle.theorems.specs.HashFree.{alike-run}
 use Rattle.opening.specs.Given.{openingOf}
 use Rattle.layout.specs.Store.{heldAt}
 use Rattle.layout.specs.WholeStore.{wholeAt}
-use Rattle.table.specs.Promises.{Holds}
+use Rattle.store.specs.Lent.{Holds}
 use Rattle.promises.specs.Calls.{Question, tree-count, split-count, one-split, split-list, tree-splits, one-sided, doubled, matrix, collisions, strict, majority, write-accepted, number, split, fill, fillBoth, reply, Made, ask, Told, replied, told, after, toldAll, afterAll, handed, handedAll, verdictsTold, isCollisions, otherTold}
 use Rattle.promises.specs.Steps.{Opens, Steps}
 use Rattle.promises.specs.BatchLaws.{after-handed, verdicts-handed, told-same}

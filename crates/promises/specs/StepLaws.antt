@@ -28,14 +28,14 @@ use Rattle.theorems.specs.RunLaws.{ending-opening}
 use Rattle.answers.specs.declared.Finish.{Finish}
 use Rattle.answers.specs.declared.Number.{Number}
 use Rattle.answers.specs.Answers.{finishGiven, numberGiven}
+use Rattle.answers.specs.Filled.{lengthGiven, front}
 use Rattle.opening.specs.Given.{openingOf}
 use Rattle.layout.specs.Store.{heldAt}
 use Rattle.layout.specs.WholeStore.{wholeAt}
 use Rattle.store.specs.HeldWholeLaws.{held-numbers}
-use Rattle.table.specs.Promises.{Holds, OpenedAs, lengthGiven, front}
-use Rattle.table.specs.Asked.{treesAsked, splitsAsked, splitAsked, splitListAsked, treeAsked, oneSidedAsked, doubledAsked, matrixAsked, collisionsAsked}
-use Rattle.table.specs.QuestionLaws.{when-whole}
-use Rattle.consensus.specs.Consensus.{strictAsked, majorityAsked, writtenAsked}
+use Rattle.store.specs.Lent.{Holds}
+use Rattle.store.specs.LentLaws.{when-whole}
+use Rattle.table.specs.Promises.{OpenedAs}
 use Rattle.feeding.specs.Feeding.{reached, fedOf, closedOf, batchOf, FedAs, ClosedAs, BatchedAs}
 use Rattle.promises.specs.Calls.{Question, tree-count, split-count, one-split, split-list, tree-splits, one-sided, doubled, matrix, collisions, strict, majority, write-accepted, Reply, number, split, filled, bothFilled, fill, fillBoth, reply, Made, one, many, ask, reopen, Told, heard, batched, replied, notOpened, numbersIn, afterBatch, refusalIn, told, after, toldAll, afterAll, handed}
 use Rattle.promises.specs.Steps.{Asked, Opens, Step, Steps}
@@ -136,7 +136,7 @@ module _ (x y : Answer (List ℕ)) (e : x ≡ y) (r : Number) (out left : List �
 
 module _ (s : List ℕ) (w : wholeAt s ≡ true) where
   pub asked-follows : (q : Question) (a : Reply) → Asked s q a → a ≡ reply (heldAt s) q
-  unfolding Asked reply treesAsked splitsAsked splitAsked splitListAsked treeAsked oneSidedAsked doubledAsked matrixAsked collisionsAsked strictAsked majorityAsked writtenAsked
+  unfolding Asked reply
   asked-follows tree-count a x = x .2 ∙ ap number (x .1 ∙ when-whole s treesHeld w)
   asked-follows split-count a x = x .2 ∙ ap number (x .1 ∙ when-whole s splitsHeld w)
   asked-follows (one-split k) a x = x .2 ∙ ap split (x .1 ∙ when-whole s (λ h. splitNumber h k) w)
@@ -184,7 +184,6 @@ module _ (s : List ℕ) (w : wholeAt s ≡ true) (t : List ℕ) where
   stays e = record { whole = rw e w; held = ap heldAt e; size = ap length e; behind = λ i _. ap (λ (b : List ℕ). getD b i 0) e }
 
   batch-whole : (l : ℕ) (p v : List ℕ) → batchOf s l p (length v) ≡ batch (heldAt s) l p (length v)
-  unfolding batchOf
   batch-whole l p v = when-whole s (λ h. batch h l p (length v)) w
 
   -- a batch that is x

@@ -14,6 +14,7 @@ use mathlib.Core.Bool.{Bool, true, false}
 use mathlib.Core.List.{List, map}
 use lib.ListN.{length, getD}
 use denote.Ref.{now}
+use Rattle.theorems.specs.ListLaws.{less-or-not}
 use Rattle.trees.specs.Opening.{Opening, storeSize}
 use Rattle.trees.specs.Held.{Held, Lane, withLane, withTree}
 use Rattle.head.specs.Head.{numbersAt}
@@ -21,7 +22,6 @@ use Rattle.layout.specs.Store.{treesHeldAt, splitsHeldAt, sizeAt, maskAt, count
 use Rattle.layout.specs.WholeStore.{wholeAt, listed}
 use Rattle.layout.specs.WholeFacts.{whole-at-facts}
 use Rattle.layout.specs.Sound.{Sound, sound-whole}
-use Rattle.layout.specs.UpToLaws.{less-or-not}
 use Rattle.store.specs.CountLaws.{listed-same}
 use Rattle.store.specs.RecordedAtLaws.{trees-length}
 use Rattle.lanes.specs.Lanes.{LaneIs}

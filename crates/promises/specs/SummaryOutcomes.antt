@@ -26,8 +26,9 @@ use Rattle.answers.specs.declared.Finish.the-variants as finish
 use Rattle.answers.specs.declared.Number.{Number}
 use Rattle.answers.specs.Answers.{finishGiven}
 use Rattle.layout.specs.Store.{heldAt}
-use Rattle.table.specs.Promises.{Holds, OpenedAs}
-use Rattle.table.specs.QuestionLaws.{when-whole}
+use Rattle.store.specs.Lent.{Holds}
+use Rattle.store.specs.LentLaws.{when-whole}
+use Rattle.table.specs.Promises.{OpenedAs}
 use Rattle.feeding.specs.CutLaws.{batching-opening}
 use Rattle.summary.specs.declared.LinePart.{LinePart}
 use Rattle.summary.specs.declared.Summing.{Summing}

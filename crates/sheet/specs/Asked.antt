@@ -10,7 +10,7 @@ use lib.ListN.{length, getD}
 use Rattle.trees.specs.Plain.{if_then_else_, Answer, refused}
 use Rattle.trees.specs.Held.{Held}
 use Rattle.trees.specs.Questions.{ifRoom}
-use Rattle.table.specs.Promises.{ifWhole}
+use Rattle.store.specs.Lent.{ifWhole}
 use Rattle.sheet.specs.Sheet.{sheetLines, refusalLine}
 
 -- 13 for a line past the last
@@ -19,10 +19,8 @@ unfolding ifRoom sheetLines
 lineNumber h refused-texts j room =
     if ltb j (length (sheetLines h refused-texts)) then ifRoom room (getD (sheetLines h refused-texts) j []) else refused 13
 
-unfoldable pub lineAsked : List ℕ → ℕ → ℕ → ℕ → Answer (List ℕ)
-unfolding ifWhole lineNumber
+abbrev pub lineAsked : List ℕ → ℕ → ℕ → ℕ → Answer (List ℕ)
 lineAsked s refused-texts j room = ifWhole s (λ h. lineNumber h refused-texts j room)
 
-unfoldable pub refusalAsked : ℕ → ℕ → Answer (List ℕ)
-unfolding ifRoom refusalLine
+abbrev pub refusalAsked : ℕ → ℕ → Answer (List ℕ)
 refusalAsked k room = ifRoom room (refusalLine k)

@@ -12,8 +12,8 @@ use mathlib.Core.Bool.{Bool, true, false}
 use mathlib.Core.List.{List, [], _∷_, _++_}
 use lib.Dec.{ltb}
 use borrow.Author.Tests.{lt-ltb, le-ltb}
+use Rattle.theorems.specs.ListLaws.{less-or-not}
 use Rattle.io.specs.Digits.{glyph, digits, Fewest}
-use Rattle.layout.specs.UpToLaws.{less-or-not}
 use Rattle.sheet.specs.Sheet.{digitsFrom, digitsOf}
 
 abbrev digitsBy : Bool → ℕ → ℕ → List ℕ

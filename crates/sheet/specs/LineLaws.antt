@@ -36,18 +36,18 @@ use Rattle.answers.specs.declared.Refusal.{Refusal}
 use Rattle.answers.specs.declared.Number.{Number}
 use Rattle.answers.specs.declared.Number.the-variants as number
 use Rattle.answers.specs.Answers.{numberGiven}
+use Rattle.answers.specs.Filled.{lengthGiven, front}
 use Rattle.head.specs.Head.{fromTo, upTo, numbersAt, namesAt, openingAt}
 use Rattle.head.specs.HeadLaws.{upTo-length}
-use Rattle.layout.specs.Store.{treesHeldAt, splitsHeldAt, maskAt, countAt, orderAt, splitAt, treeAt, heldAt}
+use Rattle.layout.specs.Store.{treesHeldAt, splitsHeldAt, maskAt, countAt, orderAt, splitAt, treeAt, heldAt, heldIn}
 use Rattle.layout.specs.StoreLaws.{split-is}
 use Rattle.layout.specs.WholeStore.{wholeAt}
 use Rattle.layout.specs.WholeFacts.{whole-at-facts}
 use Rattle.layout.specs.UpToLaws.{upTo-more}
 use Rattle.store.specs.RecordedAtLaws.{held-trees, trees-length, recorded-length}
 use Rattle.store.specs.HeldWholeLaws.{held-numbers, opening-facts}
-use Rattle.table.specs.Promises.{lengthGiven, front}
-use Rattle.table.specs.CountsLaws.{row-count, split-count}
-use Rattle.table.specs.QuestionLaws.{when-whole}
+use Rattle.store.specs.LentLaws.{when-whole}
+use Rattle.store.specs.CountsLaws.{row-count, split-count}
 use Rattle.writer.specs.Branch.{Put}
 use Rattle.writer.specs.PutLaws.{put-none, put-then}
 use Rattle.consensus.specs.Consensus.{strictAsked, majorityAsked}
@@ -237,7 +237,7 @@ module _ (s : List ℕ) (w : wholeAt s ≡ true) where
       and-right (goodConstants (o .numbers) (o .first) (o .second)) _ (and-right (inRange (o .numbers)) _ (whole-at-facts s w .head .opening-good))
 
   tree-short : (l : List ℕ) → goodTree (numbersAt s .taxa) l ≡ true → length (written (heldAt s .opening .names) l) ≤ 2236
-  unfolding heldAt openingAt
+  unfolding heldIn openingAt
   tree-short l g =
       let r = opening-facts s w .ranges in
       let a = r .least-taxa in
@@ -276,7 +276,7 @@ module _ (s : List ℕ) (w : wholeAt s ≡ true) where
 
   module _ (old text : List ℕ) (r : Number) where
     majority-asked : majorityAsked s (length old) ≡ ifTrees (heldAt s) (ifRoom (length old) (written (heldAt s .opening .names) (majority (heldAt s .trees))))
-    unfolding majorityAsked majorityOf
+    unfolding majorityOf
     majority-asked = when-whole s (λ z. majorityOf z (length old)) w
 
     module _ (e : numberGiven r ≡ lengthGiven (majorityAsked s (length old))) (f : text ≡ front (majorityAsked s (length old)) old) (h : 2236 ≤ length old) where
@@ -292,7 +292,7 @@ module _ (s : List ℕ) (w : wholeAt s ≡ true) where
       majority-put p = put-as (majority-is (heldAt s)) (tree-put old text h r _ good _ majority-asked e f (bytes "majority") p)
 
     strict-asked : strictAsked s (length old) ≡ ifTrees (heldAt s) (ifRoom (length old) (written (heldAt s .opening .names) (strict (heldAt s .trees))))
-    unfolding strictAsked strictOf
+    unfolding strictOf
     strict-asked = when-whole s (λ z. strictOf z (length old)) w
 
     module _ (e : numberGiven r ≡ lengthGiven (strictAsked s (length old))) (f : text ≡ front (strictAsked s (length old)) old) (h : 2236 ≤ length old) where

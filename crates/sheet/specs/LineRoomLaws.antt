@@ -29,7 +29,7 @@ use Rattle.theorems.specs.RisingLaws.{recorded-mem}
 use Rattle.theorems.specs.WrittenLaws.{written-length}
 use Rattle.theorems.specs.ConsensusLaws.{count-most, good-proper, strict-good, majority-good}
 use Rattle.head.specs.Head.{numbersAt, namesAt, openingAt}
-use Rattle.layout.specs.Store.{heldAt}
+use Rattle.layout.specs.Store.{heldAt, heldIn}
 use Rattle.layout.specs.WholeStore.{wholeAt}
 use Rattle.layout.specs.WholeFacts.{whole-at-facts}
 use Rattle.store.specs.RecordedAtLaws.{trees-length, recorded-length}
@@ -171,7 +171,7 @@ module _ (s : List ℕ) (w : wholeAt s ≡ true) where
       and-right (goodConstants (o .numbers) (o .first) (o .second)) _ (and-right (inRange (o .numbers)) _ (whole-at-facts s w .head .opening-good))
 
   written-short : (l : List ℕ) → goodTree (numbersAt s .taxa) l ≡ true → length (written (h .opening .names) l) ≤ 2236
-  unfolding heldAt openingAt
+  unfolding heldIn openingAt
   written-short l g =
       let r = opening-facts s w .ranges in
       let a = r .least-taxa in

@@ -5,7 +5,7 @@
 ghost use Prim.Native.Nat.{_≤_};
 ghost use lib.ListN.{length, take};
 ghost use Rattle.trees.specs.Questions.{ifRoom};
-ghost use Rattle.table.specs.Filled.{FilledAs};
+ghost use Rattle.answers.specs.Filled.{FilledAs};
 ghost use Rattle.sheet.specs.Asked.{lineAsked, refusalAsked};
 use answers::Number;
 use answers::Refusal;

@@ -1,11 +1,10 @@
 -- The definitions that the contracts cite, the laws of what a store holds, and the laws of the tests' code.
 pub mod RecordedAtLaws
+pub mod Lent
+pub mod LentLaws
 pub mod HeldWholeLaws
 pub mod Chain
 pub mod ChainLaws
-pub mod PartFrameLaws
-pub mod HeadKeptLaws
-pub mod FrameLaws
 pub mod Sums
 pub mod SumLaws
 pub mod GoodHeadLaws
@@ -13,7 +12,6 @@ pub mod NeighbourLaws
 pub mod Splits
 pub mod SplitLaws
 pub mod ChainTests
-pub mod RoomLaws
 pub mod ListTests
 pub mod ListTestLaws
 pub mod Outer
@@ -22,3 +20,5 @@ pub mod OuterLaws
 pub mod CountLaws
 pub mod HeaderLaws
 pub mod WholeTestLaws
+pub mod Counts
+pub mod CountsLaws

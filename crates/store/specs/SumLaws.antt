@@ -18,13 +18,13 @@ use mathlib.Core.Bool.{Bool, true, false}
 use mathlib.Core.List.{List, [], _∷_}
 use lib.ListN.{length, getD, set, drop, length-set, List·getD-eq-default}
 use lib.Seq.{getD-drop, drop-drop, getD-set-same, getD-set-other}
+use Rattle.theorems.specs.ListLaws.{less-or-not}
 use Rattle.trees.specs.Hash.{sumOver, identifier}
 use Rattle.theorems.specs.BitLaws.{even-odd}
 use Rattle.theorems.specs.HashLaws.{sumOver-zero, sumOver-one}
 use Rattle.fields.specs.Field.{number}
 use Rattle.head.specs.Head.{numbersAt, firstAt, secondAt}
 use Rattle.head.specs.HeadLaws.{first-length, second-length, first-at, second-at}
-use Rattle.layout.specs.UpToLaws.{less-or-not}
 use Rattle.store.specs.Sums.{constantsAt, byteSum, Sums, SumBy, ByteSums, Doubled}
 
 -- ---- the sum over a mask

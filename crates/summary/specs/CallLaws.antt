@@ -27,8 +27,8 @@ use Rattle.answers.specs.declared.Number.the-variants as number
 use Rattle.answers.specs.declared.Refusal.{Refusal}
 use Rattle.answers.specs.declared.Refusal.the-variants as why
 use Rattle.answers.specs.Answers.{refusalNumber, numberGiven}
-use Rattle.table.specs.Promises.{OpenedAs, lengthGiven, front}
-use Rattle.table.specs.Filled.{FilledAs}
+use Rattle.answers.specs.Filled.{lengthGiven, front, FilledAs}
+use Rattle.table.specs.Promises.{OpenedAs}
 use Rattle.feeding.specs.EndLaws.{eqb-flip}
 use Rattle.sheet.specs.Asked.{lineAsked, refusalAsked}
 use Rattle.summary.specs.declared.LinePart.{LinePart}

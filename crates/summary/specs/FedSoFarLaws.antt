@@ -23,8 +23,8 @@ use Rattle.answers.specs.declared.Refusal.{Refusal}
 use Rattle.answers.specs.Answers.{numberGiven}
 use Rattle.layout.specs.Store.{heldAt}
 use Rattle.layout.specs.WholeStore.{wholeAt}
-use Rattle.table.specs.Promises.{Holds}
-use Rattle.table.specs.QuestionLaws.{when-whole}
+use Rattle.store.specs.Lent.{Holds}
+use Rattle.store.specs.LentLaws.{when-whole}
 use Rattle.feeding.specs.Feeding.{isRefusal}
 use Rattle.feeding.specs.BatchLaws.{batching-length}
 use Rattle.feeding.specs.CutLaws.{LaneThere, fed-open, joined, batching-opening}

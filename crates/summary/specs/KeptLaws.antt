@@ -17,9 +17,8 @@ use borrow.Author.Tests.{lt-ltb, le-ltb, eqb-true}
 use Rattle.trees.specs.Plain.{if_then_else_, every, keep}
 use Rattle.trees.specs.Names.{namesAfter, namesIn, isName, different, goodNames}
 use Rattle.trees.specs.Opening.{opening}
-use Rattle.theorems.specs.ListLaws.{and-left, and-right}
+use Rattle.theorems.specs.ListLaws.{and-left, and-right, less-or-not}
 use Rattle.theorems.specs.NameLaws.{isName-short}
-use Rattle.layout.specs.UpToLaws.{less-or-not}
 use Rattle.feeding.specs.EndLaws.{eqb-flip}
 use Rattle.summary.specs.Summary.{spacesIn, summaryNumbers, namesOpening, summaryOpening}
 use Rattle.summary.specs.FirstLine.{Kept, few, Keeps, spacesWith, usedWith, keptWith, keptAfter, keptOpening}

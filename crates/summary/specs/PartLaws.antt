@@ -27,13 +27,13 @@ use Rattle.trees.specs.Batch.{semicolons, Batched, batching, batch}
 use Rattle.answers.specs.declared.Number.{Number}
 use Rattle.answers.specs.declared.Number.the-variants as number
 use Rattle.answers.specs.declared.Refusal.{Refusal}
-use Rattle.answers.specs.Answers.{numberGiven}
+use Rattle.answers.specs.Answers.{refusalNumber, numberGiven}
 use Rattle.head.specs.Head.{openingAt}
 use Rattle.layout.specs.Store.{heldAt}
 use Rattle.layout.specs.WholeStore.{wholeAt}
 use Rattle.store.specs.HeldWholeLaws.{held-numbers, texts-length, opening-facts}
-use Rattle.table.specs.Promises.{Holds}
-use Rattle.table.specs.QuestionLaws.{not-whole, when-whole}
+use Rattle.store.specs.Lent.{Holds}
+use Rattle.store.specs.LentLaws.{not-whole, when-whole}
 use Rattle.feeding.specs.Feeding.{batchOf, isRefusal, BatchedAs}
 use Rattle.feeding.specs.BatchLaws.{none-front, none-back}
 use Rattle.feeding.specs.SeamLaws.{keep-append}
@@ -68,7 +68,7 @@ texts-most p = keep-most (eqb 59) p
 
 module _ (s : List ℕ) (n : ℕ) (p : List ℕ) (e : wholeAt s ≡ false) where
   not-counted : textsCount s n p ≡ refused 1
-  unfolding textsCount
+  unfolding textsCount refusalNumber
   not-counted = not-whole s (λ h. gives (capped (n + refusedIn (textsFed h p .verdicts)))) e
 
   texts-not-whole : (r : Number) (t : List ℕ) → numberGiven r ≡ refused 1 → t ≡ s → TextsAs s n p r t
@@ -85,13 +85,13 @@ counted s n p w = when-whole s (λ h. gives (capped (n + refusedIn (textsFed h p
 
 module _ (s p : List ℕ) (room : ℕ) (e : room ≡ 4096) (few : length p ≤ 4096) where
   batch-whole : wholeAt s ≡ true → batchOf s 0 p room ≡ gives (textsFed (heldAt s) p)
-  unfolding batchOf batch
+  unfolding batch
   batch-whole w =
       when-whole s (λ h. batch h 0 p room) w
       ∙ rw (lt-ltb 0 (heldAt s .opening .numbers .lanes) (lane-whole s w), le-ltb room (semicolons p) (omega (arith, texts-most p))) refl
 
   batch-refused : wholeAt s ≡ false → batchOf s 0 p room ≡ refused 1
-  unfolding batchOf
+  unfolding refusalNumber
   batch-refused w = not-whole s (λ h. batch h 0 p room) w
 
   module _ (n : ℕ) (r : Number) (v t w : List ℕ) (b : BatchedAs (batchOf s 0 p room) 0 r s v t w) where

@@ -25,13 +25,13 @@ use Rattle.answers.specs.declared.Number.{Number}
 use Rattle.answers.specs.declared.Number.the-variants as number
 use Rattle.answers.specs.declared.Refusal.{Refusal}
 use Rattle.answers.specs.Answers.{refusalNumber, finishGiven}
+use Rattle.answers.specs.Filled.{FilledAs}
 use Rattle.layout.specs.Store.{heldAt}
+use Rattle.store.specs.LentLaws.{when-whole}
 use Rattle.table.specs.Promises.{OpenedAs}
-use Rattle.table.specs.Filled.{FilledAs}
-use Rattle.table.specs.QuestionLaws.{when-whole}
 use Rattle.feeding.specs.SeamLaws.{member-left, member-right}
 use Rattle.sheet.specs.Sheet.{sheetLines, refusalLine}
-use Rattle.sheet.specs.Asked.{lineNumber, lineAsked, refusalAsked}
+use Rattle.sheet.specs.Asked.{lineNumber, lineAsked}
 use Rattle.summary.specs.declared.LinePart.{LinePart}
 use Rattle.summary.specs.declared.Summing.{Summing}
 use Rattle.summary.specs.declared.Summing.the-variants as summing
@@ -223,12 +223,12 @@ unfolding SheetOf sheetAsked
 line-stands (number.Gives n) s v g small j room = asked ∙ line-same v (sheetLines (heldAt s) n) (sheet-is n s v g small) j room
   where
     asked : lineAsked s n j room ≡ (if ltb j (length (sheetLines (heldAt s) n)) then ifRoom room (getD (sheetLines (heldAt s) n) j []) else refused 13)
-    asked = unfold lineAsked lineNumber in when-whole s (λ h. lineNumber h n j room) (g .2)
+    asked = unfold lineNumber in when-whole s (λ h. lineNumber h n j room) (g .2)
 line-stands (number.Refused w) s v g small j room = go j ∙ line-same v (refusalLine (refusalNumber w) ∷ []) (refusal-is w s v g) j room
   where
     go : (i : ℕ) → refusalFor w i room
         ≡ (if ltb i 1 then ifRoom room (getD (refusalLine (refusalNumber w) ∷ []) i []) else refused 13)
-    go zero = unfold refusalFor refusalAsked in refl
+    go zero = unfold refusalFor in refl
     go (suc i) = unfold refusalFor in sym (rw (le-ltb (suc i) 1 (omega arith)) refl)
 
 pub printed-as : (a : Number) (s : List ℕ) (j : ℕ) (r : Number) (out after : List ℕ) → FilledAs (sheetAsked a s j (length out)) r out after → PrintedAs a s j r out after

@@ -34,11 +34,13 @@ use Rattle.answers.specs.declared.Number.the-variants as number
 use Rattle.answers.specs.declared.Refusal.{Refusal}
 use Rattle.answers.specs.declared.Refusal.the-variants as why
 use Rattle.answers.specs.Answers.{refusalNumber}
+use Rattle.answers.specs.Filled.{FilledAs}
 use Rattle.layout.specs.Store.{heldAt}
 use Rattle.layout.specs.WholeStore.{wholeAt}
+use Rattle.store.specs.Lent.{ifWhole}
 use Rattle.table.specs.Promises.{OpenedAs}
-use Rattle.table.specs.Filled.{FilledAs}
-use Rattle.sheet.specs.Asked.{lineAsked, refusalAsked}
+use Rattle.sheet.specs.Sheet.{refusalLine}
+use Rattle.sheet.specs.Asked.{lineNumber, lineAsked, refusalAsked}
 use Rattle.summary.specs.declared.LinePart.{LinePart}
 use Rattle.summary.specs.declared.Summing.{Summing}
 use Rattle.summary.specs.declared.Summing.the-variants as summing
@@ -165,12 +167,12 @@ pub record FinishedAs (state : Summing) (names s : List ℕ) (r : Number) (t : L
 
 -- 13: there is one line for a refusal
 unfoldable pub refusalFor : Refusal → ℕ → ℕ → Answer (List ℕ)
-unfolding refusalAsked refusalNumber
+unfolding ifRoom refusalLine refusalNumber
 refusalFor w zero room = refusalAsked (refusalNumber w) room
 refusalFor w (suc j) room = refused 13
 
 unfoldable pub sheetAsked : Number → List ℕ → ℕ → ℕ → Answer (List ℕ)
-unfolding lineAsked refusalFor
+unfolding ifWhole lineNumber refusalFor
 sheetAsked (number.Gives n) s j room = lineAsked s n j room
 sheetAsked (number.Refused w) s j room = refusalFor w j room
 

@@ -18,7 +18,7 @@ use Rattle.answers.specs.declared.Number.{Number}
 use Rattle.answers.specs.Answers.{numberGiven}
 use Rattle.layout.specs.Store.{heldAt}
 use Rattle.layout.specs.WholeStore.{wholeAt}
-use Rattle.table.specs.Promises.{ifWhole, Holds}
+use Rattle.store.specs.Lent.{ifWhole, Holds}
 use Rattle.feeding.specs.Feeding.{SameOutside, noneAccepted}
 use Rattle.summary.specs.Summary.{refusedIn, refusedAfter}
 

@@ -14,6 +14,7 @@ use mathlib.Core.List.{List, _∷_}
 use lib.ListN.{length, getD, drop, drop-of-length-le}
 use lib.Seq.{drop-cons}
 use borrow.Author.Tests.{lt-ltb, le-ltb}
+use Rattle.theorems.specs.ListLaws.{less-or-not}
 use Rattle.trees.specs.Plain.{if_then_else_, keep, Answer, refused, gives}
 use Rattle.trees.specs.Held.{Closed, closing}
 use Rattle.answers.specs.declared.Number.the-variants as number
@@ -22,12 +23,11 @@ use Rattle.answers.specs.declared.Finish.{Finish}
 use Rattle.answers.specs.Answers.{numberGiven, finishGiven}
 use Rattle.head.specs.Head.{numbersAt}
 use Rattle.layout.specs.Store.{heldAt}
-use Rattle.layout.specs.UpToLaws.{less-or-not}
 use Rattle.layout.specs.WholeStore.{wholeAt}
 use Rattle.store.specs.HeldWholeLaws.{opening-facts}
 use Rattle.head.specs.Head.{openingAt}
-use Rattle.table.specs.Promises.{Holds}
-use Rattle.table.specs.QuestionLaws.{not-whole, when-whole}
+use Rattle.store.specs.Lent.{Holds}
+use Rattle.store.specs.LentLaws.{not-whole, when-whole}
 use Rattle.feeding.specs.Feeding.{reached, closedOf, isRefusal}
 use Rattle.feeding.specs.Feeding as feeding
 use Rattle.summary.specs.Summary.{refusedIn, refusedAfter}

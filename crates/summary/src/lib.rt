@@ -5,12 +5,12 @@
 // every call. Read `specs/Summary.antt` for what is printed, and `specs/Summing.antt` for what the calls promise:
 // where they are made in this order, the lines are those of `summary` of the whole input, however it is cut.
 ghost use lib.ListN.{length};
-ghost use Rattle.table.specs.Filled.{FilledAs};
 ghost use Rattle.summary.specs.FirstLine.{keptOf};
 ghost use Rattle.summary.specs.Summing.{BegunAs, FeedsAs, OpensAs, NamesAs, TookAs, ClosesAs, FinishedAs, refusalFor, PrintedAs};
 use answers::Finish;
 use answers::Number;
 use answers::Refusal;
+ghost use Rattle.answers.specs.Filled.{FilledAs};
 
 mod first_line;
 mod texts;

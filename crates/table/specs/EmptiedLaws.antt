@@ -13,6 +13,7 @@ use mathlib.Core.Bool.{true}
 use mathlib.Core.List.{List, []}
 use lib.ListN.{length, getD, replicate, length-replicate, getD-replicate}
 use lib.Seq.{ext-getD}
+use Rattle.theorems.specs.ListLaws.{less-or-not}
 use Rattle.trees.specs.Plain.{every}
 use Rattle.trees.specs.Opening.{Numbers}
 use Rattle.trees.specs.Held.{holding, opened}
@@ -24,11 +25,10 @@ use Rattle.fields.specs.Run.{cleared}
 use Rattle.fields.specs.RunLaws.{cleared-length, cleared-outside, number-cleared-inside, number-cleared-outside}
 use Rattle.head.specs.Head.{numbersAt, openingAt, upTo, fromTo}
 use Rattle.head.specs.HeadLaws.{numbers-same, head-same, upTo-length, upTo-at}
-use Rattle.layout.specs.Store.{treesHeldAt, splitsHeldAt, laneFrom, masksFrom, placesFrom, sizeAt, laneAt, startAt, masksAt, heldAt}
+use Rattle.layout.specs.Store.{treesHeldAt, splitsHeldAt, laneFrom, masksFrom, placesFrom, sizeAt, laneAt, startAt, masksAt, heldAt, heldIn}
 use Rattle.layout.specs.StoreLaws.{lane-from, masks-from, places-from, size-is, start-is, lane-is}
 use Rattle.layout.specs.WholeStore.{wholeAt}
 use Rattle.layout.specs.WholeFacts.{SplitsAt, ListAt, CountAt, ChainsAt, facts-whole-at}
-use Rattle.layout.specs.UpToLaws.{less-or-not}
 use Rattle.store.specs.ChainLaws.{highest-none}
 use Rattle.store.specs.PartFrameLaws.{masks-from-same, size-same}
 use Rattle.store.specs.FrameLaws.{trees-held-frame, splits-held-frame}
@@ -124,7 +124,7 @@ module _ (s t : List ℕ) (p : LanesEmptied s (numbersAt s .lanes) t) where
 -- ---- no splits and no trees
 
 no-masks : (t : List ℕ) → splitsHeldAt t ≡ 0 → masksAt t ≡ []
-unfolding masksAt upTo fromTo
+unfolding upTo fromTo
 no-masks t e = rw e
 
 pub no-splits : (t : List ℕ) → splitsHeldAt t ≡ 0 → SplitsAt t
@@ -192,11 +192,11 @@ module _ (s t : List ℕ) (p : Emptied s t) (long : 4096 ≤ length s) (good : g
   lane-empty l h = lane-is t l ∙ rw (lane-zero l h)
 
   emptied-trees : heldAt t .trees ≡ []
-  unfolding heldAt upTo fromTo
+  unfolding heldIn upTo fromTo
   emptied-trees = rw trees-none
 
   emptied-texts : heldAt t .texts ≡ replicate (openingAt s .numbers .lanes) (holding [])
-  unfolding heldAt openingAt
+  unfolding heldIn openingAt
   emptied-texts =
       let n = same-lanes in
       let a = upTo-length (laneAt t) (numbersAt t .lanes) in
@@ -206,7 +206,7 @@ module _ (s t : List ℕ) (p : Emptied s t) (long : 4096 ≤ length s) (good : g
       upTo-at (laneAt t) (numbersAt t .lanes) i (holding []) k ∙ lane-empty i k ∙ sym (getD-replicate (numbersAt s .lanes) i (holding []) (holding []) (omega arith)))
 
   emptied-opening : heldAt t .opening ≡ openingAt s
-  unfolding heldAt
+  unfolding heldIn
   emptied-opening = sym same-opening
 
   pub emptied-held : heldAt t ≡ opened (openingAt s)

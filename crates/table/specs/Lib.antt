@@ -1,12 +1,8 @@
--- What the calls promise of lent memory, and the laws of opening and of the questions.
+-- What opening promises, what is asked, and the laws of both.
 pub mod Promises
 pub mod Emptied
 pub mod EmptiedLaws
 pub mod OpenLaws
 pub mod Asked
-pub mod Counts
-pub mod CountsLaws
-pub mod FrontLaws
 pub mod QuestionLaws
-pub mod Filled
-pub mod FilledLaws
+pub mod SplitListLaws

@@ -31,7 +31,8 @@ use Rattle.opening.specs.Given.{openingOf}
 use Rattle.opening.specs.GivenLaws.{size-least}
 use Rattle.layout.specs.Store.{sizeAt}
 use Rattle.layout.specs.StoreLaws.{trees-held-is, splits-held-is}
-use Rattle.table.specs.Promises.{Holds, OpenedAs}
+use Rattle.store.specs.Lent.{Holds}
+use Rattle.table.specs.Promises.{OpenedAs}
 use Rattle.table.specs.Emptied.{Emptied}
 use Rattle.table.specs.EmptiedLaws.{emptied-whole, emptied-held}
 

@@ -1,18 +1,18 @@
 // The questions that a collection answers of itself: its trees and splits, how many there are, and
 // the lists of them. None of them writes into the store.
 //
-// `specs/Asked.antt` says what each answers; `specs/Counts.antt` has the list of the counts.
+// `specs/Asked.antt` says what each answers; crate rows, `specs/Counts.antt`, has the list of the counts.
 ghost use mathlib.Core.Path.{_≡_};
 ghost use mathlib.Core.Bool.{true};
 ghost use mathlib.Core.List.{_++_};
 ghost use Prim.Native.Nat.{_≤_, _<_};
 ghost use lib.ListN.{length, drop};
 ghost use Rattle.answers.specs.Answers.{numberGiven, splitGiven};
+ghost use Rattle.answers.specs.Filled.{lengthGiven, front};
 ghost use Rattle.layout.specs.Store.{treesHeldAt, splitsHeldAt, masksAt, treeAt};
 ghost use Rattle.layout.specs.WholeStore.{wholeAt};
-ghost use Rattle.table.specs.Promises.{lengthGiven, front};
+ghost use Rattle.store.specs.Counts.{countsAt};
 ghost use Rattle.table.specs.Asked.{treesAsked, splitsAsked, splitAsked, splitListAsked, treeAsked, masksOf, countsOf};
-ghost use Rattle.table.specs.Counts.{countsAt};
 use answers::Number;
 use answers::Recorded;
 use answers::Refusal;

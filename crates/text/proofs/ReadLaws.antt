@@ -11,11 +11,11 @@ use lib.Seq.{slice}
 use types.Run.{OneOf, miss}
 use denote.Enum.Declared.{tagOf}
 use Rattle.trees.specs.Plain.{if_then_else_}
-use Rattle.trees.specs.Text.{Symbol, openBracket, closeBracket, comma, colon, stray, token}
+use Rattle.trees.specs.Text.{Symbol, colon}
 use Rattle.trees.specs.Length.{isLength}
 use Rattle.trees.specs.Tree.{Nodes, nil, inner, width}
 use Rattle.trees.specs.Reading.{readLength, readLabel, readClosing}
-use Rattle.text.specs.Read.{symbolsAt, Seen, Ahead, LengthRead, LabelRead, ClosingRead}
+use Rattle.text.specs.Read.{symbolsAt, Seen, LengthRead, LabelRead, ClosingRead}
 use Rattle.text.specs.declared.Next.{Next}
 use Rattle.text.specs.declared.Next.the-variants.{End, Open, Close, Comma, Colon, Stray, Token}
 use Rattle.text.specs.declared.Read.{Read}

@@ -1,15 +1,14 @@
 -- Laws of symbols at places of a text, as the loops of `skip_blanks`, `token_end` and `next_symbol` use them.
 use Prim.Native.Nat.{ℕ, zero, suc, _+_, _-_, _≤_, _<_}
 use native.Mathlib.Numerals.{add-one}
-use native.Mathlib.Nat.{suc-sub-suc, sub-self}
 use native.Mathlib.Omega.{arith}
 use mathlib.Core.Path.{_≡_, refl, ap, sym, _∙_, subst}
 use mathlib.Core.List.{List, [], _∷_, _++_, append-assoc, append-nil}
 use lib.ListN.{length, getD, take, drop, length-take}
 use lib.Seq.{slice, slice-empty, slice-cons, take-suc, drop-append-le}
-use Rattle.trees.specs.Text.{Symbol, Kind, blank, label, mark, kind, openBracket, closeBracket, comma, colon, stray, token, symbols, symbolsAfter, ended}
+use Rattle.trees.specs.Text.{Symbol, Kind, blank, label, mark, kind, openBracket, closeBracket, comma, colon, stray, token, symbolsAfter, ended}
 use Rattle.theorems.specs.TextLaws.{byKind, symbols-step, symbols-end}
-use Rattle.text.specs.Read.{kindNo, symbolsAt, Seen, Skipped, RunEnd, Ahead}
+use Rattle.text.specs.Read.{kindNo, symbolsAt, Skipped, RunEnd, Ahead}
 
 -- the kind of a number
 abbrev pub kindOf : ℕ → Kind

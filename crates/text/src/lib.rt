@@ -6,7 +6,7 @@ ghost use Prim.Native.Nat.{_≤_, _<_};
 ghost use lib.ListN.{length};
 ghost use lib.Dec.{eqb};
 ghost use lib.Seq.{slice};
-ghost use Rattle.trees.specs.Text.{kind};
+ghost use Rattle.trees.specs.Text.{isBlank, isLabelByte, kind};
 ghost use Rattle.trees.specs.Length.{isLength};
 ghost use Rattle.text.specs.Read.{kindNo, Seen, Skipped, RunEnd, LengthRead, LabelRead, ClosingRead};
 ghost use Rattle.text.specs.Automaton.{byteClass, move as moveNo};
@@ -43,7 +43,8 @@ const LABELS_BELOW_64: u64 = 0xf3ff_ec7e_0000_0000;
 const LABELS_FROM_64: u64 = 0x7fff_ffff_d7ff_ffff;
 
 // Whether b is a blank.
-fn is_blank(b: u8) -> bool
+pub fn is_blank(b: u8) -> bool
+    ensures { λ r. ⌜ r ≡ isBlank b ⌝ }
     ensures { λ r. ⌜ r ≡ eqb (kindNo (kind b)) 0 ⌝ }
 {
     if b < 64 {
@@ -53,7 +54,8 @@ fn is_blank(b: u8) -> bool
 }
 
 // Whether b is a label byte.
-fn is_label_byte(b: u8) -> bool
+pub fn is_label_byte(b: u8) -> bool
+    ensures { λ r. ⌜ r ≡ isLabelByte b ⌝ }
     ensures { λ r. ⌜ r ≡ eqb (kindNo (kind b)) 1 ⌝ }
 {
     if b < 64 {

@@ -10,7 +10,7 @@ use native.Mathlib.Nat.{pow-suc, div-div-eq-div-mul, mul-comm, zero-div}
 use mathlib.Core.Path.{_≡_, refl, ap, ap₂, sym, _∙_, subst}
 use mathlib.Core.Logic.{_⊎_, inl, inr}
 use lib.Arith.{bin-ind}
-use lib.Bits.{bitAnd, bitOr, bitXor, and-step, or-step, xor-step, and-shr, or-shr, xor-shr, and-comm, and-le-l, and-le-r, xor-add-and, xor-zero-r, or-disjoint, differ}
+use lib.Bits.{bitAnd, bitOr, bitXor, and-step, or-step, xor-step, and-shr, or-shr, xor-shr, and-comm, and-le-r, xor-add-and, or-disjoint, differ}
 
 unfoldable pub On : ℕ → ℕ → Type 0
 On m i = m / 2 ^ i % 2 ≡ 1

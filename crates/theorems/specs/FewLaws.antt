@@ -25,8 +25,8 @@ use Rattle.trees.specs.Grammar.{IsNode, is-leaf, is-inner, IsNodes, is-one, is-
 use Rattle.trees.specs.Names.{taxonOf}
 use Rattle.trees.specs.Splits.{bitOf, taxon, taxa, clusters, insert, counted, splitsOf}
 use Rattle.trees.specs.Reading.{reading}
-use Rattle.trees.specs.Verdict.{leafFault, judgedTree, judged}
-use Rattle.theorems.specs.ListLaws.{by-test}
+use Rattle.trees.specs.Verdict.{leafFault, judged}
+use Rattle.theorems.specs.ListLaws.{keep-append, by-test}
 use Rattle.theorems.specs.BitLaws.{On, Sub, on?, on-or-l, only-on, dis-and, less-add, off-zero}
 use Rattle.theorems.specs.MaskLaws.{side-even}
 use Rattle.theorems.specs.OnesLaws.{ones-zero, ones-part, ones-bit}
@@ -148,14 +148,7 @@ counted-most n (c ∷ cs) = go (proper n (side n c)) (counted-most n cs)
     go false h = h
 
 keep-both : (p : ℕ → Bool) (a b : List ℕ) → length (keep p (a ++ b)) ≡ length (keep p a) + length (keep p b)
-unfolding keep
-keep-both p [] b = omega arith
-keep-both p (x ∷ a) b = go (p x) (keep-both p a b)
-  where
-    go : (t : Bool) → length (keep p (a ++ b)) ≡ length (keep p a) + length (keep p b)
-        → length (if t then x ∷ keep p (a ++ b) else keep p (a ++ b)) ≡ length (if t then x ∷ keep p a else keep p a) + length (keep p b)
-    go true h = omega arith
-    go false h = h
+keep-both p a b = ap length (keep-append p a b) ∙ length-append (keep p a) (keep p b)
 
 keep-more : (p : ℕ → Bool) (x : ℕ) (l : List ℕ) → length (keep p (x ∷ l)) ≤ suc (length (keep p l))
 unfolding keep

@@ -5,7 +5,6 @@
 --   reading-complete   every tree of the grammar is read
 --   one-tree           a text is at most one tree
 --   no-tree            nothing is read exactly where no tree is: "7 exactly when the text is no tree"
---   tree-nesting       at most 63 brackets are open at once
 use Prim.Native.Nat.{ℕ, zero, suc, _+_, _*_, _≤_, _<_, max}
 use native.Mathlib.Omega.{arith}
 use mathlib.Core.Path.{_≡_, refl, ap, sym, _∙_, subst}
@@ -20,7 +19,7 @@ use Rattle.trees.specs.Plain.{if_then_else_}
 use Rattle.trees.specs.Text.{Symbol, openBracket, closeBracket, comma, colon, stray, token, symbols}
 use Rattle.trees.specs.Length.{isLength}
 use Rattle.trees.specs.Tree.{Nodes, nil, leaf, inner, beside, width, nesting}
-use Rattle.trees.specs.Grammar.{MayHaveLength, no-length, a-length, MayHaveLabel, no-label, a-label, IsNode, is-leaf, is-inner, IsNodes, is-one, is-more, IsTree, mostNesting}
+use Rattle.trees.specs.Grammar.{MayHaveLength, no-length, a-length, MayHaveLabel, no-label, a-label, IsNode, is-leaf, is-inner, IsNodes, is-one, is-more, IsTree}
 use Rattle.trees.specs.Reading.{Read, readLength, readLabel, readClosing, bracketed, joined, readComma, followed, readNode, readNodes, alone, reading}
 use Rattle.theorems.specs.TextLaws.{symbols-length}
 
@@ -274,6 +273,3 @@ mutual
   nodes-nesting : {d : ℕ} {ss : List Symbol} {t : Nodes} → IsNodes d ss t → nesting t ≤ d
   nodes-nesting (is-one n) = node-nesting n
   nodes-nesting (is-more {d = d} {t = t} {k = k} y z n m) = subst (λ g. nesting g ≤ d) (sym z) (omega (arith, nesting-beside t k, node-nesting n, nodes-nesting m))
-
-pub tree-nesting : (s : List ℕ) (t : Nodes) → reading s ≡ some t → nesting t ≤ 63
-tree-nesting s t e = node-nesting (reading-sound s t e)

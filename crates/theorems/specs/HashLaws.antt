@@ -3,15 +3,15 @@
 --   sumOver-join      over the taxa of two masks with no common bit: the sum of the two sums
 --   sumOver-one       over one taxon: its constant
 --   sumOver-others    over the other taxa: what is left of the sum over all
-use Prim.Native.Nat.{ℕ, zero, suc, _+_, _-_, _*_, _/_, _%_, _^_, max}
+use Prim.Native.Nat.{ℕ, zero, suc, _+_, _-_, _*_, _/_, _%_, _^_}
 use native.Mathlib.Omega.{arith}
-use native.Mathlib.Nat.{pow-suc, zero-div, mul-zero, mul-one, mul-add}
-use mathlib.Core.Path.{_≡_, refl, ap, ap₂, sym, _∙_, subst}
+use native.Mathlib.Nat.{pow-suc, mul-zero, mul-one, mul-add}
+use mathlib.Core.Path.{_≡_, refl, ap, sym, _∙_}
 use mathlib.Core.List.{List, [], _∷_}
 use lib.Bits.{bitAnd, bitOr, bitXor, and-step, or-step, or-shr}
 use lib.ListN.{getD}
 use Rattle.trees.specs.Hash.{sumOver}
-use Rattle.theorems.specs.BitLaws.{Sub, Dis, dis-and, less-dis, less-or, pow-half}
+use Rattle.theorems.specs.BitLaws.{Sub, dis-and, less-dis, less-or, pow-half}
 use Rattle.theorems.specs.MaskLaws.{others-xor}
 
 pub sumOver-zero : (cs : List ℕ) → sumOver cs 0 ≡ 0

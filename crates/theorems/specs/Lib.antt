@@ -2,6 +2,7 @@ pub mod TextLaws
 pub mod GrammarLaws
 pub mod ListLaws
 pub mod RisingLaws
+pub mod LackingLaws
 pub mod BitLaws
 pub mod OnesLaws
 pub mod MaskLaws

@@ -2,19 +2,45 @@
 --
 --   Mem x l         x is a member of l, as a type
 --   by-test P b     what holds of both ways of a choice holds of the choice
+--   less-or-not, equal-or-not     two numbers compared
+--   same-bool       two tests are equal where each passes with the other
+--   mem-getD        what stands in a list is a member
+--   map-append, map-same, map-back     a list with a function on each
+--   keep-append     the members of two lists that pass a test
 --   keep-step, keep-most     how many pass a test: one member more, and never more than there are
-use Prim.Native.Nat.{ℕ, suc, _≤_}
+use Prim.Native.Nat.{ℕ, zero, suc, _≤_, _<_}
 use native.Mathlib.Omega.{arith}
-use mathlib.Core.Path.{_≡_, refl, ap, sym, _∙_}
+use mathlib.Core.Path.{_≡_, refl, ap, ap₂, sym, _∙_}
 use mathlib.Core.Logic.{_⊎_, inl, inr, ⊎-map}
 use mathlib.Core.Bool.{Bool, true, false, _&&_, _||_, true≢false}
-use mathlib.Core.List.{List, [], _∷_, _++_}
-use lib.Dec.{eqb}
-use lib.ListN.{length}
-use borrow.Author.Tests.{eqb-true, eq-eqb}
+use mathlib.Core.List.{List, [], _∷_, _++_, map}
+use lib.Dec.{ltb, eqb}
+use lib.ListN.{length, getD}
+use borrow.Author.Tests.{ltb-true, ltb-false, eqb-true, eqb-false, eq-eqb}
 use Rattle.trees.specs.Plain.{if_then_else_, every, keep, member}
 
+-- ---- two numbers
+
+pub less-or-not : (a b : ℕ) → (a < b) ⊎ (b ≤ a)
+less-or-not a b = go (ltb a b) refl
+  where
+    go : (t : Bool) → ltb a b ≡ t → (a < b) ⊎ (b ≤ a)
+    go true e = inl (ltb-true a b e)
+    go false e = inr (ltb-false a b e)
+
+pub equal-or-not : (a b : ℕ) → (a ≡ b) ⊎ (a ≡ b → ⊥)
+equal-or-not a b = go (eqb a b) refl
+  where
+    go : (t : Bool) → eqb a b ≡ t → (a ≡ b) ⊎ (a ≡ b → ⊥)
+    go true e = inl (eqb-true a b e)
+    go false e = inr (eqb-false a b e)
+
 -- ---- choices and tests
+
+pub same-bool : (p q : Bool) → (p ≡ true → q ≡ true) → (q ≡ true → p ≡ true) → p ≡ q
+same-bool true q f g = sym (f refl)
+same-bool false true f g = g refl
+same-bool false false f g = refl
 
 pub by-test : {A : Type 0} (P : A → Type 0) (b : Bool) {x y : A} → (b ≡ true → P x) → (b ≡ false → P y) → P (if b then x else y)
 by-test P true f g = f refl
@@ -54,6 +80,11 @@ or-right false b e = e
 abbrev pub Mem : {A : Type 0} → A → List A → Type 0
 Mem x [] = ⊥
 Mem x (y ∷ l) = (x ≡ y) ⊎ Mem x l
+
+pub mem-getD : (l : List ℕ) (j : ℕ) → j < length l → Mem (getD l j 0) l
+mem-getD [] j h = absurd (omega arith)
+mem-getD (x ∷ l) zero h = inl refl
+mem-getD (x ∷ l) (suc j) h = inr (mem-getD l j (omega arith))
 
 pub mem-left : {A : Type 0} (x : A) (l k : List A) → Mem x l → Mem x (l ++ k)
 mem-left x (y ∷ l) k (inl e) = inl e
@@ -102,6 +133,16 @@ every-intro p (y ∷ l) f = and-true (f y (inl refl)) (every-intro p l (λ x h. 
 
 -- ---- members that are kept
 
+pub keep-append : (t : ℕ → Bool) (l r : List ℕ) → keep t (l ++ r) ≡ keep t l ++ keep t r
+unfolding keep
+keep-append t [] r = refl
+keep-append t (x ∷ l) r = go (t x) (keep-append t l r)
+  where
+    go : (b : Bool) → keep t (l ++ r) ≡ keep t l ++ keep t r
+        → (if b then x ∷ keep t (l ++ r) else keep t (l ++ r)) ≡ (if b then x ∷ keep t l else keep t l) ++ keep t r
+    go true e = ap (λ (k : List ℕ). x ∷ k) e
+    go false e = e
+
 pub keep-mem : {A : Type 0} (p : A → Bool) (l : List A) (x : A) → Mem x (keep p l) → Mem x l × (p x ≡ true)
 unfolding keep
 keep-mem {A} p (y ∷ l) x h = go (p y) refl h (λ m. keep-mem p l x m)
@@ -132,3 +173,18 @@ keep-most p [] = omega arith
 keep-most {A} p (x ∷ l) =
     let h = keep-most p l in
     by-test (λ (k : List A). length k ≤ suc (length l)) (p x) (λ e. omega arith) (λ e. omega arith)
+
+-- ---- a function on each
+
+module _ (f : ℕ → ℕ) where
+  pub map-append : (l r : List ℕ) → map f (l ++ r) ≡ map f l ++ map f r
+  map-append [] r = refl
+  map-append (x ∷ l) r = ap (λ (k : List ℕ). f x ∷ k) (map-append l r)
+
+  pub map-same : (g : ℕ → ℕ) (l : List ℕ) → ((k : ℕ) → Mem k l → f k ≡ g k) → map f l ≡ map g l
+  map-same g [] h = refl
+  map-same g (x ∷ l) h = ap₂ (λ (y : ℕ) (r : List ℕ). y ∷ r) (h x (inl refl)) (map-same g l (λ k q. h k (inr q)))
+
+  pub map-back : (g : ℕ → ℕ) (l : List ℕ) → ((m : ℕ) → Mem m l → g (f m) ≡ m) → map g (map f l) ≡ l
+  map-back g [] h = refl
+  map-back g (x ∷ l) h = ap₂ (λ (y : ℕ) (r : List ℕ). y ∷ r) (h x (inl refl)) (map-back g l (λ m k. h m (inr k)))

@@ -3,21 +3,19 @@
 --   Ag a b          the splits a and b agree, as a type: nothing common, or one within the other
 --   agree-true, true-agree     the test and the type
 --   agree-side      clusters that agree have sides that agree
-use Prim.Native.Nat.{ℕ, zero, suc, _+_, _-_, _/_, _%_, _^_, _≤_, _<_}
+use Prim.Native.Nat.{ℕ, zero, suc, _-_, _/_, _%_, _^_, _<_}
 use native.Mathlib.Omega.{arith}
-use native.Mathlib.Nat.{pow-suc, div-eq-of-lt, zero-lt-suc, lt-of-lt-of-le}
+use native.Mathlib.Nat.{pow-suc, div-eq-of-lt, lt-of-lt-of-le}
 use mathlib.Core.Path.{_≡_, refl, ap, sym, _∙_, subst}
 use mathlib.Core.Logic.{_⊎_, inl, inr, ⊎-elim}
-use mathlib.Core.Bool.{Bool, true, false, _&&_, _||_}
-use lib.Dec.{leb, ltb, eqb}
+use mathlib.Core.Bool.{Bool, true, false, _||_}
+use lib.Dec.{leb}
 use lib.Pow.{pow-pos, pow-mono}
 use lib.Bits.{bitAnd, bitXor, and-comm}
-use lib.Count.{ones}
 use borrow.Author.Tests.{eqb-true, eqb-false, eq-eqb, ne-eqb, leb-true, leb-false}
-use Rattle.trees.specs.Plain.{if_then_else_}
-use Rattle.trees.specs.Mask.{has, everyTaxon, without, apart, within, agree, side, proper}
-use Rattle.theorems.specs.ListLaws.{or-cases, or-left, or-right, and-left, and-right, if-true, if-false}
-use Rattle.theorems.specs.BitLaws.{On, on?, Sub, Dis, even-odd, on-first, first-on, on-shift, shift-on, and-dis, dis-and, and-sub, sub-and, less-add, less-sub, less-dis, on-xor, sub-le}
+use Rattle.trees.specs.Mask.{has, everyTaxon, without, apart, within, agree, side}
+use Rattle.theorems.specs.ListLaws.{or-cases, or-left, or-right, if-true, if-false}
+use Rattle.theorems.specs.BitLaws.{On, on?, Sub, Dis, on-first, first-on, shift-on, and-dis, dis-and, and-sub, sub-and, less-add, less-sub, less-dis, on-xor, sub-le}
 
 -- ---- one taxon
 
@@ -69,14 +67,6 @@ ag-sym a b (inr (inr s)) = inr (inl s)
 
 pub ag-self : (a : ℕ) → Ag a a
 ag-self a = inr (inl (λ i h. h))
-
-same-bool : (p q : Bool) → (p ≡ true → q ≡ true) → (q ≡ true → p ≡ true) → p ≡ q
-same-bool true q f g = sym (f refl)
-same-bool false true f g = g refl
-same-bool false false f g = refl
-
-pub agree-sym : (a b : ℕ) → agree a b ≡ agree b a
-agree-sym a b = same-bool (agree a b) (agree b a) (λ e. true-agree b a (ag-sym a b (agree-true a b e))) (λ e. true-agree a b (ag-sym b a (agree-true b a e)))
 
 -- ---- the mask of all taxa
 

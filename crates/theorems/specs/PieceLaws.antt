@@ -2,9 +2,9 @@
 --
 --   longer-longer          a lane fed p and then q is a lane fed both at once
 --   text w                 the lane that was empty and got the bytes w
---   text-held, text-over   it holds them up to 4,096, and past that it ran over
+--   text-held   it holds them up to 4,096, and past that it ran over
 --   unended w              the bytes w have no semicolon
-use Prim.Native.Nat.{ℕ, zero, suc, _≤_, _<_}
+use Prim.Native.Nat.{ℕ, zero, suc, _≤_}
 use native.Mathlib.Omega.{arith}
 use mathlib.Core.Path.{_≡_, refl, ap, sym}
 use mathlib.Core.Logic.{inl, ⊎-elim}
@@ -37,10 +37,6 @@ text w = longer (holding []) w
 pub text-held : (w : List ℕ) → length w ≤ mostText → text w ≡ holding w
 unfolding longer
 text-held w h = if-false overrun (holding w) (le-ltb mostText (length w) h)
-
-pub text-over : (w : List ℕ) → mostText < length w → text w ≡ overrun
-unfolding longer
-text-over w h = if-true overrun (holding w) (lt-ltb mostText (length w) h)
 
 -- ---- lists of lanes
 

@@ -4,7 +4,7 @@
 --   clusters-agree      then every two clusters agree
 --   counted-mem, mem-counted, counted-rising    what counts among the sides of clusters
 --   splits-good         then the splits of a tree are proper, rising, and agree in pairs
-use Prim.Native.Nat.{ℕ, zero, suc, _+_, _^_, _<_}
+use Prim.Native.Nat.{ℕ, suc, _+_, _^_, _<_}
 use native.Mathlib.Omega.{arith}
 use mathlib.Core.Path.{_≡_, refl, ap, sym, _∙_, subst}
 use mathlib.Core.Logic.{_⊎_, inl, inr, ⊎-elim}

@@ -6,7 +6,7 @@
 --   seven-exactly                        7 exactly when the text is no tree by the grammar
 --   judged-good                          the splits of a text are proper, rising, and agree in pairs
 --   refusal-numbers                      a text is refused with 7, 8, 9 or 10
-use Prim.Native.Nat.{ℕ, zero, suc, _+_, _^_, _≤_, _<_}
+use Prim.Native.Nat.{ℕ, zero, suc, _+_, _^_, _≤_}
 use native.Mathlib.Omega.{arith}
 use native.Mathlib.Nat.{add-zero, add-assoc}
 use mathlib.Core.Path.{_≡_, refl, ap, sym, _∙_, subst}
@@ -27,7 +27,7 @@ use Rattle.trees.specs.Splits.{taxon, taxa, splitsOf}
 use Rattle.trees.specs.Verdict.{leafFault, judgedTree, judged}
 use Rattle.trees.specs.Whole.{goodTree}
 use Rattle.theorems.specs.ListLaws.{by-test, if-true, if-false}
-use Rattle.theorems.specs.BitLaws.{On, on?, off-zero, Sub, Dis, or-on, on-or-l, on-or-r, only-on, dis-and}
+use Rattle.theorems.specs.BitLaws.{On, on?, off-zero, Dis, or-on, on-or-l, on-or-r, only-on, dis-and}
 use Rattle.theorems.specs.MaskLaws.{on-has, has-off, off-has}
 use Rattle.theorems.specs.SplitLaws.{Distinct, taxon-named, splits-good}
 use Rattle.theorems.specs.GrammarLaws.{no-tree}

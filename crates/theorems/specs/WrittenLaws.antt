@@ -3,17 +3,15 @@
 --   tree-has-splits            the tree made of splits has exactly these splits
 --   majority-tree-splits, strict-tree-splits     so the consensus trees have exactly the consensus splits
 --   written-tree-reads-back    the verdict on what is written gives the splits that it was written from
---   written-no-semicolon       what is shown has no semicolon
 --   written-before-semicolon   so what is written, up to its semicolon, is what is shown
 --   written-short              35 bytes for each of n taxa, less 4, are enough
 --   written-length             so at most 2,236 bytes are written
 --   same-splits                good lists of splits with the same members are one list
---   one-writing                so equal sets of splits are written the same
 use Prim.Native.Nat.{ℕ, zero, suc, _+_, _*_, _≤_, _<_}
 use native.Mathlib.Omega.{arith}
 use mathlib.Core.Path.{_≡_, refl, ap, sym, _∙_, subst}
 use mathlib.Core.Logic.{_⊎_, inl, inr}
-use mathlib.Core.Bool.{true, false}
+use mathlib.Core.Bool.{true}
 use mathlib.Core.List.{List, [], _∷_, _++_}
 use mathlib.Core.Option.{none, some}
 use lib.Count.{ones}
@@ -30,7 +28,7 @@ use Rattle.trees.specs.Consensus.{strict, majority}
 use Rattle.trees.specs.Written.{branches, treeOf, shown, parted, written}
 use Rattle.trees.specs.Held.{beforeSemicolon}
 use Rattle.trees.specs.Whole.{goodTree}
-use Rattle.theorems.specs.ListLaws.{if-true, if-false, Mem, mem-member, member-mem, member-not}
+use Rattle.theorems.specs.ListLaws.{if-true, if-false, Mem, mem-member, member-mem}
 use Rattle.theorems.specs.RisingLaws.{rising-true, rising-same}
 use Rattle.theorems.specs.BitLaws.{On, off-zero, sub-le}
 use Rattle.theorems.specs.OnesLaws.{ones-lt}
@@ -137,9 +135,6 @@ module _ (n : ℕ) (ns : List (List ℕ)) (s : List ℕ) (names : goodNames n ns
   no-semicolon : 2 ≤ n → Mem 59 (shown (treeOf ns s)) → ⊥
   no-semicolon h m = shown-no-semicolon (root-readable h n (omega arith)) (subst (λ t. Mem 59 (shown t)) tree-root m)
 
-  pub written-no-semicolon : 2 ≤ n → member 59 (shown (treeOf ns s)) ≡ false
-  written-no-semicolon h = member-not 59 (shown (treeOf ns s)) (no-semicolon h)
-
   pub written-before-semicolon : 2 ≤ n → beforeSemicolon (written ns s) ≡ shown (treeOf ns s)
   unfolding written
   written-before-semicolon h = before-semicolon (shown (treeOf ns s)) (no-semicolon h)
@@ -177,6 +172,3 @@ module _ (n : ℕ) (s u : List ℕ) (p : goodTree n s ≡ true) (q : goodTree n 
   same-splits =
       rising-same s u (rising-true s (good-rising n s p)) (rising-true u (good-rising n u q)) (λ y h. member-mem y u (sym (same y) ∙ mem-member y s h))
       (λ y h. member-mem y s (same y ∙ mem-member y u h))
-
-  pub one-writing : (ns : List (List ℕ)) → written ns s ≡ written ns u
-  one-writing ns = ap (written ns) same-splits

@@ -1,9 +1,11 @@
 -- `comparing::matrix` meets its contract. Assumes nothing.
 use native.Mathlib.Omega.{arith}
 use borrow.Author.Needs.{needs}
+use Rattle.answers.specs.AnswerLaws.{filled-refused}
 use Rattle.opening.specs.GivenLaws.{failed, passed}
+use Rattle.store.specs.LentLaws.{not-whole}
 use Rattle.rows.specs.ReadLaws.{long}
-use Rattle.comparing.specs.CompareLaws.{square-of, entries-few, matrix-refused, matrix-short, matrix-given}
+use Rattle.comparing.specs.CompareLaws.{square-of, entries-few, matrix-short, matrix-given}
 use Rattle.comparing.proofs.matrix.Statement.{statement}
 use Rattle.comparing.proofs.matrix.Tie as tie
 
@@ -34,7 +36,7 @@ matrix-spec =
     tie.close
     (tie.spec
     (λ c κs. search needs)
-    (λ c. matrix-refused _ _ (failed _ _ (c .before .is-whole .ensures) (c .if1 .taken)))
+    (λ c. filled-refused _ _ _ (not-whole _ _ (failed _ _ (c .before .is-whole .ensures) (c .if1 .taken))))
     (λ c κs. long _ (passed _ _ (c .before .is-whole .ensures) (c .if1 .left)))
     small
     returns-2

@@ -2,10 +2,12 @@
 use mathlib.Core.Path.{refl}
 use native.Mathlib.Omega.{arith}
 use borrow.Author.Needs.{needs}
+use Rattle.answers.specs.AnswerLaws.{filled-refused}
 use Rattle.opening.specs.GivenLaws.{failed, passed}
+use Rattle.store.specs.LentLaws.{not-whole}
 use Rattle.store.specs.HeldWholeLaws.{tree-good}
 use Rattle.rows.specs.ReadLaws.{long}
-use Rattle.consensus.specs.AskedLaws.{accepted-refused, accepted-missing, accepted-given}
+use Rattle.consensus.specs.AskedLaws.{accepted-missing, accepted-given}
 use Rattle.consensus.proofs.write_accepted.Statement.{statement}
 use Rattle.consensus.proofs.write_accepted.Tie as tie
 
@@ -39,7 +41,7 @@ write-accepted-spec =
     tie.close
     (tie.spec
     (λ c κs. search needs)
-    (λ c. accepted-refused _ _ _ (failed _ _ (c .before .is-whole .ensures) (c .if1 .taken)))
+    (λ c. filled-refused _ _ _ (not-whole _ _ (failed _ _ (c .before .is-whole .ensures) (c .if1 .taken))))
     (λ c κs. long _ (passed _ _ (c .before .is-whole .ensures) (c .if1 .left)))
     returns-2
     copy-tree-requires

@@ -3,28 +3,31 @@ use native.Mathlib.Omega.{arith}
 use borrow.Author.Needs.{needs}
 use Rattle.opening.specs.GivenLaws.{failed, passed}
 use Rattle.layout.specs.WholeFacts.{whole-at-facts}
+use Rattle.store.specs.LentLaws.{not-whole}
 use Rattle.feeding.specs.FedLaws.{few-taxa}
-use Rattle.feeding.specs.BatchLaws.{batched-length, batch-not-whole, batch-no-lane, batch-short, batch-done}
+use Rattle.feeding.specs.BatchLaws.{batched-length, batch-refused, batch-no-lane, batch-short, batch-done}
 use Rattle.feeding.proofs.batch.Statement.{statement}
 use Rattle.feeding.proofs.batch.Tie as tie
 
 returns : tie.Need-returns
 returns c =
     let a = c .before .before .before .before .before .before .args in
-    batch-not-whole (a .s .now) (a .l .0) (a .piece .now) (a .verdicts .now) (failed _ _ (c .before .is-whole .ensures) (c .if1 .taken))
+    batch-refused _ _ (a .s .now) (a .verdicts .now) _ (not-whole (a .s .now) _ (failed _ _ (c .before .is-whole .ensures) (c .if1 .taken)))
 
 returns-2 : tie.Need-returns-2
 returns-2 c =
     let d = c .before .before .before .before in
     let a = c .before .before .before .before .before .before .before .before .before .before .args in
-    batch-no-lane (a .s .now) (a .l .0) (a .piece .now) (a .verdicts .now) (passed _ _ (d .before .is-whole .ensures) (d .if1 .left)) (omega arith)
+    let w = passed _ _ (d .before .is-whole .ensures) (d .if1 .left) in
+    batch-refused _ _ (a .s .now) (a .verdicts .now) _ (batch-no-lane (a .s .now) (a .l .0) (a .piece .now) (a .verdicts .now) w (omega arith))
 
 returns-3 : tie.Need-returns-3
 returns-3 c =
     let d = c .before .before .before .before .before .before in
     let w = passed _ _ (d .before .is-whole .ensures) (d .if1 .left) in
     let a = c .before .before .before .before .before .before .before .before .before .before .before .before .args in
-    batch-short (a .s .now) (a .l .0) (a .piece .now) (a .verdicts .now) w (omega arith) (c .before .count-texts .result) (c .before .count-texts .ensures) (omega arith)
+    batch-refused _ _ (a .s .now) (a .verdicts .now) _
+    (batch-short (a .s .now) (a .l .0) (a .piece .now) (a .verdicts .now) w (omega arith) (c .before .count-texts .result) (c .before .count-texts .ensures) (omega arith))
 
 build-index-requires : tie.Need-build-index-requires
 build-index-requires c κs =

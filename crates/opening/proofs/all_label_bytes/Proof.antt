@@ -22,7 +22,7 @@ returns c =
     let a = c .before .before .before .before .before .before .args in
     let l = c .before .before .before .before .loop in
     sym (l .inv .1
-    ∙ label-not (a .list .now) (l .i) (a .e) (omega arith) (omega arith) (failed _ _ (c .before .is-label-byte .ensures) (c .if1 .taken)))
+    ∙ label-not (a .list .now) (l .i) (a .e) (omega arith) (omega arith) (failed _ _ (c .before .is-label-byte .ensures .0) (c .if1 .taken)))
 
 loop-again : tie.Need-loop-again Inv-loop μ-loop
 loop-again c =
@@ -30,7 +30,7 @@ loop-again c =
     let l = c .before .before .before .before .loop in (
       omega arith,
       l .inv .1
-          ∙ label-more (a .list .now) (l .i) (a .e) (omega arith) (omega arith) (passed _ _ (c .before .is-label-byte .ensures) (c .if1 .left)),
+          ∙ label-more (a .list .now) (l .i) (a .e) (omega arith) (omega arith) (passed _ _ (c .before .is-label-byte .ensures .0) (c .if1 .left)),
     )
 
 returns-2 : tie.Need-returns-2 Inv-loop μ-loop

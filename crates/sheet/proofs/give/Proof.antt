@@ -4,20 +4,21 @@ use native.Mathlib.Omega.{arith}
 use lib.ListN.{take}
 use lib.Seq.{length-take-le}
 use borrow.Author.Needs.{needs}
-use Rattle.sheet.specs.AskedLaws.{given-short, given-room, copied-front}
+use Rattle.answers.specs.AnswerLaws.{filled-short, filled-given}
+use Rattle.sheet.specs.AskedLaws.{copied-front}
 use Rattle.sheet.proofs.give.Statement.{statement}
 use Rattle.sheet.proofs.give.Tie as tie
 
 returns : tie.Need-returns
 returns c =
     let s = c .before .before .before in
-    given-short _ _ (omega (arith, c .if1 .taken, length-take-le (s .args .n) (s .args .text .now) (s .pre)))
+    filled-short _ _ _ refl (omega (arith, c .if1 .taken, length-take-le (s .args .n) (s .args .text .now) (s .pre)))
 
 returns-2 : tie.Need-returns-2
 returns-2 c =
     let a = c .before .before .before .before .before .before .before .args in
     let p = copied-front (take (a .n) (a .text .now)) (a .out .now) (a .text .now) _ (a .n) (omega arith) (c .before .before .before .before .before .before .before .pre) refl (c .before .before .copy-from .ensures) in
-    given-room (take (a .n) (a .text .now)) (a .out .now) (a .n) _ (p .0) (omega arith) (p .1)
+    filled-given _ (a .out .now) (take (a .n) (a .text .now)) refl (a .n) _ (p .0) (omega arith) (p .1)
 
 pub give-spec : {M : Type 1} → statement M
 give-spec = tie.close (tie.spec returns (λ c κs. (omega arith, omega arith)) (λ c. search needs) returns-2)

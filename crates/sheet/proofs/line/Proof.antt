@@ -3,10 +3,12 @@ use Prim.Native.Nat.{ℕ}
 use native.Mathlib.Omega.{arith}
 use lib.ListN.{replicate, length-replicate}
 use borrow.Author.Needs.{needs}
+use Rattle.answers.specs.AnswerLaws.{filled-refused}
 use Rattle.opening.specs.GivenLaws.{failed, passed}
+use Rattle.store.specs.LentLaws.{not-whole}
 use Rattle.rows.specs.ReadLaws.{long}
 use Rattle.distances.specs.WholeTreeLaws.{trees-few}
-use Rattle.sheet.specs.AskedLaws.{put-taken, line-refused, line-missing, line-given}
+use Rattle.sheet.specs.AskedLaws.{put-taken, line-missing, line-given}
 use Rattle.sheet.proofs.line.Statement.{statement}
 use Rattle.sheet.proofs.line.Tie as tie
 
@@ -43,7 +45,7 @@ line-spec =
     tie.close
     (tie.spec
     (λ c κs. search needs)
-    (λ c. line-refused _ _ _ _ (failed _ _ (c .before .is-whole .ensures) (c .if1 .taken)))
+    (λ c. filled-refused _ _ _ (not-whole _ _ (failed _ _ (c .before .is-whole .ensures) (c .if1 .taken))))
     (λ c κs. long _ (passed _ _ (c .before .is-whole .ensures) (c .if1 .left)))
     (λ c κs. long _ (passed _ _ (c .before .before .is-whole .ensures) (c .before .if1 .left)))
     add-lines

@@ -1,9 +1,7 @@
 -- `text::is_length` meets its contract. Assumes nothing.
-use Prim.Native.Nat.{ℕ, _≤_, _<_, _-_}
-use native.Mathlib.Omega.{arith}
+use Prim.Native.Nat.{_-_}
 use borrow.Author.Needs.{needs}
-use mathlib.Core.Path.{_≡_, refl, sym, ap, _∙_}
-use lib.ListN.{length}
+use mathlib.Core.Path.{sym, ap, _∙_}
 use Rattle.text.proofs.LengthLaws.{Ran, ran-none, ran-more, ran-all, last-end}
 use Rattle.text.specs.Automaton.{isEnd}
 use Rattle.text.proofs.is_length.Statement.{statement}

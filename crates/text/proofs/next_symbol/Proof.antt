@@ -1,6 +1,5 @@
 -- `text::next_symbol` meets its contract. Assumes nothing.
 use borrow.Author.Needs.{needs}
-use native.Mathlib.Omega.{arith}
 use mathlib.Core.Path.{_≡_, refl, ap, sym, _∙_}
 use Rattle.trees.specs.Text.{openBracket, closeBracket, comma, colon, stray}
 use Rattle.text.specs.Read.{Seen}

@@ -1,7 +1,6 @@
 -- `text::read_closing` meets its contract. Assumes nothing.
 use borrow.Author.Needs.{needs}
 use Rattle.text.specs.Read.{Seen, LengthRead}
-use native.Mathlib.Omega.{arith}
 use Rattle.text.proofs.ReadLaws.{seen-as, closing-past, closing-few, closing-other}
 use Rattle.text.proofs.read_closing.Statement.{statement}
 use Rattle.text.proofs.read_closing.Tie as tie

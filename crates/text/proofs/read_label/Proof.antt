@@ -1,7 +1,6 @@
 -- `text::read_label` meets its contract. Assumes nothing.
 use borrow.Author.Needs.{needs}
 use Rattle.text.specs.Read.{Seen, LengthRead}
-use native.Mathlib.Omega.{arith}
 use Rattle.text.proofs.ReadLaws.{seen-as, label-token, label-none}
 use Rattle.text.proofs.read_label.Statement.{statement}
 use Rattle.text.proofs.read_label.Tie as tie

@@ -25,7 +25,7 @@ is-blank-requires : tie.Need-is-blank-requires Inv-loop μ-loop
 is-blank-requires c κs = search needs
 
 returns : tie.Need-returns Inv-loop μ-loop
-returns c = record { past = search needs; within = search needs; tokens = c .before .before .before .before .loop .inv .tokens; stop = λ _ e. eqb-false _ 0 (sym (c .before .is-blank .ensures) ∙ not-true _ (c .if1 .taken)) e }
+returns c = record { past = search needs; within = search needs; tokens = c .before .before .before .before .loop .inv .tokens; stop = λ _ e. eqb-false _ 0 (sym (c .before .is-blank .ensures .1) ∙ not-true _ (c .if1 .taken)) e }
 
 add-at : tie.Need-add-at Inv-loop μ-loop
 add-at c = search needs
@@ -34,7 +34,7 @@ loop-less : tie.Need-loop-less Inv-loop μ-loop
 loop-less c = search needs
 
 loop-again : tie.Need-loop-again Inv-loop μ-loop
-loop-again c = blanks-more _ _ _ (c .before .before .before .before .loop .inv) (search needs) (kind-is 0 (sym (eqb-true _ 0 (sym (c .before .is-blank .ensures) ∙ not-false _ (c .if1 .left)))) (omega arith))
+loop-again c = blanks-more _ _ _ (c .before .before .before .before .loop .inv) (search needs) (kind-is 0 (sym (eqb-true _ 0 (sym (c .before .is-blank .ensures .1) ∙ not-false _ (c .if1 .left)))) (omega arith))
 
 returns-2 : tie.Need-returns-2 Inv-loop μ-loop
 returns-2 c = record { past = search needs; within = search needs; tokens = c .before .loop .inv .tokens; stop = λ h _. omega arith }

@@ -7,9 +7,10 @@ use lib.ListN.{length, take, drop}
 use lib.Seq.{take-append-seam}
 use Rattle.layout.specs.Store.{treeAt}
 use Rattle.rows.specs.ReadLaws.{tree-most}
-use Rattle.table.specs.FrontLaws.{copied-length, copied-more, copied-all}
+use Rattle.answers.specs.FrontLaws.{copied-length, copied-more, copied-all}
 use Rattle.consensus.proofs.lists.copy_tree.Statement.{statement}
 use Rattle.consensus.proofs.lists.copy_tree.Tie as tie
+use Rattle.answers.specs.FrontLaws.{copied-length, copied-more, copied-all}
 
 abbrev Inv-loop : tie.InvT-loop
 Inv-loop s i list₀ n j₀ list j = (j ≤ n) × (n ≤ 62) × (list ≡ take j (treeAt s i) ++ drop j list₀)

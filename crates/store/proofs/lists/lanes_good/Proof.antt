@@ -4,10 +4,9 @@ use mathlib.Core.Path.{_≡_, sym}
 use mathlib.Core.Bool.{true}
 use native.Mathlib.Omega.{arith}
 use Rattle.head.specs.Head.{numbersAt}
-use Rattle.layout.specs.Store.{laneFrom}
 use Rattle.layout.specs.WholeStore.{allBelow, goodLaneAt}
 use Rattle.layout.specs.AllLaws.{all-none, all-more, all-fails}
-use Rattle.store.specs.RoomLaws.{good-head, lane-inside}
+use Rattle.layout.specs.InsideLaws.{ranges, lane-inside}
 use Rattle.store.specs.ListTestLaws.{lane-long, lane-short}
 use Rattle.store.proofs.lists.lanes_good.Statement.{statement}
 use Rattle.store.proofs.lists.lanes_good.Tie as tie
@@ -18,20 +17,27 @@ Inv-loop s lanes l₀ l = (l ≤ lanes) × (lanes ≡ numbersAt s .lanes) × (al
 abbrev μ-loop : tie.MeasureT-loop
 μ-loop s lanes l₀ l = lanes - l
 
+few : tie.Need-lane-from-requires Inv-loop μ-loop
+few c κs = omega (arith, ranges _ (c .before .before .before .before .pre) .most-lanes)
+
 inside : tie.Need-number16-requires Inv-loop μ-loop
-unfolding laneFrom
 inside c κs =
-    let h = lane-inside _ (good-head _ (c .before .before .before .before .pre)) (c .before .loop .l) (omega arith) in
-    omega (arith, h)
+    let h = lane-inside _ (c .before .before .before .before .before .pre) (c .before .before .loop .l) (omega arith) in
+    omega (arith, c .lane-from .ensures .0)
 
 returns : tie.Need-returns Inv-loop μ-loop
 returns c =
-    sym (all-fails (goodLaneAt _) _ (c .before .before .before .loop .l) (omega arith) (lane-long _ _ (omega arith)))
+    let n = c .before in
+    let f = n .before in
+    let v = f .before .before .loop in
+    sym (all-fails (goodLaneAt _) _ (v .l) (omega arith) (lane-long _ (v .l) _ _ (omega arith) (f .lane-from .ensures .0) (n .number16 .ensures .0) (c .if1 .taken)))
 
 loop-again : tie.Need-loop-again Inv-loop μ-loop
 loop-again c =
-    let v = c .before .before .before .loop .inv in
-    (omega arith, v .1, all-more (goodLaneAt _) _ (v .2) (lane-short _ _ (omega arith)))
+    let n = c .before in
+    let f = n .before in
+    let v = f .before .before .loop in
+    (omega arith, v .inv .1, all-more (goodLaneAt _) _ (v .inv .2) (lane-short _ (v .l) _ _ (omega arith) (f .lane-from .ensures .0) (n .number16 .ensures .0) (omega arith)))
 
 returns-2 : tie.Need-returns-2 Inv-loop μ-loop
 returns-2 c =
@@ -45,11 +51,10 @@ lanes-good-spec =
     (tie.spec
     Inv-loop
     μ-loop
-    (λ c κs. good-head _ (c .before .pre) .head)
+    (λ c κs. c .before .pre .head-there)
     (λ c. omega arith)
     (λ c. (omega arith, c .lanes .ensures .0, all-none (goodLaneAt _)))
-    (λ c. omega arith)
-    (λ c. omega arith)
+    few
     inside
     returns
     (λ c. omega arith)

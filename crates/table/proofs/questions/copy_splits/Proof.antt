@@ -7,12 +7,13 @@ use lib.ListN.{take, drop}
 use Rattle.layout.specs.Store.{splitsHeldAt, masksAt}
 use Rattle.layout.specs.OrderLaws.{masks-length, number-mask}
 use Rattle.store.specs.SplitLaws.{split-read}
-use Rattle.table.specs.Counts.{countsAt}
-use Rattle.table.specs.CountsLaws.{counts-length, number-count, row-count}
 use Rattle.rows.specs.ReadLaws.{long, count-small}
-use Rattle.table.specs.FrontLaws.{copied-length, copied-more, copied-all}
+use Rattle.answers.specs.FrontLaws.{copied-length, copied-more, copied-all}
+use Rattle.store.specs.Counts.{countsAt}
+use Rattle.store.specs.CountsLaws.{counts-length, number-count, row-count}
 use Rattle.table.proofs.questions.copy_splits.Statement.{statement}
 use Rattle.table.proofs.questions.copy_splits.Tie as tie
+use Rattle.answers.specs.FrontLaws.{copied-length, copied-more, copied-all}
 
 abbrev Inv-loop : tie.InvT-loop
 Inv-loop s masks₀ counts₀ held k₀ masks counts k =

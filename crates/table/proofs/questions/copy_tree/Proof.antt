@@ -6,9 +6,10 @@ use native.Mathlib.Omega.{arith}
 use lib.ListN.{length, take, drop}
 use Rattle.layout.specs.Store.{treeAt}
 use Rattle.rows.specs.ReadLaws.{tree-most}
-use Rattle.table.specs.FrontLaws.{copied-length, copied-more, copied-all}
+use Rattle.answers.specs.FrontLaws.{copied-length, copied-more, copied-all}
 use Rattle.table.proofs.questions.copy_tree.Statement.{statement}
 use Rattle.table.proofs.questions.copy_tree.Tie as tie
+use Rattle.answers.specs.FrontLaws.{copied-length, copied-more, copied-all}
 
 abbrev Inv-loop : tie.InvT-loop
 Inv-loop s i masks₀ n j₀ masks j = (j ≤ n) × (n ≤ 62) × (masks ≡ take j (treeAt s i) ++ drop j masks₀)

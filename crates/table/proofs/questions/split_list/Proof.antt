@@ -3,8 +3,9 @@ use mathlib.Core.Logic.{inl, inr}
 use native.Mathlib.Omega.{arith}
 use borrow.Author.Needs.{needs}
 use Rattle.opening.specs.GivenLaws.{failed, passed}
+use Rattle.store.specs.LentLaws.{not-whole}
 use Rattle.rows.specs.ReadLaws.{long}
-use Rattle.table.specs.FilledLaws.{list-refused, list-short, list-given}
+use Rattle.table.specs.SplitListLaws.{list-refused, list-short, list-given}
 use Rattle.table.proofs.questions.split_list.Statement.{statement}
 use Rattle.table.proofs.questions.split_list.Tie as tie
 
@@ -29,7 +30,7 @@ split-list-spec =
     tie.close
     (tie.spec
     (λ c κs. search needs)
-    (λ c. list-refused _ _ _ (failed _ _ (c .before .is-whole .ensures) (c .if1 .taken)))
+    (λ c. list-refused _ _ _ _ (not-whole _ _ (failed _ _ (c .before .is-whole .ensures) (c .if1 .taken))))
     (λ c κs. long _ (passed _ _ (c .before .is-whole .ensures) (c .if1 .left)))
     returns-2
     returns-3

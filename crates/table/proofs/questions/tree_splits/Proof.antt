@@ -1,20 +1,26 @@
 -- `table::questions::tree_splits` meets its contract. Assumes nothing.
 use native.Mathlib.Omega.{arith}
 use borrow.Author.Needs.{needs}
+use Rattle.answers.specs.AnswerLaws.{filled-refused, filled-short, filled-given}
 use Rattle.opening.specs.GivenLaws.{failed, passed}
+use Rattle.store.specs.LentLaws.{not-whole}
 use Rattle.rows.specs.ReadLaws.{long}
-use Rattle.table.specs.FilledLaws.{tree-refused, tree-missing, tree-short, tree-given}
+use Rattle.table.specs.QuestionLaws.{tree-missing, tree-found}
 use Rattle.table.proofs.questions.tree_splits.Statement.{statement}
 use Rattle.table.proofs.questions.tree_splits.Tie as tie
 
 returns-2 : tie.Need-returns-2
-returns-2 c = tree-missing _ _ _ (passed _ _ (c .before .before .before .before .is-whole .ensures) (c .before .before .before .if1 .left)) (omega arith)
+returns-2 c =
+    let w = passed _ _ (c .before .before .before .before .is-whole .ensures) (c .before .before .before .if1 .left) in
+    filled-refused _ _ _ (tree-missing _ w _ _ (omega arith))
 
 splits-in-requires : tie.Need-splits-in-requires
 splits-in-requires c κs = (passed _ _ (c .before .before .before .before .is-whole .ensures) (c .before .before .before .if1 .left), omega arith)
 
 returns-3 : tie.Need-returns-3
-returns-3 c = tree-short _ _ _ (passed _ _ (c .before .before .before .before .before .before .is-whole .ensures) (c .before .before .before .before .before .if1 .left)) (omega arith) (omega arith)
+returns-3 c =
+    let w = passed _ _ (c .before .before .before .before .before .before .is-whole .ensures) (c .before .before .before .before .before .if1 .left) in
+    filled-short _ _ _ (tree-found _ w _ _ (omega arith)) (omega arith)
 
 copy-tree-requires : tie.Need-copy-tree-requires
 copy-tree-requires c κs =
@@ -25,14 +31,14 @@ returns-4 : tie.Need-returns-4
 returns-4 c =
     let d = c .before .before .before .before .before in
     let w = passed _ _ (d .before .before .before .before .before .is-whole .ensures) (d .before .before .before .before .if1 .left) in
-    tree-given _ _ _ w (omega arith) _ _ (d .splits-in .ensures) (omega arith) (c .before .before .copy-tree .ensures)
+    filled-given _ _ _ (tree-found _ w _ _ (omega arith)) _ _ (d .splits-in .ensures) (omega arith) (c .before .before .copy-tree .ensures)
 
 pub tree-splits-spec : {M : Type 1} → statement M
 tree-splits-spec =
     tie.close
     (tie.spec
     (λ c κs. search needs)
-    (λ c. tree-refused _ _ _ (failed _ _ (c .before .is-whole .ensures) (c .if1 .taken)))
+    (λ c. filled-refused _ _ _ (not-whole _ _ (failed _ _ (c .before .is-whole .ensures) (c .if1 .taken))))
     (λ c κs. long _ (passed _ _ (c .before .is-whole .ensures) (c .if1 .left)))
     returns-2
     splits-in-requires

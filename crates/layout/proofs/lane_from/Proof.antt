@@ -1,10 +1,10 @@
--- `lanes::lane_from` meets its contract: the definition. Assumes nothing.
+-- `layout::lane_from` meets its contract: the definition. Assumes nothing.
 use native.Mathlib.Omega.{arith}
 use mathlib.Core.Path.{refl}
 use borrow.Author.Needs.{needs}
 use Rattle.layout.specs.Store.{laneFrom}
-use Rattle.lanes.proofs.lane_from.Statement.{statement}
-use Rattle.lanes.proofs.lane_from.Tie as tie
+use Rattle.layout.proofs.lane_from.Statement.{statement}
+use Rattle.layout.proofs.lane_from.Tie as tie
 
 returns : tie.Need-returns
 unfolding laneFrom

@@ -14,12 +14,13 @@ use lib.ListN.{length, getD}
 use Rattle.trees.specs.Consensus.{recorded, count}
 use Rattle.head.specs.Head.{fromTo, upTo}
 use Rattle.head.specs.HeadLaws.{upTo-length, upTo-at, upTo-same}
-use Rattle.layout.specs.Store.{splitsHeldAt, countAt, orderAt, splitAt, heldAt}
-use Rattle.layout.specs.StoreLaws.{split-is, masks-is}
+use Rattle.layout.specs.Store.{partsAt, splitsHeldAt, countAt, orderAt, splitAt, heldAt}
+use Rattle.layout.specs.StoreLaws.{shaped-at}
 use Rattle.layout.specs.WholeStore.{wholeAt}
 use Rattle.layout.specs.WholeFacts.{whole-at-facts}
+use Rattle.layout.specs.OrderLaws.{masks-are}
 use Rattle.store.specs.RecordedAtLaws.{count-at, recorded-at}
-use Rattle.table.specs.Counts.{splitCount, countsAt}
+use Rattle.store.specs.Counts.{splitCount, countsAt}
 
 module _ (s : List ℕ) where
   pub counts-length : length (countsAt s) ≡ splitsHeldAt s
@@ -47,11 +48,11 @@ module _ (f g : ℕ → ℕ) where
 module _ (s : List ℕ) (w : wholeAt s ≡ true) where
   pub split-count : (k : ℕ) → k < splitsHeldAt s → count (heldAt s .trees) (splitAt s k) ≡ splitCount s k
   unfolding splitCount
-  split-count k h = rw (split-is s k) (count-at s w (orderAt s k) (whole-at-facts s w .splits .rows-below k h))
+  split-count k h = count-at s w (orderAt s k) (whole-at-facts s w .splits .rows-below k h)
 
   pub counts-at : map (count (heldAt s .trees)) (recorded (heldAt s .trees)) ≡ countsAt s
   unfolding countsAt
   counts-at =
-      rw (recorded-at s w, masks-is s)
+      rw (recorded-at s w, masks-are (partsAt s) (shaped-at s .order))
       (map-upTo (count (heldAt s .trees)) (splitAt s) (splitsHeldAt s)
       ∙ upTo-same (λ k. count (heldAt s .trees) (splitAt s k)) (splitCount s) (splitsHeldAt s) split-count)
