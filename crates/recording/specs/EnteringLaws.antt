@@ -19,23 +19,21 @@ use lib.Seq.{take-suc, take-length, drop-cons, drop-length}
 use borrow.Author.Tests.{eqb-true, eqb-false}
 use Rattle.trees.specs.Plain.{member}
 use Rattle.trees.specs.Opening.{Numbers}
-use Rattle.trees.specs.Consensus.{count}
-use Rattle.theorems.specs.ListLaws.{Mem, mem-member, member-not, keep-most}
+use Rattle.theorems.specs.ListLaws.{less-or-not, Mem, mem-getD, mem-member, member-not}
 use Rattle.theorems.specs.RisingLaws.{Rising}
-use Rattle.theorems.specs.OpeningLaws.{good-opening}
 use Rattle.fields.specs.Field.{number, put}
 use Rattle.fields.specs.FieldLaws.{put-length, put-outside, number-put, number-put-outside}
 use Rattle.head.specs.Head.{fromTo, upTo, numbersAt, openingAt}
 use Rattle.head.specs.HeadLaws.{upTo-same}
 use Rattle.layout.specs.Columns.{columnAt, column-same, column-beside, column-more, upTo-more}
-use Rattle.layout.specs.Store.{laneFrom, treeFrom, masksFrom, identifiersFrom, countsFrom, linksFrom, orderFrom, placesFrom, sizeAt, listFrom, partsAt, treesHeldAt, splitsHeldAt, maskAt, countAt}
-use Rattle.layout.specs.StoreLaws.{lane-from, tree-from, masks-from, identifiers-from, counts-from, links-from, order-from, places-from, size-is, trees-held-is, splits-held-is, count-is, list-length, length-is}
-use Rattle.layout.specs.WholeStore.{listedIn}
+use Rattle.layout.specs.Store.{treeFrom, masksFrom, identifiersFrom, countsFrom, linksFrom, orderFrom, placesFrom, sizeAt, listFrom, partsAt, treesHeldAt, splitsHeldAt, maskAt, countAt}
+use Rattle.layout.specs.StoreLaws.{tree-from, masks-from, identifiers-from, counts-from, links-from, order-from, places-from, size-is, trees-held-is, splits-held-is, count-is, list-length, length-is}
 use Rattle.layout.specs.WholeFacts.{HeadAt}
 use Rattle.layout.specs.Sound.{Sound}
-use Rattle.layout.specs.UpToLaws.{less-or-not, mem-map, mem-getD}
+use Rattle.layout.specs.UpToLaws.{mem-map, listed-most}
+use Rattle.layout.specs.InsideLaws.{ranges}
+use Rattle.layout.specs.KeptLaws.{Kept, number-kept, lists-kept, lengths-kept, texts-kept, numbers-kept, opening-kept}
 use Rattle.recording.specs.Listed.{oneIf, withList, Rows, Listed}
-use Rattle.recording.specs.KeptLaws.{Kept, number-kept, list-kept, text-kept, numbers-kept, opening-kept}
 
 -- ---- where things lie
 
@@ -52,10 +50,9 @@ pub record Room (s : List ℕ) : Type 0 where
   pub reached : sizeAt s ≤ length s
 
 pub room-is : (s : List ℕ) → HeadAt s → treesHeldAt s < numbersAt s .treeRoom → Room s
-unfolding openingAt
 room-is s g h =
     let n = numbersAt s in
-    let r = good-opening (openingAt s) (g .opening-good) .ranges in
+    let r = ranges s g in
     let f = g .splits-fit in
     let l = links-from n in
     record {
@@ -109,10 +106,9 @@ module _ (s rs : List ℕ) (z : Room s) (f : Sound (openingAt s) (partsAt s)) (r
 
     -- no count exceeds the number of trees
     pub entering-fits : (x < 65536) × (at + 4 ≤ length s) × (number 4 (put 2 u to x) at ≤ 1024)
-    unfolding listedIn count oneIf
+    unfolding oneIf
     entering-fits =
-        let a = keep-most (member x) (take (treesHeldAt s) (partsAt s .lists)) in
-        let b = ap (λ (l : List (List ℕ)). length l) (take-length (partsAt s .lists)) in
+        let a = listed-most (partsAt s) x (treesHeldAt s) (omega arith) in
         let c = rw (mem-member x rs mem) at (e .counts x row) in
         (omega (arith, row, z .few), omega (arith, row, z), rw (beside at (omega arith), p) (omega (arith, f .counts x row, z .few)))
 
@@ -182,12 +178,8 @@ module _ (s rs : List ℕ) (z : Room s) (f : Sound (openingAt s) (partsAt s)) (r
         rw y (number-put-outside 4 2 _ 10 _ _ (inr (omega (arith, z))) ∙ number-put-outside 4 2 u _ _ _ (inr (omega (arith, z)))) in
         omega (arith, rw (drop-length rs) at (e .counts k h))
 
-    old : (i : ℕ) → i < number 2 s 10 → listFrom t (treeFrom n i) ≡ listFrom s (treeFrom n i)
-    old i h =
-        let k : i < treesHeldAt s = omega (arith, trees-held-is s) in
-        let a = tree-from n i in
-        let b = tree-from n (treesHeldAt s) in
-        list-kept s t 12 (nextFrom s) before (treeFrom n i) (omega arith) (omega (arith, f .lists i k .few, list-length s i k))
+    few : (i : ℕ) → i < number 2 s 10 → number 2 s (treeFrom n i) ≤ 62
+    few i h = let k : i < treesHeldAt s = omega (arith, trees-held-is s) in omega (arith, f .lists i k .few, list-length s i k)
 
     new : listFrom t (nextFrom s) ≡ rs
     unfolding listFrom
@@ -202,14 +194,12 @@ module _ (s rs : List ℕ) (z : Room s) (f : Sound (openingAt s) (partsAt s)) (r
         ∙ e .rows
         ∙ take-length rs)
 
-    lane : (k : ℕ) → k < n .lanes → (12 ≤ laneFrom k) × (laneFrom k + 4104 ≤ nextFrom s)
-    lane k h = (omega (arith, lane-from k), omega (arith, lane-from k, z .list))
-
     parts : partsAt t ≡ withList rs (partsAt s)
     unfolding partsAt withList columnAt openingAt
     parts =
         let m = numbers-kept s t front in
         let c = splits-held-is s in
+        let b = tree-from n 0 in
         rw (
           m,
           ap (λ (x : Numbers). x .places) m,
@@ -224,12 +214,11 @@ module _ (s rs : List ℕ) (z : Room s) (f : Sound (openingAt s) (partsAt s)) (r
           column-same 2 (orderFrom n) (number 2 s 12) t s (λ i a b. behind i (omega (arith, z .links))),
           column-same 2 (placesFrom n) (n .places) t s (λ i a b. behind i (omega (arith, z .links))),
           upTo-more (λ i. listFrom t (treeFrom n i)) (number 2 s 10),
-          upTo-same _ _ (number 2 s 10) old,
+          lists-kept s t 12 (nextFrom s) before n (number 2 s 10) (omega (arith, b)) (omega (arith, tree-from n (number 2 s 10), tree-from n (treesHeldAt s), trees-held-is s)) few,
           ← trees-held-is s,
           new,
-          upTo-same _ _ (n .lanes) (λ k h. number-kept s t 12 (nextFrom s) before 2 (laneFrom k) (lane k h .0) (omega (arith, lane k h))),
-          upTo-same _ _ (n .lanes) (λ k h.
-              text-kept s t 12 (nextFrom s) before (omega (arith, z)) size (laneFrom k) (lane k h .0) (omega (arith, f .lanes k h, length-is s k h)) (lane k h .1)),
+          lengths-kept s t 12 (nextFrom s) before n (omega arith) (omega (arith, b, z .list)),
+          texts-kept s t 12 (nextFrom s) before n (omega arith) (omega (arith, b, z .list)) (omega (arith, z)) size (λ k h. omega (arith, f .lanes k h, length-is s k h)),
         )
 
     pub entered : ((i : ℕ) → getD s i 0 < 256) → Listed s rs t

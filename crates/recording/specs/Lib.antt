@@ -2,6 +2,5 @@
 pub mod Added
 pub mod Listed
 pub mod ListSoundLaws
-pub mod KeptLaws
 pub mod EnteringLaws
 pub mod Recording

@@ -16,13 +16,15 @@ use Rattle.trees.specs.Plain.{if_then_else_, member}
 use Rattle.trees.specs.Consensus.{count}
 use Rattle.trees.specs.Opening.{Opening}
 use Rattle.trees.specs.Held.{withTree}
+use Rattle.theorems.specs.ListLaws.{less-or-not}
 use Rattle.theorems.specs.RisingLaws.{true-rising}
 use Rattle.head.specs.HeadLaws.{upTo-length, upTo-at}
 use Rattle.layout.specs.Store.{Parts, splitsIn, treesIn, maskIn, countIn, heldIn}
-use Rattle.layout.specs.WholeStore.{listedIn, highestIn}
+use Rattle.layout.specs.WholeStore.{listedIn}
 use Rattle.layout.specs.WholeFacts.{ListIn}
 use Rattle.layout.specs.Sound.{Sound}
-use Rattle.layout.specs.UpToLaws.{less-or-not, count-append}
+use Rattle.layout.specs.UpToLaws.{count-append}
+use Rattle.layout.specs.HighestLaws.{highest-same}
 use Rattle.recording.specs.Listed.{oneIf, withList, Rows}
 
 module _ (rs : List ℕ) (p : Parts) where
@@ -55,13 +57,6 @@ module _ (rs : List ℕ) (p : Parts) where
           let e = getD-at (p .lists) rs [] [] i (omega (arith, length-append (p .lists) (rs ∷ []))) in
           record { few = rw e (r .few); numbers-below = λ k m. r .below k (rw e at m); tree-rising = rw e (true-rising _ (r .rises)); agreeing = rw e (r .agrees) }
 
-  -- ---- the chains, by the masks alone
-
-  highest-kept : (h : ℕ → ℕ) (q k : ℕ) → highestIn h (withList rs p) q k ≡ highestIn h p q k
-  unfolding highestIn withList
-  highest-kept h q zero = refl
-  highest-kept h q (suc k) = ap (λ (n : ℕ). if eqb (h (maskIn p k)) q then suc k else n) (highest-kept h q k)
-
 module _ (o : Opening) (rs : List ℕ) (p : Parts) where
   pub list-held : heldIn o (withList rs p) ≡ withTree (heldIn o p) (map (maskIn p) rs)
   unfolding heldIn withList withTree
@@ -83,6 +78,6 @@ module _ (o : Opening) (rs : List ℕ) (p : Parts) where
         splits = record { rows-below = b .rows-below; masks-proper = b .masks-proper; masks-rising = b .masks-rising; identifiers = b .identifiers };
         lists = each-list rs p r (f .lists);
         counts = λ k h. list-counted rs p k h ∙ rw (f .counts k h) (sym (listed-more rs p k));
-        chains = record { links = λ k h. c .links k h ∙ sym (highest-kept rs p _ _ k); starts = λ q h. c .starts q h ∙ sym (highest-kept rs p _ q (splitsIn p)) };
+        chains = record { links = λ k h. c .links k h ∙ sym (highest-same _ p (withList rs p) _ k (λ i l. refl)); starts = λ q h. c .starts q h ∙ sym (highest-same _ p (withList rs p) q (splitsIn p) (λ i l. refl)) };
         lanes = f .lanes;
       }
