@@ -19,7 +19,7 @@ use lib.Seq.{take-suc, take-length, drop-cons, drop-length}
 use borrow.Author.Tests.{eqb-true, eqb-false}
 use Rattle.trees.specs.Plain.{member}
 use Rattle.trees.specs.Opening.{Numbers}
-use Rattle.theorems.specs.ListLaws.{less-or-not, Mem, mem-getD, mem-member, member-not}
+use Rattle.theorems.specs.ListLaws.{less-or-not, mem-getD, mem-member, member-not}
 use Rattle.theorems.specs.RisingLaws.{Rising}
 use Rattle.fields.specs.Field.{number, put}
 use Rattle.fields.specs.FieldLaws.{put-length, put-outside, number-put, number-put-outside}
@@ -42,7 +42,7 @@ nextFrom s = treeFrom (numbersAt s) (treesHeldAt s)
 
 pub record Room (s : List ℕ) : Type 0 where
   pub few : (numbersAt s .taxa ≤ 64) × (treesHeldAt s ≤ 1023) × (splitsHeldAt s ≤ 4096)
-  pub list : (4096 + 4104 * numbersAt s .lanes ≤ nextFrom s) × (nextFrom s + 128 ≤ masksFrom (numbersAt s))
+  pub list : (4096 ≤ treeFrom (numbersAt s) 0) × (treeFrom (numbersAt s) 0 ≤ nextFrom s) × (nextFrom s + 128 ≤ masksFrom (numbersAt s))
   pub masks : masksFrom (numbersAt s) + 8 * splitsHeldAt s ≤ identifiersFrom (numbersAt s)
   pub identifiers : identifiersFrom (numbersAt s) + 8 * splitsHeldAt s ≤ countsFrom (numbersAt s)
   pub counts : countsFrom (numbersAt s) + 4 * splitsHeldAt s ≤ linksFrom (numbersAt s)
@@ -54,14 +54,14 @@ room-is s g h =
     let n = numbersAt s in
     let r = ranges s g in
     let f = g .splits-fit in
-    let l = links-from n in
+    let a = tree-from n (treesHeldAt s) in
     record {
       few = (r .most-taxa, omega (arith, r .most-trees), omega (arith, r .most-splits));
-      list = (omega (arith, tree-from n (treesHeldAt s)), omega (arith, tree-from n (treesHeldAt s), masks-from n));
+      list = (omega (arith, tree-from n 0), omega (arith, tree-from n 0), omega (arith, masks-from n));
       masks = omega (arith, identifiers-from n);
       identifiers = omega (arith, identifiers-from n, counts-from n);
-      counts = omega (arith, counts-from n);
-      links = (omega (arith, order-from n), omega (arith, places-from n), omega (arith, size-is s));
+      counts = omega (arith, counts-from n, links-from n);
+      links = (omega (arith, links-from n, order-from n), omega (arith, links-from n, places-from n), omega (arith, links-from n, size-is s));
       reached = g .reached;
     }
 
@@ -88,11 +88,8 @@ module _ (s rs : List ℕ) (z : Room s) (f : Sound (openingAt s) (partsAt s)) (r
   -- the next row x is put at `to`, and its count is at `at`
   module _ (j : ℕ) (u : List ℕ) (e : Entering s rs j u) (h : j < length rs)
       (x to at : ℕ) (d : x ≡ getD rs j 0) (o : to ≡ nextFrom s + 2 + 2 * j) (p : at ≡ countsFrom n + 4 * x) where
-    mem : Mem x rs
-    mem = rw d (mem-getD rs j h)
-
     row : x < splitsHeldAt s
-    row = r .below x mem
+    row = rw d (r .below (getD rs j 0) (mem-getD rs j h))
 
     -- the rows behind it
     abbrev ys : List ℕ
@@ -109,7 +106,7 @@ module _ (s rs : List ℕ) (z : Room s) (f : Sound (openingAt s) (partsAt s)) (r
     unfolding oneIf
     entering-fits =
         let a = listed-most (partsAt s) x (treesHeldAt s) (omega arith) in
-        let c = rw (mem-member x rs mem) at (e .counts x row) in
+        let b = rw (mem-member x rs (rw d (mem-getD rs j h))) at (e .counts x row) in
         (omega (arith, row, z .few), omega (arith, row, z), rw (beside at (omega arith), p) (omega (arith, f .counts x row, z .few)))
 
     module _ (v : ℕ) (q : v ≡ number 4 (put 2 u to x) at) where
@@ -178,17 +175,12 @@ module _ (s rs : List ℕ) (z : Room s) (f : Sound (openingAt s) (partsAt s)) (r
         rw y (number-put-outside 4 2 _ 10 _ _ (inr (omega (arith, z))) ∙ number-put-outside 4 2 u _ _ _ (inr (omega (arith, z)))) in
         omega (arith, rw (drop-length rs) at (e .counts k h))
 
-    few : (i : ℕ) → i < number 2 s 10 → number 2 s (treeFrom n i) ≤ 62
-    few i h = let k : i < treesHeldAt s = omega (arith, trees-held-is s) in omega (arith, f .lists i k .few, list-length s i k)
-
     new : listFrom t (nextFrom s) ≡ rs
     unfolding listFrom
     new =
-        rw (
-          y,
-          number-put-outside 2 2 _ 10 (treesHeldAt s + 1) (nextFrom s) (inr (omega (arith, z .list)))
-              ∙ number-put 2 u (nextFrom s) (length rs) (omega (arith, e .size, z)) (omega (arith, r .few)),
-        )
+        let a = number-put-outside 2 2 (put 2 u (nextFrom s) (length rs)) 10 (treesHeldAt s + 1) (nextFrom s) (inr (omega (arith, z .list))) in
+        let b = number-put 2 u (nextFrom s) (length rs) (omega (arith, e .size, z)) (omega (arith, r .few)) in
+        rw (y, a, b)
         (column-beside 2 (nextFrom s + 2) (length rs) 2 10 _ _ (inl (omega (arith, z .list)))
         ∙ column-beside 2 (nextFrom s + 2) (length rs) 2 (nextFrom s) _ u (inl (omega arith))
         ∙ e .rows
@@ -199,7 +191,6 @@ module _ (s rs : List ℕ) (z : Room s) (f : Sound (openingAt s) (partsAt s)) (r
     parts =
         let m = numbers-kept s t front in
         let c = splits-held-is s in
-        let b = tree-from n 0 in
         rw (
           m,
           ap (λ (x : Numbers). x .places) m,
@@ -214,11 +205,13 @@ module _ (s rs : List ℕ) (z : Room s) (f : Sound (openingAt s) (partsAt s)) (r
           column-same 2 (orderFrom n) (number 2 s 12) t s (λ i a b. behind i (omega (arith, z .links))),
           column-same 2 (placesFrom n) (n .places) t s (λ i a b. behind i (omega (arith, z .links))),
           upTo-more (λ i. listFrom t (treeFrom n i)) (number 2 s 10),
-          lists-kept s t 12 (nextFrom s) before n (number 2 s 10) (omega (arith, b)) (omega (arith, tree-from n (number 2 s 10), tree-from n (treesHeldAt s), trees-held-is s)) few,
+          lists-kept s t 12 (nextFrom s) before n (number 2 s 10) (omega (arith, z .list)) (omega (arith, tree-from n (number 2 s 10), tree-from n (treesHeldAt s), trees-held-is s)) (λ i h.
+              let k : i < treesHeldAt s = omega (arith, trees-held-is s) in
+              omega (arith, f .lists i k .few, list-length s i k)),
           ← trees-held-is s,
           new,
-          lengths-kept s t 12 (nextFrom s) before n (omega arith) (omega (arith, b, z .list)),
-          texts-kept s t 12 (nextFrom s) before n (omega arith) (omega (arith, b, z .list)) (omega (arith, z)) size (λ k h. omega (arith, f .lanes k h, length-is s k h)),
+          lengths-kept s t 12 (nextFrom s) before n (omega arith) (z .list .1),
+          texts-kept s t 12 (nextFrom s) before n (omega arith) (z .list .1) (omega (arith, z)) size (λ k h. omega (arith, f .lanes k h, length-is s k h)),
         )
 
     pub entered : ((i : ℕ) → getD s i 0 < 256) → Listed s rs t

@@ -3,13 +3,12 @@
 --   list-held        what they hold has the tree behind the others
 --   list-counted     each split of the tree counts one more
 --   list-sound       sound parts stay sound
-use Prim.Native.Nat.{ℕ, zero, suc, _+_, _<_, _≤_}
+use Prim.Native.Nat.{ℕ, suc, _+_, _<_, _≤_}
 use native.Mathlib.Omega.{arith}
 use mathlib.Core.Path.{_≡_, refl, sym, ap, _∙_}
 use mathlib.Core.Logic.{_⊎_, inl, inr}
 use mathlib.Core.Bool.{Bool, true, false}
 use mathlib.Core.List.{List, [], _∷_, _++_, map}
-use lib.Dec.{eqb}
 use lib.ListN.{length-append, List·getD-append}
 use lib.Seq.{take-length, getD-at}
 use Rattle.trees.specs.Plain.{if_then_else_, member}
@@ -28,8 +27,6 @@ use Rattle.layout.specs.HighestLaws.{highest-same}
 use Rattle.recording.specs.Listed.{oneIf, withList, Rows}
 
 module _ (rs : List ℕ) (p : Parts) where
-  -- ---- the counts
-
   pub list-counted : (k : ℕ) → k < splitsIn p → countIn (withList rs p) k ≡ countIn p k + oneIf (member k rs)
   unfolding withList
   list-counted k h = upTo-at (λ i. countIn p i + oneIf (member i rs)) (splitsIn p) k 0 h
@@ -41,8 +38,6 @@ module _ (rs : List ℕ) (p : Parts) where
       one : (b : Bool) (n : ℕ) → (if b then suc n else n) ≡ n + (if b then 1 else 0)
       one true n = omega arith
       one false n = omega arith
-
-  -- ---- the lists
 
   each-list : Rows p rs → ((i : ℕ) → i < treesIn p → ListIn p i) → (i : ℕ) → i < treesIn (withList rs p) → ListIn (withList rs p) i
   unfolding withList
