@@ -205,7 +205,7 @@ module _ (s rs : List ℕ) (z : Room s) (f : Sound (openingAt s) (partsAt s)) (r
           column-same 2 (orderFrom n) (number 2 s 12) t s (λ i a b. behind i (omega (arith, z .links))),
           column-same 2 (placesFrom n) (n .places) t s (λ i a b. behind i (omega (arith, z .links))),
           upTo-more (λ i. listFrom t (treeFrom n i)) (number 2 s 10),
-          lists-kept s t 12 (nextFrom s) before n (number 2 s 10) (omega (arith, z .list)) (omega (arith, tree-from n (number 2 s 10), tree-from n (treesHeldAt s), trees-held-is s)) (λ i h.
+          lists-kept s t 12 (nextFrom s) before n (number 2 s 10) (omega (arith, z .list)) (omega (arith, ap (treeFrom n) (trees-held-is s))) (λ i h.
               let k : i < treesHeldAt s = omega (arith, trees-held-is s) in
               omega (arith, f .lists i k .few, list-length s i k)),
           ← trees-held-is s,

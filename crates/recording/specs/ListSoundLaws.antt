@@ -73,6 +73,6 @@ module _ (o : Opening) (rs : List ℕ) (p : Parts) where
         splits = record { rows-below = b .rows-below; masks-proper = b .masks-proper; masks-rising = b .masks-rising; identifiers = b .identifiers };
         lists = each-list rs p r (f .lists);
         counts = λ k h. list-counted rs p k h ∙ rw (f .counts k h) (sym (listed-more rs p k));
-        chains = record { links = λ k h. c .links k h ∙ sym (highest-same _ p (withList rs p) _ k (λ i l. refl)); starts = λ q h. c .starts q h ∙ sym (highest-same _ p (withList rs p) q (splitsIn p) (λ i l. refl)) };
+        chains = record { links = λ k h. c .links k h ∙ highest-same _ _ p _ k (λ i l. refl); starts = λ q h. c .starts q h ∙ highest-same _ _ p q _ (λ i l. refl) };
         lanes = f .lanes;
       }
