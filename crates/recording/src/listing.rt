@@ -20,8 +20,14 @@ pub(crate) fn list_tree(s: &mut [u8], n: usize, rows: &[u64])
     let trees = layout::trees_held(s);
     let from = layout::tree_from(s, Tree(trees));
     let counts = layout::counts_from(s);
-    write_rows(s, from + 2, n, rows);
+    let mut j = 0;
+    while j < n {
+        let row = rows[j];
+        let at = counts + 4 * row as usize;
+        fields::put16(s, from + 2 + 2 * j, row as u16);
+        fields::put32(s, at, fields::get32(s, at) + 1);
+        j += 1;
+    }
     fields::put16(s, from, n as u16);
-    add_counts(s, counts, n, rows);
     fields::put16(s, 10, (trees + 1) as u16);
 }
