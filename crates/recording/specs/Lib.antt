@@ -2,3 +2,5 @@
 pub mod Added
 pub mod Listed
 pub mod Recording
+pub mod RowLaws
+pub mod SplitSoundLaws
