@@ -3,9 +3,7 @@ pub mod RecordedAtLaws
 pub mod HeldWholeLaws
 pub mod Chain
 pub mod ChainLaws
-pub mod PartFrameLaws
 pub mod HeadKeptLaws
-pub mod FrameLaws
 pub mod Sums
 pub mod SumLaws
 pub mod GoodHeadLaws

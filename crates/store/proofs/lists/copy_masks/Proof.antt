@@ -21,21 +21,24 @@ recorded c κs =
     let p = c .before .before .before .before .before .before .pre in
     let l = c .before .before .loop in
     let a = c .before .before .before .before .before .before .args in
-    let k = number-recorded (a .s .now) (a .i) (l .j) _ _ (p .1 .1 .1 .1 .0) (omega arith) (omega arith) (c .number16 .ensures .0) in
+    let k = number-recorded (a .s .now) (a .i) (p .1 .0) (l .j) _ _ (omega arith) (omega arith) (c .number16 .ensures .0) (p .1 .1 .1 .1 .0) in
     omega (arith, masks-inside _ (good-head _ (p .0)))
 
 loop-again : tie.Need-loop-again Inv-loop μ-loop
 loop-again c =
+    let p = c .before .before .before .before .before .before .before .pre in
     let a = c .before .before .before .before .before .before .before .args in
     let l = c .before .before .before .loop in
-    let n = tree-length (a .s .now) (a .i) in
-    let q = tree-mask (a .s .now) (a .i) (l .j) _ _ _ _ (omega arith) (omega arith) (c .before .number16 .ensures .0) (omega arith) (c .get64 .ensures) in
+    let n = tree-length (a .s .now) (a .i) (p .1 .0) in
+    let x = number-recorded (a .s .now) (a .i) (p .1 .0) (l .j) _ _ (omega arith) (omega arith) (c .before .number16 .ensures .0) (p .1 .1 .1 .1 .0) in
+    let q = tree-mask (a .s .now) (a .i) (p .1 .0) (l .j) _ _ (omega arith) (omega arith) (c .before .number16 .ensures .0) _ _ x (omega arith) (c .get64 .ensures) in
     (omega arith, simp length-set (l .inv .1), copied-more _ (treeAt (a .s .now) (a .i)) _ _ (omega arith) (omega arith) (l .inv .2) q)
 
 returns : tie.Need-returns Inv-loop μ-loop
 returns c =
+    let p = c .before .before .before .before .before .pre in
     let a = c .before .before .before .before .before .args in
-    let n = tree-length (a .s .now) (a .i) in
+    let n = tree-length (a .s .now) (a .i) (p .1 .0) in
     let e : c .before .loop .j ≡ a .n = omega arith in
     (rw e at (c .before .loop .inv .2) ∙ take-all (a .n) _ (omega arith), c .before .loop .inv .1)
 
