@@ -6,3 +6,9 @@ pub mod ListSoundLaws
 pub mod Recording
 pub mod RowLaws
 pub mod SplitSoundLaws
+pub mod Rows
+pub mod WithSplitsLaws
+pub mod TreeRowLaws
+pub mod WalkLaws
+pub mod TreeLaws
+pub mod FillLaws

@@ -64,16 +64,16 @@ module _ (o : Opening) where
       last x h (inl e) = omega (arith, f .rises .0 x h)
 
   module _ (some : 1 ≤ o .numbers .places) where
+    first-sound : (m : ℕ) (ms : List ℕ) (p : Parts) → Sound o p → Fresh (o .numbers .taxa) p (m ∷ ms) → Sound o (withSplit o m p)
+    first-sound m ms p f g = split-sound o m p f (g .allProper m (inl refl)) (not-yet p f m (g .new m (inl refl))) some
+
     pub with-sound : (ms : List ℕ) (p : Parts) → Sound o p → Fresh (o .numbers .taxa) p ms → Sound o (withSplits o ms p)
     unfolding withSplits
     with-sound [] p f g = f
     with-sound (m ∷ ms) p f g =
-        with-sound ms (withSplit o m p) (split-sound o m p f some (g .allProper m (inl refl)) (not-yet p f m (g .new m (inl refl)))) (fresh-next m ms p g)
+        with-sound ms (withSplit o m p) (first-sound m ms p f g) (fresh-next m ms p g)
 
     pub with-held : (ms : List ℕ) (p : Parts) → Sound o p → Fresh (o .numbers .taxa) p ms → heldIn o (withSplits o ms p) ≡ heldIn o p
     unfolding withSplits
     with-held [] p f g = refl
-    with-held (m ∷ ms) p f g =
-        let a = g .allProper m (inl refl) in
-        let b = not-yet p f m (g .new m (inl refl)) in
-        with-held ms (withSplit o m p) (split-sound o m p f some a b) (fresh-next m ms p g) ∙ split-held o m p f some a b
+    with-held (m ∷ ms) p f g = with-held ms (withSplit o m p) (first-sound m ms p f g) (fresh-next m ms p g) ∙ split-held o m p f
