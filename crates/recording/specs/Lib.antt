@@ -12,3 +12,4 @@ pub mod TreeRowLaws
 pub mod WalkLaws
 pub mod TreeLaws
 pub mod FillLaws
+pub mod GrownLaws

@@ -3,7 +3,8 @@
 --   with-more              one more of them
 --   with-masks, with-lists     their masks stand behind the others; no list changes
 --   Fresh n p ms           ms are new to the parts p, proper for n and rise
---   not-yet                such a mask is not recorded
+--   fresh-front, fresh-last     so are those in front; and the last is none of theirs
+--   not-yet                a mask of no row is not recorded
 --   with-sound, with-held  sound parts stay sound, and hold what they held
 use Prim.Native.Nat.{ℕ, _≤_, _<_}
 use native.Mathlib.Omega.{arith}
@@ -14,7 +15,7 @@ use mathlib.Core.List.{List, [], _∷_, _++_, append-assoc, append-nil}
 use Rattle.trees.specs.Plain.{member}
 use Rattle.trees.specs.Mask.{proper}
 use Rattle.trees.specs.Opening.{Opening}
-use Rattle.theorems.specs.ListLaws.{Mem, mem-cases, member-not}
+use Rattle.theorems.specs.ListLaws.{Mem, mem-left, mem-right, mem-cases, member-not}
 use Rattle.theorems.specs.RisingLaws.{Rising}
 use Rattle.layout.specs.Store.{Parts, masksIn, heldIn}
 use Rattle.layout.specs.Sound.{Sound}
@@ -28,6 +29,25 @@ pub record Fresh (n : ℕ) (p : Parts) (ms : List ℕ) : Type 0 where
   pub allProper : (m : ℕ) → Mem m ms → proper n m ≡ true
   pub rises : Rising ms
   pub new : (m : ℕ) → Mem m ms → Mem m (p .masks) → ⊥
+
+module _ (n : ℕ) (p : Parts) where
+  rising-front : (l r : List ℕ) → Rising (l ++ r) → Rising l
+  rising-front [] r h = tt
+  rising-front (x ∷ l) r h = (λ y k. h .0 y (mem-left y l r k), rising-front l r (h .1))
+
+  rising-last : (l : List ℕ) (m : ℕ) → Rising (l ++ m ∷ []) → Mem m l → ⊥
+  rising-last (x ∷ l) m h (inl e) = omega (arith, h .0 m (mem-right m l (m ∷ []) (inl refl)))
+  rising-last (x ∷ l) m h (inr k) = rising-last l m (h .1) k
+
+  pub fresh-front : (l r : List ℕ) → Fresh n p (l ++ r) → Fresh n p l
+  fresh-front l r f = record {
+    allProper = λ m h. f .allProper m (mem-left m l r h);
+    rises = rising-front l r (f .rises);
+    new = λ m h. f .new m (mem-left m l r h);
+  }
+
+  pub fresh-last : (l : List ℕ) (m : ℕ) → Fresh n p (l ++ m ∷ []) → Mem m (p .masks ++ l) → ⊥
+  fresh-last l m f h = ⊎-elim (f .new m (mem-right m l (m ∷ []) (inl refl))) (rising-last l m (f .rises)) (mem-cases m (p .masks) l h)
 
 module _ (o : Opening) where
   pub with-more : (ms : List ℕ) (m : ℕ) (p : Parts) → withSplits o (ms ++ m ∷ []) p ≡ withSplit o m (withSplits o ms p)
