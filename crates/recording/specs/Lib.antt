@@ -13,3 +13,4 @@ pub mod WalkLaws
 pub mod TreeLaws
 pub mod FillLaws
 pub mod GrownLaws
+pub mod AcceptLaws
