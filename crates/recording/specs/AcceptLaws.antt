@@ -2,8 +2,8 @@
 --
 --   no-tree-room, no-split-room, room-enough     11, 12 or neither
 --   new-most           there are no more new ones than splits
---   front-rows         the rows as they were found
---   rows-in, trees-in  what listing the tree asks
+--   front-rows         the rows that were found stand in front
+--   in-order, trees-in, rows-in     what listing the tree asks
 --   refuses            a refusal that changes nothing
 --   records            the tree is recorded
 use Prim.Native.Nat.{ℕ, suc, _+_, _≤_, _<_}
@@ -65,8 +65,11 @@ pub new-most : (p : Parts) (n : ℕ) (rs : List ℕ) → length (newIn p (masksO
 unfolding newIn lacking
 new-most p n rs = omega (arith, keep-most (λ m. not (member m (masksIn p))) (masksOf n rs), masks-length n rs)
 
-pub front-rows : (p : Parts) (n : ℕ) (rs old rows : List ℕ) → rows ≡ rowsOf p (masksOf n rs) ++ drop n old → take n rows ≡ rowsOf p (masksOf n rs)
-front-rows p n rs old rows e = rw e (take-at (rowsOf p (masksOf n rs)) (drop n old) n (rows-length p (masksOf n rs) ∙ masks-length n rs))
+pub front-rows : (p : Parts) (n : ℕ) (rs old rows : List ℕ) → rows ≡ rowsOf p (masksOf n rs) ++ drop n old
+    → (n ≤ length rows) × (take n rows ≡ rowsOf p (masksOf n rs))
+front-rows p n rs old rows e =
+    let l : length (rowsOf p (masksOf n rs)) ≡ n = rows-length p (masksOf n rs) ∙ masks-length n rs in
+    (omega (arith, l, ap length e, length-append (rowsOf p (masksOf n rs)) (drop n old)), rw e (take-at (rowsOf p (masksOf n rs)) (drop n old) n l))
 
 pub refuses : (a : Answer (List ℕ)) (s : List ℕ) (r : Progress) (k : ℕ) → a ≡ refused k → progressGiven r ≡ refused k → Accepts a s r s
 unfolding Accepts
