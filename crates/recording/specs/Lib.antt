@@ -2,5 +2,9 @@
 pub mod Added
 pub mod Listed
 pub mod Recording
+pub mod KeptLaws
+pub mod Steps
 pub mod RowLaws
+pub mod InsertLaws
+pub mod AddedLaws
 pub mod SplitSoundLaws
