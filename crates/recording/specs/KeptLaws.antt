@@ -56,7 +56,7 @@ module _ (s t : List ℕ) (front : Kept s t 0 10) where
       rw (e 0 (omega arith) (omega arith), e 2 (omega arith) (omega arith), e 4 (omega arith) (omega arith), e 6 (omega arith) (omega arith), e 8 (omega arith) (omega arith))
 
   -- with at most 64 taxa, and bytes below 256, so that a name of any length ends inside
-  module _ (back : Kept s t 16 4096) (long : 4096 ≤ length s) (size : length t ≡ length s) (bytes : (i : ℕ) → getD s i 0 < 256) (few : number 2 s 0 ≤ 64) where
+  module _ (back : Kept s t 16 4096) (long : 4096 ≤ length s) (size : length t ≡ length s) (bytes : (i : ℕ) → getD s i 0 < 256) (few : numbersAt s .taxa ≤ 64) where
     name-kept : (i : ℕ) → i < 64 → nameAt t i ≡ nameAt s i
     unfolding nameAt
     name-kept i h =
@@ -64,7 +64,7 @@ module _ (s t : List ℕ) (front : Kept s t 0 10) where
         rw (back (16 + 33 * i) (omega arith) (omega arith)) (run-kept s t 16 4096 back long size (17 + 33 * i) (getD s (16 + 33 * i) 0) (omega arith) (omega arith))
 
     pub opening-kept : openingAt t ≡ openingAt s
-    unfolding openingAt namesAt firstAt secondAt columnAt
+    unfolding openingAt numbersAt namesAt firstAt secondAt columnAt
     opening-kept =
         rw (
           numbers-kept,

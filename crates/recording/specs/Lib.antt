@@ -6,5 +6,6 @@ pub mod KeptLaws
 pub mod Steps
 pub mod RowLaws
 pub mod InsertLaws
+pub mod NumberLaws
 pub mod AddedLaws
 pub mod SplitSoundLaws
