@@ -4,7 +4,12 @@ pub mod Listed
 pub mod Entering
 pub mod ListSoundLaws
 pub mod Recording
+pub mod KeptLaws
+pub mod Steps
 pub mod RowLaws
+pub mod InsertLaws
+pub mod NumberLaws
+pub mod AddedLaws
 pub mod SplitSoundLaws
 pub mod Rows
 pub mod WithSplitsLaws
