@@ -11,7 +11,6 @@ pub mod NeighbourLaws
 pub mod Splits
 pub mod SplitLaws
 pub mod ChainTests
-pub mod RoomLaws
 pub mod ListTests
 pub mod ListTestLaws
 pub mod Outer
