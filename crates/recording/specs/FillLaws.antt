@@ -1,97 +1,84 @@
 -- How the rows of a tree's splits are filled in, a split at a time, beside whole bytes. Assumes nothing.
 --
---   Filled p ms rows j new r     r has the rows of the first j of ms, of which `new` are new; behind them is what stood in rows
+--   Filled p rs rows j new r     r, as long as rows, has the rows of the first j records' masks, of which `new` are new
 --   filled-none                  at first there are none
 --   filled-found, filled-missing     one more
 --   filled-all                   all of them
-use Prim.Native.Nat.{ℕ, suc, _+_, _*_, _≤_, _<_}
-use native.Mathlib.Numerals.{add-one}
+use Prim.Native.Nat.{ℕ, _+_, _*_, _≤_, _<_}
 use native.Mathlib.Omega.{arith}
-use mathlib.Core.Path.{_≡_, refl, sym, ap, ap₂, _∙_}
+use mathlib.Core.Path.{_≡_, refl, sym, ap, _∙_}
+use mathlib.Core.Logic.{_⊎_, inl, inr}
 use mathlib.Core.Bool.{true, false}
-use mathlib.Core.List.{List, [], _∷_, _++_, map, append-assoc}
-use lib.ListN.{length, getD, set, take, drop, length-append, length-set}
-use lib.Seq.{length-take-le, take-suc, take-all, drop-cons, set-at}
+use mathlib.Core.List.{List, [], _∷_, _++_, append-assoc}
+use lib.ListN.{length, getD, set, length-append, length-set}
+use lib.Seq.{getD-set-same, getD-set-other, getD-at}
 use Rattle.trees.specs.Plain.{member}
-use Rattle.head.specs.Head.{openingAt}
 use Rattle.layout.specs.Store.{Parts, partsAt, splitsHeldAt, maskAt, masksAt}
 use Rattle.layout.specs.WholeStore.{wholeAt}
-use Rattle.layout.specs.Sound.{whole-sound}
-use Rattle.layout.specs.UpToLaws.{length-map, mem-getD}
-use Rattle.theorems.specs.ListLaws.{mem-member}
+use Rattle.layout.specs.UpToLaws.{less-or-not}
 use Rattle.recording.specs.declared.finding.Found.{Found}
 use Rattle.recording.specs.declared.finding.Found.the-variants.{Row, Nothing}
-use Rattle.recording.specs.Recording.{masksOf, SplitsOf, newIn, rowOf, rowsOf}
+use Rattle.recording.specs.Recording.{masksOf, newIn, Stands, RowsOf}
 use Rattle.recording.specs.Rows.{FoundAs}
-use Rattle.recording.specs.TreeRowLaws.{no-new, new-old, new-next, row-found, row-new, rows-in}
-use Rattle.recording.specs.TreeLaws.{masks-length, mask-at, some-places, tree-good}
+use Rattle.recording.specs.NewLaws.{new-none, new-old, new-next, stands-more, row-recorded}
 
-pub record Filled (p : Parts) (ms rows : List ℕ) (j new : ℕ) (r : List ℕ) : Type 0 where
+pub record Filled (p : Parts) (rs rows : List ℕ) (j new : ℕ) (r : List ℕ) : Type 0 where
   pub few : new ≤ j
   pub same-length : length r ≡ length rows
-  pub counted : new ≡ length (newIn p (take j ms))
-  pub filled : r ≡ map (rowOf (p .masks ++ newIn p ms)) (take j ms) ++ drop j rows
+  pub counted : new ≡ length (newIn p (masksOf j rs))
+  pub each : (i : ℕ) → i < j → Stands (p .masks ++ newIn p (masksOf j rs)) (getD r i 0) (getD rs (3 * i) 0)
 
-map-append : (f : ℕ → ℕ) (l r : List ℕ) → map f (l ++ r) ≡ map f l ++ map f r
-map-append f [] r = refl
-map-append f (x ∷ l) r = ap (λ (k : List ℕ). f x ∷ k) (map-append f l r)
+pub filled-none : (p : Parts) (rs rows : List ℕ) → Filled p rs rows 0 0 rows
+filled-none p rs rows = record {
+  few = omega arith;
+  same-length = refl;
+  counted = sym (ap length (new-none p rs));
+  each = λ i h. absurd (omega arith);
+}
 
-module _ (p : Parts) (ms rows : List ℕ) where
-  pub filled-none : Filled p ms rows 0 0 rows
-  filled-none = record {
-    few = omega arith;
-    same-length = refl;
-    counted = sym (ap length (no-new p));
-    filled = refl;
-  }
+pub filled-all : (p : Parts) (rs rows : List ℕ) (n new : ℕ) (r : List ℕ) → n ≤ length rows → Filled p rs rows n new r → RowsOf p n rs r
+filled-all p rs rows n new r h f = record { reach = omega (arith, f .same-length); each = f .each }
 
-  -- the row of the next mask stored
-  stored : (j new : ℕ) (r : List ℕ) → Filled p ms rows j new r → j < length ms → j < length rows
-      → set r j (rowOf (p .masks ++ newIn p ms) (getD ms j 0)) ≡ map (rowOf (p .masks ++ newIn p ms)) (take (suc j) ms) ++ drop (suc j) rows
-  stored j new r f a b =
-      let g = rowOf (p .masks ++ newIn p ms) in
-      let l : length (map g (take j ms)) ≡ j = length-map g (take j ms) ∙ length-take-le j ms (omega arith) in
-      rw (f .filled, drop-cons rows j 0 b) (set-at (map g (take j ms)) (getD rows j 0) (drop (suc j) rows) (g (getD ms j 0)) j l)
-      ∙ sym (append-assoc (map g (take j ms)) (g (getD ms j 0) ∷ []) (drop (suc j) rows))
-      ∙ ap (λ (k : List ℕ). k ++ drop (suc j) rows) (sym (map-append g (take j ms) (getD ms j 0 ∷ [])) ∙ ap (map g) (sym (take-suc ms j 0 a)))
+-- the row k of the next mask, among the masks l
+next-each : (rs r l : List ℕ) (j k : ℕ) → j < length r → ((i : ℕ) → i < j → Stands l (getD r i 0) (getD rs (3 * i) 0)) → Stands l k (getD rs (3 * j) 0)
+    → (i : ℕ) → i < j + 1 → Stands l (getD (set r j k) i 0) (getD rs (3 * i) 0)
+next-each rs r l j k b f g i h = go (less-or-not i j)
+  where
+    go : (i < j) ⊎ (j ≤ i) → Stands l (getD (set r j k) i 0) (getD rs (3 * i) 0)
+    go (inl a) = rw (getD-set-other r j i k 0 (λ e. omega arith)) (f i a)
+    go (inr a) = let e : i ≡ j = omega arith in rw (e, getD-set-same r j k 0 b) g
 
-module _ (s : List ℕ) (whole : wholeAt s ≡ true) (n : ℕ) (rs : List ℕ) (t : SplitsOf s n rs) (rows : List ℕ) where
-  module _ (j new : ℕ) (r : List ℕ) (f : Filled (partsAt s) (masksOf n rs) rows j new r) (h : j < n) (b : j < length rows)
-      (x : Found) (d : FoundAs (partsAt s) (getD rs (3 * j) 0) x) (new′ : ℕ) (u : List ℕ) where
-    inside : j < length (masksOf n rs)
-    inside = omega (arith, masks-length n rs)
+module _ (s : List ℕ) (whole : wholeAt s ≡ true) (rs rows : List ℕ) (j new : ℕ) (r : List ℕ) (f : Filled (partsAt s) rs rows j new r) (b : j < length rows)
+    (x : Found) (d : FoundAs (partsAt s) (getD rs (3 * j) 0) x) (new′ : ℕ) (u : List ℕ) where
+  inside : j < length r
+  inside = omega (arith, f .same-length)
 
-    more : (l : List ℕ) → newIn (partsAt s) (take (suc j) (masksOf n rs)) ≡ l → new′ ≡ length l → new′ ≤ suc j
-        → u ≡ set r j (rowOf (partsAt s .masks ++ newIn (partsAt s) (masksOf n rs)) (getD (masksOf n rs) j 0)) → Filled (partsAt s) (masksOf n rs) rows (j + 1) new′ u
-    more l e c w q = rw add-one record {
-      few = w;
-      same-length = rw q (length-set r j _ ∙ f .same-length);
-      counted = c ∙ ap length (sym e);
-      filled = q ∙ stored (partsAt s) (masksOf n rs) rows j new r f inside b;
-    }
+  pub filled-found : (k : ℕ) → x ≡ Row k → u ≡ set r j k → new′ ≡ new → Filled (partsAt s) rs rows (j + 1) new′ u
+  unfolding FoundAs
+  filled-found k e q c =
+      let y : Stands (partsAt s .masks) k (getD rs (3 * j) 0) = rw e at d in
+      let z = new-old (partsAt s) rs j (row-recorded s whole k (getD rs (3 * j) 0) (y .0) (y .1)) in
+      record {
+        few = omega (arith, f .few);
+        same-length = rw q (length-set r j k ∙ f .same-length);
+        counted = rw z (c ∙ f .counted);
+        each = rw (z, q) (next-each rs r (partsAt s .masks ++ newIn (partsAt s) (masksOf j rs)) j k inside (f .each) (stands-more (partsAt s .masks) (newIn (partsAt s) (masksOf j rs)) k (getD rs (3 * j) 0) y));
+      }
 
-    pub filled-found : (k : ℕ) → x ≡ Row k → u ≡ set r j k → new′ ≡ new → Filled (partsAt s) (masksOf n rs) rows (j + 1) new′ u
-    unfolding FoundAs
-    filled-found k e q c =
-        let y : (k < splitsHeldAt s) × (maskAt s k ≡ getD rs (3 * j) 0) = rw e at d in
-        let m : maskAt s k ≡ getD (masksOf n rs) j 0 = y .1 ∙ sym (mask-at n rs j h) in
-        let i : member (getD (masksOf n rs) j 0) (masksAt s) ≡ true = rw (← m) (rows-in (openingAt s) (partsAt s) (whole-sound s whole) k (y .0)) in
-        more _ (new-old (partsAt s) (masksOf n rs) j inside i) (c ∙ f .counted) (omega (arith, f .few))
-        (q ∙ ap (set r j) (sym (row-found (openingAt s) (partsAt s) (whole-sound s whole) (some-places s whole) (masksOf n rs) (tree-good s n rs t) _ k (y .0) m)))
-
-    pub filled-missing : (held : ℕ) → held ≡ splitsHeldAt s → x ≡ Nothing → u ≡ set r j (held + new) → new′ ≡ new + 1 → Filled (partsAt s) (masksOf n rs) rows (j + 1) new′ u
-    unfolding FoundAs
-    filled-missing held g e q c =
-        let y : member (getD rs (3 * j) 0) (masksAt s) ≡ false = rw e at d in
-        let i : member (getD (masksOf n rs) j 0) (masksAt s) ≡ false = rw (mask-at n rs j h) y in
-        let l = length-append (newIn (partsAt s) (take j (masksOf n rs))) (getD (masksOf n rs) j 0 ∷ []) in
-        let k : rowOf (partsAt s .masks ++ newIn (partsAt s) (masksOf n rs)) (getD (masksOf n rs) j 0) ≡ held + new =
-            row-new (openingAt s) (partsAt s) (whole-sound s whole) (some-places s whole) (masksOf n rs) (tree-good s n rs t) j inside i ∙ ap₂ _+_ (sym g) (sym (f .counted)) in
-        more _ (new-next (partsAt s) (masksOf n rs) j inside i) (omega (arith, l, f .counted)) (omega (arith, f .few)) (q ∙ ap (set r j) (sym k))
-
-  pub filled-all : (new : ℕ) (r : List ℕ) → Filled (partsAt s) (masksOf n rs) rows n new r
-      → (r ≡ rowsOf (partsAt s) (masksOf n rs) ++ drop n rows) × (new ≡ length (newIn (partsAt s) (masksOf n rs)))
-  unfolding rowsOf
-  filled-all new r f =
-      let e : take n (masksOf n rs) ≡ masksOf n rs = take-all n (masksOf n rs) (omega (arith, masks-length n rs)) in
-      (f .filled ∙ rw e, f .counted ∙ rw e)
+  pub filled-missing : (held : ℕ) → held ≡ splitsHeldAt s → x ≡ Nothing → u ≡ set r j (held + new) → new′ ≡ new + 1 → Filled (partsAt s) rs rows (j + 1) new′ u
+  unfolding FoundAs
+  filled-missing held h e q c =
+      let y : member (getD rs (3 * j) 0) (masksAt s) ≡ false = rw e at d in
+      let z = new-next (partsAt s) rs j y in
+      let ns = newIn (partsAt s) (masksOf j rs) in
+      let m = getD rs (3 * j) 0 in
+      let i : length (partsAt s .masks ++ ns) ≡ held + new = omega (arith, length-append (partsAt s .masks) ns, f .counted) in
+      record {
+        few = omega (arith, f .few);
+        same-length = rw q (length-set r j (held + new) ∙ f .same-length);
+        counted = rw z (omega (arith, length-append ns (m ∷ []), f .counted));
+        each =
+            rw (z, q, ← append-assoc (partsAt s .masks) ns (m ∷ []))
+            (next-each rs r (partsAt s .masks ++ ns ++ m ∷ []) j (held + new) inside (λ a g. stands-more (partsAt s .masks ++ ns) (m ∷ []) _ _ (f .each a g))
+            (omega (arith, i, length-append (partsAt s .masks ++ ns) (m ∷ [])), getD-at (partsAt s .masks ++ ns) m [] 0 (held + new) i));
+      }

@@ -12,10 +12,7 @@ pub mod NumberLaws
 pub mod AddedLaws
 pub mod SplitSoundLaws
 pub mod Rows
-pub mod WithSplitsLaws
-pub mod TreeRowLaws
 pub mod WalkLaws
-pub mod TreeLaws
+pub mod NewLaws
 pub mod FillLaws
 pub mod GrownLaws
-pub mod AcceptLaws

@@ -1,89 +1,49 @@
 -- The walk along a place's chain in whole bytes, an entry at a time. Assumes nothing.
 --
---   place-below, place-small       a mask's place is one of the places, and below 8,192
---   mask-fits, link-fits, start-fits     what the walk reads ends inside
 --   Walk s m e                     the entry e leads along the place of m, whose higher rows do not have that mask
 --   walk-starts                    the walk starts at the start of the mask's place
 --   walk-row, walk-falls           an entry's row is one of the store's, and the next entry is less
 --   walk-next                      a row with another mask is passed
 --   walk-here, walk-ends           what the walk answers
 use Prim.Native.Nat.{ℕ, zero, suc, _+_, _*_, _-_, _≤_, _<_}
-use native.Mathlib.Nat.{mod-lt}
 use native.Mathlib.Omega.{arith}
 use mathlib.Core.Path.{_≡_, refl, sym, ap, _∙_}
 use mathlib.Core.Logic.{_⊎_, inl, inr}
-use mathlib.Core.Bool.{Bool, true, false}
+use mathlib.Core.Bool.{true, false}
 use mathlib.Core.List.{List}
 use lib.Dec.{eqb}
-use lib.ListN.{length}
 use borrow.Author.Tests.{eqb-true, eqb-false}
-use Rattle.trees.specs.Plain.{if_then_else_}
-use Rattle.trees.specs.Hash.{place}
 use Rattle.theorems.specs.ListLaws.{by-test, member-not}
-use Rattle.theorems.specs.OpeningLaws.{InRange, good-opening}
 use Rattle.fields.specs.Field.{number}
-use Rattle.head.specs.Head.{numbersAt, openingAt}
+use Rattle.head.specs.Head.{numbersAt}
 use Rattle.layout.specs.Store.{masksFrom, linksFrom, placesFrom, Parts, partsAt, maskIn, splitsHeldAt, maskAt, masksAt, linkAt}
-use Rattle.layout.specs.StoreLaws.{shaped-at, links-from, places-from, size-is, mask-is, link-is, start-is}
+use Rattle.layout.specs.StoreLaws.{shaped-at, mask-is, link-is, start-is}
 use Rattle.layout.specs.WholeStore.{highestIn, highestBelow, wholeAt, placeIn}
-use Rattle.layout.specs.WholeFacts.{HeadAt, WholeAt, whole-at-facts}
+use Rattle.layout.specs.WholeFacts.{WholeAt, whole-at-facts}
+use Rattle.layout.specs.InsideLaws.{place-below}
 use Rattle.layout.specs.UpToLaws.{less-or-not}
 use Rattle.layout.specs.OrderLaws.{masks-mem}
 use Rattle.recording.specs.declared.finding.Found.the-variants.{Row, Nothing}
 use Rattle.recording.specs.Rows.{FoundAs}
 
--- ---- the highest row of a place below n, and one more
+-- ---- the highest row of a place below n, and one more: the rows from it on are of other places, and its own is of this one
 
 module _ (h : ℕ → ℕ) (p : Parts) (q : ℕ) where
-  highest-most : (n : ℕ) → highestIn h p q n ≤ n
-  unfolding highestIn
-  highest-most zero = omega arith
-  highest-most (suc n) = let l = highest-most n in by-test (λ (x : ℕ). x ≤ suc n) (eqb (h (maskIn p n)) q) (λ e. omega arith) (λ e. omega arith)
+  abbrev Highest : ℕ → ℕ → Type 0
+  Highest n e = (e ≤ n) × ((k : ℕ) → e ≤ k → k < n → h (maskIn p k) ≡ q → ⊥) × ((k : ℕ) → e ≡ suc k → h (maskIn p k) ≡ q)
 
-  highest-place : (n k : ℕ) → highestIn h p q n ≡ suc k → h (maskIn p k) ≡ q
+  highest : (n : ℕ) → Highest n (highestIn h p q n)
   unfolding highestIn
-  highest-place zero k e = absurd (omega arith)
-  highest-place (suc n) k e = go (eqb (h (maskIn p n)) q) refl e (highest-place n k)
+  highest zero = (omega arith, λ k a l e. omega arith, λ k e. absurd (omega arith))
+  highest (suc n) =
+      let f = highest n in
+      by-test (Highest (suc n)) (eqb (h (maskIn p n)) q)
+      (λ z. (omega arith, λ k a l e. omega arith, λ k d. let i : k ≡ n = omega arith in rw i (eqb-true _ _ z)))
+      (λ z. (omega (arith, f .0), λ k a l e. last k l e z (less-or-not k n) (f .1 k a), f .2))
     where
-      go : (b : Bool) → eqb (h (maskIn p n)) q ≡ b → (if b then suc n else highestIn h p q n) ≡ suc k → (highestIn h p q n ≡ suc k → h (maskIn p k) ≡ q) → h (maskIn p k) ≡ q
-      go true z d f = let i : k ≡ n = omega arith in rw i (eqb-true _ _ z)
-      go false z d f = f d
-
-  -- the rows from it on are of other places
-  highest-above : (n k : ℕ) → highestIn h p q n ≤ k → k < n → h (maskIn p k) ≡ q → ⊥
-  unfolding highestIn
-  highest-above zero k a l e = omega arith
-  highest-above (suc n) k a l e = go (eqb (h (maskIn p n)) q) refl a (less-or-not k n) (λ b c. highest-above n k b c e)
-    where
-      go : (b : Bool) → eqb (h (maskIn p n)) q ≡ b → (if b then suc n else highestIn h p q n) ≤ k → (k < n) ⊎ (n ≤ k) → (highestIn h p q n ≤ k → k < n → ⊥) → ⊥
-      go true z d c f = omega arith
-      go false z d (inl c) f = f d c
-      go false z d (inr c) f = let i : n ≡ k = omega arith in eqb-false _ _ z (ap (λ (x : ℕ). h (maskIn p x)) i ∙ e)
-
--- ---- what the walk reads
-
-module _ (s : List ℕ) (h : HeadAt s) where
-  pub ranges : InRange (numbersAt s)
-  unfolding openingAt
-  ranges = good-opening (openingAt s) (h .opening-good) .ranges
-
-  module _ (k : ℕ) (l : k < splitsHeldAt s) where
-    pub mask-fits : masksFrom (numbersAt s) + 8 * k + 8 ≤ length s
-    mask-fits = omega (arith, h .reached, h .splits-fit, size-is s)
-
-    pub link-fits : linksFrom (numbersAt s) + 2 * k + 2 ≤ length s
-    link-fits = omega (arith, h .reached, h .splits-fit, size-is s, links-from (numbersAt s))
-
-  module _ (m p : ℕ) (e : p ≡ placeIn s m) where
-    pub place-below : p < numbersAt s .places
-    unfolding place
-    place-below = rw e (mod-lt _ (ranges .least-places))
-
-    pub place-small : p < 8192
-    place-small = omega (arith, place-below, ranges .most-splits, ranges .most-places)
-
-    pub start-fits : placesFrom (numbersAt s) + 2 * p + 2 ≤ length s
-    start-fits = omega (arith, h .reached, size-is s, places-from (numbersAt s), place-below)
+      last : (k : ℕ) → k < suc n → h (maskIn p k) ≡ q → eqb (h (maskIn p n)) q ≡ false → (k < n) ⊎ (n ≤ k) → (k < n → h (maskIn p k) ≡ q → ⊥) → ⊥
+      last k l e z (inl c) f = f c e
+      last k l e z (inr c) f = let i : n ≡ k = omega arith in eqb-false _ _ z (ap (λ (x : ℕ). h (maskIn p x)) i ∙ e)
 
 -- ---- the walk
 
@@ -99,7 +59,7 @@ module _ (s : List ℕ) (m : ℕ) (whole : wholeAt s ≡ true) where
 
   pub walk-starts : (p at e : ℕ) → p ≡ placeIn s m → at ≡ placesFrom (numbersAt s) → e ≡ number 2 s (at + 2 * p) → Walk s m e
   walk-starts p at e i a r =
-      let l : placeIn s m < numbersAt s .places = place-below s (facts .head) m _ refl in
+      let l : placeIn s m < numbersAt s .places = place-below s (facts .head) m in
       record {
         below = splitsHeldAt s;
         inside = omega arith;
@@ -112,7 +72,7 @@ module _ (s : List ℕ) (m : ℕ) (whole : wholeAt s ≡ true) where
     apart k a b d = go (less-or-not k (walk .below))
       where
         go : (k < walk .below) ⊎ (walk .below ≤ k) → ⊥
-        go (inl l) = highest-above (placeIn s) (partsAt s) (placeIn s m) (walk .below) k (omega (arith, walk .entry)) l (ap (placeIn s) d)
+        go (inl l) = highest (placeIn s) (partsAt s) (placeIn s m) (walk .below) .1 k (omega (arith, walk .entry)) l (ap (placeIn s) d)
         go (inr l) = walk .passed k l b d
 
     pub walk-ends : e ≡ 0 → FoundAs (partsAt s) m Nothing
@@ -121,21 +81,21 @@ module _ (s : List ℕ) (m : ℕ) (whole : wholeAt s ≡ true) where
 
     module _ (more : e ≡ 0 → ⊥) where
       pub walk-row : e - 1 < splitsHeldAt s
-      walk-row = omega (arith, walk .entry, highest-most (placeIn s) (partsAt s) (placeIn s m) (walk .below), walk .inside)
+      walk-row = omega (arith, walk .entry, highest (placeIn s) (partsAt s) (placeIn s m) (walk .below) .0, walk .inside)
 
       -- the next entry is that of the highest row of the place below this one
       next : linkAt s (e - 1) ≡ highestBelow s (placeIn s m) (e - 1)
       next =
           let i : e ≡ suc (e - 1) = omega arith in
           facts .chains .links (e - 1) walk-row
-          ∙ ap (λ (q : ℕ). highestBelow s q (e - 1)) (highest-place (placeIn s) (partsAt s) (placeIn s m) (walk .below) (e - 1) (sym (walk .entry) ∙ i))
+          ∙ ap (λ (q : ℕ). highestBelow s q (e - 1)) (highest (placeIn s) (partsAt s) (placeIn s m) (walk .below) .2 (e - 1) (sym (walk .entry) ∙ i))
 
       module _ (at l : ℕ) (a : at ≡ linksFrom (numbersAt s)) (r : l ≡ number 2 s (at + 2 * (e - 1))) where
         link-read : l ≡ highestBelow s (placeIn s m) (e - 1)
         link-read = r ∙ rw a (sym (link-is s (e - 1) walk-row)) ∙ next
 
         pub walk-falls : l < e
-        walk-falls = omega (arith, link-read, highest-most (placeIn s) (partsAt s) (placeIn s m) (e - 1))
+        walk-falls = omega (arith, link-read, highest (placeIn s) (partsAt s) (placeIn s m) (e - 1) .0)
 
       module _ (at x : ℕ) (a : at ≡ masksFrom (numbersAt s)) (r : x ≡ number 8 s (at + 8 * (e - 1))) where
         mask-read : x ≡ maskAt s (e - 1)

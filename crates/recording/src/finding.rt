@@ -2,12 +2,11 @@
 // counts and links; the chain of its place leads from row to row.
 ghost use mathlib.Core.Path.{_≡_};
 ghost use mathlib.Core.Bool.{true};
-ghost use mathlib.Core.List.{_++_};
 ghost use Prim.Native.Nat.{_≤_};
-ghost use lib.ListN.{length, drop};
+ghost use lib.ListN.{length};
 ghost use Rattle.layout.specs.Store.{partsAt};
 ghost use Rattle.layout.specs.WholeStore.{wholeAt, placeIn};
-ghost use Rattle.recording.specs.Recording.{masksOf, SplitsOf, newIn, rowsOf};
+ghost use Rattle.recording.specs.Recording.{masksOf, SplitsOf, newIn, RowsOf};
 ghost use Rattle.recording.specs.Rows.{FoundAs};
 
 // The answer of a look for a split.
@@ -40,7 +39,7 @@ pub(crate) fn find_rows(s: &[u8], n: usize, records: &[u64], rows: &mut [u64]) -
     requires { ⌜ wholeAt (now s) ≡ true ⌝ }
     requires { ⌜ SplitsOf (now s) n (now records) ⌝ }
     requires { ⌜ n ≤ length (now rows) ⌝ }
-    ensures { λ r. ⌜ now (rows .exit) ≡ rowsOf (partsAt (now (s .entry))) (masksOf n (now (records .entry))) ++ drop n (now (rows .entry)) ⌝ }
+    ensures { λ r. ⌜ RowsOf (partsAt (now (s .entry))) n (now (records .entry)) (now (rows .exit)) ⌝ }
     ensures { λ r. ⌜ r ≡ length (newIn (partsAt (now (s .entry))) (masksOf n (now (records .entry)))) ⌝ }
 {
     let held = layout::splits_held(s);

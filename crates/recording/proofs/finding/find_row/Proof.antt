@@ -8,7 +8,8 @@ use Rattle.head.specs.Head.{numbersAt}
 use Rattle.layout.specs.Store.{masksFrom, linksFrom}
 use Rattle.layout.specs.WholeStore.{wholeAt}
 use Rattle.layout.specs.WholeFacts.{whole-at-facts}
-use Rattle.recording.specs.WalkLaws.{Walk, mask-fits, link-fits, start-fits, place-small, walk-starts, walk-row, walk-falls, walk-next, walk-here, walk-ends}
+use Rattle.layout.specs.InsideLaws.{mask-inside, link-inside, start-inside, place-below, place-small}
+use Rattle.recording.specs.WalkLaws.{Walk, walk-starts, walk-row, walk-falls, walk-next, walk-here, walk-ends}
 use Rattle.recording.proofs.finding.find_row.Statement.{statement}
 use Rattle.recording.proofs.finding.find_row.Tie as tie
 
@@ -19,25 +20,26 @@ Inv-loop s p m masks links entry₀ entry =
 abbrev μ-loop : tie.MeasureT-loop
 μ-loop s p m masks links entry₀ entry = entry
 
-start-inside : tie.Need-number16-requires Inv-loop μ-loop
-start-inside c κs =
+start-read : tie.Need-number16-requires Inv-loop μ-loop
+start-read c κs =
     let d = c .before .before .before .before in
-    omega (arith, start-fits _ (whole-at-facts _ (d .pre .0) .head) (d .args .m) _ (d .pre .1))
+    let h = whole-at-facts _ (d .pre .0) .head in
+    omega (arith, d .pre .1, start-inside _ h _ (place-below _ h (d .args .m)))
 
 loop-holds : tie.Need-loop-holds Inv-loop μ-loop
 loop-holds c =
     let d = c .before .before .before .before .before in
     (d .pre .0, omega arith, omega arith, omega arith, walk-starts _ _ (d .pre .0) _ _ _ (d .pre .1) (omega arith) (c .number16 .ensures .0))
 
-mask-inside : tie.Need-get64-requires Inv-loop μ-loop
-mask-inside c κs =
+mask-read : tie.Need-get64-requires Inv-loop μ-loop
+mask-read c κs =
     let v = c .before .loop .inv in
-    omega (arith, v .1, mask-fits _ (whole-at-facts _ (v .0) .head) _ (walk-row _ _ (v .0) _ (v .4) (c .loop-test .taken)))
+    omega (arith, v .1, mask-inside _ (whole-at-facts _ (v .0) .head) _ (walk-row _ _ (v .0) _ (v .4) (c .loop-test .taken)))
 
-link-inside : tie.Need-number16-requires-2 Inv-loop μ-loop
-link-inside c κs =
+link-read : tie.Need-number16-requires-2 Inv-loop μ-loop
+link-read c κs =
     let v = c .before .before .before .loop .inv in
-    omega (arith, v .2, link-fits _ (whole-at-facts _ (v .0) .head) _ (walk-row _ _ (v .0) _ (v .4) (c .before .before .loop-test .taken)))
+    omega (arith, v .2, link-inside _ (whole-at-facts _ (v .0) .head) _ (walk-row _ _ (v .0) _ (v .4) (c .before .before .loop-test .taken)))
 
 returns : tie.Need-returns Inv-loop μ-loop
 returns c =
@@ -72,18 +74,18 @@ find-row-spec =
     (λ c κs. whole-at-facts _ (c .before .pre .0) .head .head-there)
     (λ c κs. whole-at-facts _ (c .before .before .pre .0) .head .head-there)
     (λ c κs. whole-at-facts _ (c .before .before .before .pre .0) .head .head-there)
-    (λ c. let d = c .before .before .before .before in omega (arith, place-small _ (whole-at-facts _ (d .pre .0) .head) (d .args .m) _ (d .pre .1)))
-    (λ c. let d = c .before .before .before .before in omega (arith, place-small _ (whole-at-facts _ (d .pre .0) .head) (d .args .m) _ (d .pre .1)))
-    start-inside
+    (λ c. let d = c .before .before .before .before in omega (arith, d .pre .1, place-small _ (whole-at-facts _ (d .pre .0) .head) (d .args .m)))
+    (λ c. let d = c .before .before .before .before in omega (arith, d .pre .1, place-small _ (whole-at-facts _ (d .pre .0) .head) (d .args .m)))
+    start-read
     loop-holds
     (λ c. omega arith)
     (λ c. omega arith)
     (λ c. omega arith)
-    mask-inside
+    mask-read
     returns
     (λ c. omega arith)
     (λ c. omega arith)
-    link-inside
+    link-read
     loop-less
     loop-again
     returns-2)

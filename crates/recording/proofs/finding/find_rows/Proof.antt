@@ -5,13 +5,12 @@ use mathlib.Core.Logic.{⊎-elim}
 use native.Mathlib.Omega.{arith}
 use Rattle.layout.specs.Store.{partsAt}
 use Rattle.layout.specs.WholeFacts.{whole-at-facts}
-use Rattle.recording.specs.Recording.{masksOf}
 use Rattle.recording.specs.FillLaws.{Filled, filled-none, filled-found, filled-missing, filled-all}
 use Rattle.recording.proofs.finding.find_rows.Statement.{statement}
 use Rattle.recording.proofs.finding.find_rows.Tie as tie
 
 abbrev Inv-loop : tie.InvT-loop
-Inv-loop s n records rows₀ held new₀ j₀ rows new j = (j ≤ n) × Filled (partsAt s) (masksOf n records) rows₀ j new rows
+Inv-loop s n records rows₀ held new₀ j₀ rows new j = (j ≤ n) × Filled (partsAt s) records rows₀ j new rows
 
 abbrev μ-loop : tie.MeasureT-loop
 μ-loop s n records rows₀ held new₀ j₀ rows new j = n - j
@@ -22,15 +21,16 @@ loop-again c =
     let v = c .before .before .before .before .before .loop .inv .1 in
     let f = c .before .find-row .ensures in
     ⊎-elim
-    (λ w. (omega arith, filled-found _ (d .pre .0) _ _ (d .pre .1 .0) _ _ _ _ v (omega arith) (omega arith) _ f _ _ _ (w .1 .given .1) (w .3) (w .4)))
-    (λ w. (omega arith, filled-missing _ (d .pre .0) _ _ (d .pre .1 .0) _ _ _ _ v (omega arith) (omega arith) _ f _ _ _ (omega arith) (w .1 .given .1) (w .2) (w .3)))
+    (λ w. (omega arith, filled-found _ (d .pre .0) _ _ _ _ _ v (omega arith) _ f _ _ _ (w .1 .given .1) (w .3) (w .4)))
+    (λ w. (omega arith, filled-missing _ (d .pre .0) _ _ _ _ _ v (omega arith) _ f _ _ _ (omega arith) (w .1 .given .1) (w .2) (w .3)))
     (c .match .came)
 
 returns : tie.Need-returns Inv-loop μ-loop
 returns c =
     let d = c .before .before .before .before .before .before in
     let e : c .before .loop .j ≡ d .args .n = omega arith in
-    filled-all _ (d .pre .0) _ _ (d .pre .1 .0) _ _ _ (rw e at (c .before .loop .inv .1))
+    let f = c .before .loop .inv .1 in
+    (filled-all _ _ _ _ _ _ (d .pre .1 .1) (rw e at f), rw e at (f .counted))
 
 pub find-rows-spec : {M : Type 1} → statement M
 find-rows-spec =
