@@ -5,6 +5,7 @@ pub mod StoreLaws
 pub mod WholeStore
 pub mod AllLaws
 pub mod WholeFacts
+pub mod InsideLaws
 pub mod Sound
 pub mod UpToLaws
 pub mod PigeonLaws

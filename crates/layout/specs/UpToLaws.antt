@@ -8,7 +8,9 @@
 --   rising-at                     what stands earlier in a rising list is less
 --   bool-same                     two tests are equal where each passes with the other
 --   count-append                  the count behind one more tree
---   listed-nil, listed-next       how many of no trees list a split, and of one tree more
+--   oneIf b, one-most             1 where the test b passes, 0 where it fails
+--   listed-nil, listed-next, listed-step     how many of no trees list a split, and of one tree more
+--   listed-most                   never more than there are trees
 use Prim.Native.Nat.{ℕ, zero, suc, _+_, _≤_, _<_}
 use native.Mathlib.Omega.{arith}
 use mathlib.Core.Path.{_≡_, refl, sym, ap, _∙_}
@@ -141,3 +143,23 @@ listed-nil p k = refl
 pub listed-next : (p : Parts) (k t : ℕ) → t < treesIn p → listedIn p k (suc t) ≡ (if member k (listIn p t) then suc (listedIn p k t) else listedIn p k t)
 unfolding listedIn
 listed-next p k t h = ap (λ (ls : List (List ℕ)). count ls k) (take-suc (p .lists) t [] h) ∙ count-append (take t (p .lists)) (listIn p t) k
+
+unfoldable pub oneIf : Bool → ℕ
+oneIf b = if b then 1 else 0
+
+pub one-most : (b : Bool) → oneIf b ≤ 1
+unfolding oneIf
+one-most true = omega arith
+one-most false = omega arith
+
+pub listed-step : (p : Parts) (k t : ℕ) → t < treesIn p → listedIn p k (suc t) ≡ listedIn p k t + oneIf (member k (listIn p t))
+unfolding oneIf
+listed-step p k t h = listed-next p k t h ∙ go (member k (listIn p t))
+  where
+    go : (b : Bool) → (if b then suc (listedIn p k t) else listedIn p k t) ≡ listedIn p k t + (if b then 1 else 0)
+    go true = omega arith
+    go false = omega arith
+
+pub listed-most : (p : Parts) (k t : ℕ) → t ≤ treesIn p → listedIn p k t ≤ t
+listed-most p k zero h = omega (arith, listed-nil p k)
+listed-most p k (suc t) h = omega (arith, listed-step p k t h, one-most (member k (listIn p t)), listed-most p k t (omega arith))

@@ -1,6 +1,8 @@
 -- The definitions that the contracts cite, and their laws.
 pub mod Added
 pub mod Listed
+pub mod Entering
+pub mod ListSoundLaws
 pub mod Recording
 pub mod KeptLaws
 pub mod Steps
@@ -9,3 +11,11 @@ pub mod InsertLaws
 pub mod NumberLaws
 pub mod AddedLaws
 pub mod SplitSoundLaws
+pub mod Rows
+pub mod WithSplitsLaws
+pub mod TreeRowLaws
+pub mod WalkLaws
+pub mod TreeLaws
+pub mod FillLaws
+pub mod GrownLaws
+pub mod AcceptLaws

@@ -5,17 +5,17 @@
 --   newIn p ms           those of the masks ms that are new to the parts p
 --   rowOf l m            where m stands in l; behind it, where it does not
 --   rowsOf p ms          the rows of the masks ms, those of new ones behind the others
---   withNew o ms p       the parts p with the splits ms, listed by no tree
---   Recorded s t u       the lent bytes u are whole and hold what s holds, and the tree t
+--   withSplits o ms p    the parts p with the new splits ms, listed by no tree
 --   Grown s ms u         the lent bytes u are s with those of ms that are new, listed by no tree
+--   Recorded s t u       the lent bytes u are whole and hold what s holds, and the tree t
 --   Accepts a s r t      the verdict a as to room: refused and nothing changed, or the tree recorded
 use Prim.Native.Nat.{ℕ, suc, _+_, _*_, _≤_, _<_}
 use mathlib.Core.Path.{_≡_}
-use mathlib.Core.Bool.{true, not}
+use mathlib.Core.Bool.{true}
 use mathlib.Core.List.{List, [], _∷_, _++_, map}
 use lib.Dec.{eqb}
 use lib.ListN.{length, getD}
-use Rattle.trees.specs.Plain.{if_then_else_, keep, member, Answer, refused, gives}
+use Rattle.trees.specs.Plain.{if_then_else_, lacking, Answer, refused, gives}
 use Rattle.trees.specs.Hash.{identifier}
 use Rattle.trees.specs.Opening.{Opening}
 use Rattle.trees.specs.Held.{withTree, accepted}
@@ -39,8 +39,8 @@ pub record SplitsOf (s : List ℕ) (n : ℕ) (rs : List ℕ) : Type 0 where
   pub identified : (j : ℕ) → j < n → getD rs (3 * j + 2) 0 ≡ identifier (secondAt s) (getD rs (3 * j) 0)
 
 unfoldable pub newIn : Parts → List ℕ → List ℕ
-unfolding keep member
-newIn p ms = keep (λ m. not (member m (masksIn p))) ms
+unfolding lacking
+newIn p ms = lacking ms (masksIn p)
 
 unfoldable pub rowOf : List ℕ → ℕ → ℕ
 rowOf [] m = 0
@@ -50,13 +50,13 @@ unfoldable pub rowsOf : Parts → List ℕ → List ℕ
 unfolding newIn rowOf
 rowsOf p ms = map (rowOf (p .masks ++ newIn p ms)) ms
 
-unfoldable pub withNew : Opening → List ℕ → Parts → Parts
-unfolding withSplit member
-withNew o [] p = p
-withNew o (m ∷ ms) p = withNew o ms (if member m (masksIn p) then p else withSplit o m p)
+unfoldable pub withSplits : Opening → List ℕ → Parts → Parts
+unfolding withSplit
+withSplits o [] p = p
+withSplits o (m ∷ ms) p = withSplits o ms (withSplit o m p)
 
 pub record Grown (s ms u : List ℕ) : Type 0 where
-  pub parts : partsAt u ≡ withNew (openingAt s) ms (partsAt s)
+  pub parts : partsAt u ≡ withSplits (openingAt s) (newIn (partsAt s) ms) (partsAt s)
   pub opening : openingAt u ≡ openingAt s
   pub size : length u ≡ length s
   pub behind : (i : ℕ) → sizeAt s ≤ i → getD u i 0 ≡ getD s i 0

@@ -11,7 +11,7 @@ ghost use Rattle.recording.specs.Recording.{masksOf, SplitsOf, newIn, ro
 ghost use Rattle.recording.specs.Rows.{FoundAs};
 
 // The answer of a look for a split.
-pub(crate) enum Found {
+pub enum Found {
     Row(usize),
     Nothing,
 }

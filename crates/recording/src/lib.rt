@@ -8,6 +8,7 @@ ghost use mathlib.Core.Bool.{true};
 ghost use Prim.Native.Nat.{_+_, _≤_};
 ghost use lib.ListN.{length, take};
 ghost use Rattle.trees.specs.Held.{roomFor};
+ghost use Rattle.head.specs.Head.{numbersAt};
 ghost use Rattle.layout.specs.Store.{partsAt, splitsHeldAt, heldAt};
 ghost use Rattle.layout.specs.WholeStore.{wholeAt};
 ghost use Rattle.recording.specs.Recording.{masksOf, SplitsOf, newIn, rowsOf, Accepts, Grown};

@@ -1,6 +1,5 @@
 -- Walks along the chains of a store.
 --
---   placeIn s m          the place of the mask m
 --   met s p              the splits met along the place p, by their rows
 --   ofPlace s p n        the rows below n whose splits have the place p, the highest first
 --   Falling l            each number is less than the one before
@@ -16,28 +15,25 @@ use Rattle.trees.specs.Hash.{place}
 use Rattle.theorems.specs.ListLaws.{Mem}
 use Rattle.head.specs.Head.{numbersAt, firstAt}
 use Rattle.layout.specs.Store.{maskAt, linkAt, startAt}
-
-abbrev pub placeIn : List ℕ → ℕ → ℕ
-placeIn s m = place (firstAt s) (numbersAt s .places) m
+use Rattle.layout.specs.WholeStore.{placeIn}
 
 -- ---- all that are met
 
 -- in at most f steps from an entry
 unfoldable pub metFrom : List ℕ → ℕ → ℕ → List ℕ
-unfolding linkAt
 metFrom s zero e = []
 metFrom s (suc f) zero = []
 metFrom s (suc f) (suc k) = k ∷ metFrom s f (linkAt s k)
 
 unfoldable pub met : List ℕ → ℕ → List ℕ
-unfolding metFrom startAt
+unfolding metFrom
 met s p = metFrom s (startAt s p) (startAt s p)
 
 -- ---- what should be met
 
 -- of the rows below n
 unfoldable pub ofPlace : List ℕ → ℕ → ℕ → List ℕ
-unfolding place firstAt numbersAt maskAt
+unfolding place firstAt numbersAt
 ofPlace s p zero = []
 ofPlace s p (suc k) = if eqb (placeIn s (maskAt s k)) p then k ∷ ofPlace s p k else ofPlace s p k
 
@@ -49,7 +45,6 @@ Falling (x ∷ l) = ((y : ℕ) → Mem y l → y < x) × Falling l
 
 -- in at most f steps from an entry
 unfoldable pub lookFrom : List ℕ → ℕ → ℕ → ℕ → Option ℕ
-unfolding maskAt linkAt
 lookFrom s m zero e = none
 lookFrom s m (suc f) zero = none
 lookFrom s m (suc f) (suc k) = if eqb (maskAt s k) m then some k else lookFrom s m f (linkAt s k)
@@ -59,5 +54,5 @@ unfolding lookFrom
 lookAt s m e = lookFrom s m e e
 
 unfoldable pub look : List ℕ → ℕ → Option ℕ
-unfolding lookAt startAt place firstAt numbersAt
+unfolding lookAt place firstAt numbersAt
 look s m = lookAt s m (startAt s (placeIn s m))

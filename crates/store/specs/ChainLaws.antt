@@ -1,7 +1,6 @@
 -- "Every split is met exactly once along its hash place", and what a look along a chain finds. Assumes nothing.
 --
 --   highest-none, highest-step, highest-here, highest-lower, highest-most     `highestBelow`, a row at a time
---   highest-same                it depends on the places of the rows below alone
 --   place-below                 a place is below the number of places
 --   start-most, link-falls      the entries of the chains
 --   met-all, met-exactly        the splits met along a place are those that have it
@@ -12,7 +11,7 @@
 use Prim.Native.Nat.{ℕ, zero, suc, _≤_, _<_}
 use native.Mathlib.Nat.{mod-lt}
 use native.Mathlib.Omega.{arith}
-use mathlib.Core.Path.{_≡_, refl, sym, ap, ap₂, _∙_, subst}
+use mathlib.Core.Path.{_≡_, refl, sym, ap, _∙_, subst}
 use mathlib.Core.Logic.{_⊎_, inl, inr, _↔_}
 use mathlib.Core.Bool.{Bool, true, false}
 use mathlib.Core.List.{List, [], _∷_}
@@ -23,23 +22,24 @@ use Rattle.trees.specs.Plain.{if_then_else_, member}
 use Rattle.trees.specs.Hash.{place}
 use Rattle.theorems.specs.ListLaws.{by-test, if-true, if-false, Mem, member-not, not-member}
 use Rattle.head.specs.Head.{numbersAt, openingAt}
-use Rattle.layout.specs.Store.{splitsHeldAt, maskAt, masksAt, linkAt, startAt}
-use Rattle.layout.specs.WholeStore.{highestBelow, wholeAt}
+use Rattle.layout.specs.Store.{partsAt, splitsHeldAt, maskAt, masksAt, linkAt, startAt}
+use Rattle.layout.specs.StoreLaws.{shaped-at}
+use Rattle.layout.specs.WholeStore.{placeIn, highestBelow, wholeAt, highestIn}
 use Rattle.layout.specs.WholeFacts.{ChainsAt, whole-at-facts}
 use Rattle.layout.specs.UpToLaws.{less-or-not}
 use Rattle.layout.specs.OrderLaws.{masks-mem, mem-masks, mask-same}
 use Rattle.store.specs.HeldWholeLaws.{opening-facts}
-use Rattle.store.specs.Chain.{placeIn, metFrom, met, ofPlace, Falling, lookFrom, lookAt, look}
+use Rattle.store.specs.Chain.{metFrom, met, ofPlace, Falling, lookFrom, lookAt, look}
 
 -- ---- the highest split of a place
 
 module _ (s : List ℕ) (p : ℕ) where
   pub highest-none : highestBelow s p 0 ≡ 0
-  unfolding highestBelow
+  unfolding highestIn
   highest-none = refl
 
   pub highest-step : (k : ℕ) → highestBelow s p (suc k) ≡ (if eqb (placeIn s (maskAt s k)) p then suc k else highestBelow s p k)
-  unfolding highestBelow
+  unfolding highestIn
   highest-step k = refl
 
   pub highest-here : (k : ℕ) → placeIn s (maskAt s k) ≡ p → highestBelow s p (suc k) ≡ suc k
@@ -49,16 +49,9 @@ module _ (s : List ℕ) (p : ℕ) where
   highest-lower k e = highest-step k ∙ if-false _ _ (ne-eqb _ _ e)
 
   pub highest-most : (n : ℕ) → highestBelow s p n ≤ n
-  unfolding highestBelow
+  unfolding highestIn
   highest-most zero = omega arith
   highest-most (suc n) = let h = highest-most n in by-test (λ (x : ℕ). x ≤ suc n) (eqb (placeIn s (maskAt s n)) p) (λ e. omega arith) (λ e. omega arith)
-
-pub highest-same : (s t : List ℕ) (p n : ℕ) → ((k : ℕ) → k < n → placeIn s (maskAt s k) ≡ placeIn t (maskAt t k)) → highestBelow s p n ≡ highestBelow t p n
-highest-same s t p zero h = highest-none s p ∙ sym (highest-none t p)
-highest-same s t p (suc n) h =
-    highest-step s p n
-    ∙ ap₂ (λ (q x : ℕ). if eqb q p then suc n else x) (h n (omega arith)) (highest-same s t p n (λ k l. h k (omega arith)))
-    ∙ sym (highest-step t p n)
 
 -- ---- the splits of a place, the highest first
 
@@ -101,7 +94,7 @@ module _ (s : List ℕ) (c : ChainsAt s) where
   next-entry p k h e = c .links k h ∙ ap (λ (q : ℕ). highestBelow s q k) e
 
   met-place : (p n : ℕ) → n ≤ splitsHeldAt s → (f : ℕ) → highestBelow s p n ≤ f → metFrom s f (highestBelow s p n) ≡ ofPlace s p n
-  unfolding highestBelow ofPlace
+  unfolding highestIn ofPlace
   met-place p zero h f l = met-ends s f
   met-place p (suc n) h f l = go (eqb (placeIn s (maskAt s n)) p) refl f l (met-place p n (omega arith))
     where
@@ -200,7 +193,7 @@ module _ (s : List ℕ) (m : ℕ) where
 
   look-found : ChainsAt s → (n : ℕ) → n ≤ splitsHeldAt s → (f : ℕ) → highestBelow s (placeIn s m) n ≤ f
       → Found s m n (lookFrom s m f (highestBelow s (placeIn s m) n))
-  unfolding highestBelow
+  unfolding highestIn
   look-found c zero h f l = rw (look-none s m f) (λ k q e. omega arith)
   look-found c (suc n) h f l = go (eqb (placeIn s (maskAt s n)) (placeIn s m)) refl f l (look-found c n (omega arith))
     where
@@ -226,15 +219,15 @@ module _ (s : List ℕ) (m : ℕ) (whole : wholeAt s ≡ true) where
     where
       go : (o : Option ℕ) → Found s m (splitsHeldAt s) o → (k < splitsHeldAt s) × (maskAt s k ≡ m) → o ≡ some k
       go none f h = absurd (f k (h .0) (h .1))
-      go (some j) f h = ap {B = Option ℕ} some (mask-same s (whole-at-facts s whole .splits) j k (f .0) (h .0) (f .1 ∙ sym (h .1)))
+      go (some j) f h = ap {B = Option ℕ} some (mask-same (partsAt s) (shaped-at s .order) (whole-at-facts s whole .splits) j k (f .0) (h .0) (f .1 ∙ sym (h .1)))
 
   pub look-nothing : (look s m ≡ none) ↔ (member m (masksAt s) ≡ false)
   look-nothing = (
     λ e. let f : Found s m (splitsHeldAt s) none = subst (Found s m (splitsHeldAt s)) e look-result in
-        member-not m (masksAt s) (λ h. let k = masks-mem s (whole-at-facts s whole .splits) m h in f (k .0) (k .1) (sym (k .2))),
+        member-not m (masksAt s) (λ h. let k = masks-mem (partsAt s) (shaped-at s .order) (whole-at-facts s whole .splits) m h in f (k .0) (k .1) (sym (k .2))),
     λ e. go (look s m) look-result (not-member m (masksAt s) e),
   )
     where
       go : (o : Option ℕ) → Found s m (splitsHeldAt s) o → (Mem m (masksAt s) → ⊥) → o ≡ none
       go none f h = refl
-      go (some k) f h = absurd (h (subst (λ (x : ℕ). Mem x (masksAt s)) (f .1) (mem-masks s (whole-at-facts s whole .splits) k (f .0))))
+      go (some k) f h = absurd (h (subst (λ (x : ℕ). Mem x (masksAt s)) (f .1) (mem-masks (partsAt s) (shaped-at s .order) (whole-at-facts s whole .splits) k (f .0))))

@@ -24,7 +24,8 @@ use Rattle.theorems.specs.ListLaws.{if-true, if-false}
 use Rattle.fields.specs.Field.{number}
 use Rattle.head.specs.Head.{numbersAt, firstAt}
 use Rattle.layout.specs.Store.{splitsHeldAt, linksFrom, placesFrom, maskAt, linkAt, startAt}
-use Rattle.layout.specs.WholeStore.{allBelow, highestBelow, goodLink, goodStart, goodChains}
+use Rattle.layout.specs.StoreLaws.{link-is, start-is}
+use Rattle.layout.specs.WholeStore.{allBelow, highestBelow, goodLink, goodStart, goodChains, chainsGood, highestIn, linkGood, startGood}
 use Rattle.store.specs.Splits.{placeAt, Highest}
 
 pub equal-or-not : (a b : ℕ) → (a ≡ b) ⊎ (a ≡ b → ⊥)
@@ -42,15 +43,15 @@ module _ (s : List ℕ) where
   -- ---- the highest split of a place
 
   pub highest-here : (p k : ℕ) → placeAt s k ≡ p → highestBelow s p (suc k) ≡ suc k
-  unfolding highestBelow placeAt
+  unfolding highestIn placeAt
   highest-here p k e = if-true _ _ (eq-eqb _ _ e)
 
   pub highest-other : (p k : ℕ) → (placeAt s k ≡ p → ⊥) → highestBelow s p (suc k) ≡ highestBelow s p k
-  unfolding highestBelow placeAt
+  unfolding highestIn placeAt
   highest-other p k f = if-false _ _ (ne-eqb _ _ f)
 
   pub highest-none : (p : ℕ) → highestBelow s p 0 ≡ 0
-  unfolding highestBelow
+  unfolding highestIn
   highest-none p = refl
 
   pub heights-none : Highest s 0 (replicate 8192 0)
@@ -66,33 +67,32 @@ module _ (s : List ℕ) where
 
   -- ---- links and starts
 
-  module _ (k at x : ℕ) where
+  module _ (k : ℕ) (h : k < splitsHeldAt s) (at x : ℕ) where
     pub link-read : at ≡ linksFrom (numbersAt s) → x ≡ number 2 s (at + 2 * k) → x ≡ linkAt s k
-    unfolding linkAt
-    link-read a i = i ∙ rw a
+    link-read a i = i ∙ rw a (sym (link-is s k h))
 
-    pub start-read : at ≡ placesFrom (numbersAt s) → x ≡ number 2 s (at + 2 * k) → x ≡ startAt s k
-    unfolding startAt
-    start-read a i = i ∙ rw a
+  module _ (q : ℕ) (h : q < numbersAt s .places) (at x : ℕ) where
+    pub start-read : at ≡ placesFrom (numbersAt s) → x ≡ number 2 s (at + 2 * q) → x ≡ startAt s q
+    start-read a i = i ∙ rw a (sym (start-is s q h))
 
-  module _ (k at x p y : ℕ) (a : at ≡ linksFrom (numbersAt s)) (i : x ≡ number 2 s (at + 2 * k)) (e : p ≡ placeAt s k) (j : y ≡ highestBelow s p k) where
+  module _ (k : ℕ) (h : k < splitsHeldAt s) (at x p y : ℕ) (a : at ≡ linksFrom (numbersAt s)) (i : x ≡ number 2 s (at + 2 * k)) (e : p ≡ placeAt s k) (j : y ≡ highestBelow s p k) where
     pub link-good : x ≡ y → goodLink s k ≡ true
-    unfolding goodLink placeAt
-    link-good d = eq-eqb _ _ (sym (link-read k at x a i) ∙ d ∙ j ∙ rw e)
+    unfolding linkGood placeAt
+    link-good d = eq-eqb _ _ (sym (link-read k h at x a i) ∙ d ∙ j ∙ rw e)
 
     pub link-bad : (x ≡ y → ⊥) → goodLink s k ≡ false
-    unfolding goodLink placeAt
-    link-bad f = ne-eqb _ _ (λ d. f (link-read k at x a i ∙ d ∙ sym (j ∙ rw e)))
+    unfolding linkGood placeAt
+    link-bad f = ne-eqb _ _ (λ d. f (link-read k h at x a i ∙ d ∙ sym (j ∙ rw e)))
 
-  module _ (p at x y : ℕ) (a : at ≡ placesFrom (numbersAt s)) (i : x ≡ number 2 s (at + 2 * p)) (j : y ≡ highestBelow s p (splitsHeldAt s)) where
+  module _ (p : ℕ) (h : p < numbersAt s .places) (at x y : ℕ) (a : at ≡ placesFrom (numbersAt s)) (i : x ≡ number 2 s (at + 2 * p)) (j : y ≡ highestBelow s p (splitsHeldAt s)) where
     pub start-good : x ≡ y → goodStart s p ≡ true
-    unfolding goodStart
-    start-good d = eq-eqb _ _ (sym (start-read p at x a i) ∙ d ∙ j)
+    unfolding startGood
+    start-good d = eq-eqb _ _ (sym (start-read p h at x a i) ∙ d ∙ j)
 
     pub start-bad : (x ≡ y → ⊥) → goodStart s p ≡ false
-    unfolding goodStart
-    start-bad f = ne-eqb _ _ (λ d. f (start-read p at x a i ∙ d ∙ sym j))
+    unfolding startGood
+    start-bad f = ne-eqb _ _ (λ d. f (start-read p h at x a i ∙ d ∙ sym j))
 
   pub good-chains : goodChains s ≡ (allBelow (goodLink s) (splitsHeldAt s) && allBelow (goodStart s) (numbersAt s .places))
-  unfolding goodChains
+  unfolding chainsGood
   good-chains = refl

@@ -1,8 +1,5 @@
 -- The laws of the counts, as the code adds and compares them. Assumes nothing.
 --
---   listed-step, listed-most  how many trees list a split: one tree more, and never more than there are trees
---   listed-same               it depends on the trees' lists alone
---   one-most                  a test counts at most one
 --   front-member, front-other membership in the first numbers of a list, one more at a time
 --   counted-none              no tree
 --   part-none, part-more, part-all     one turn of the loop over a tree's list
@@ -20,43 +17,17 @@ use lib.Dec.{leb, eqb}
 use lib.ListN.{length, getD, set, take, replicate, length-set, length-replicate}
 use lib.Seq.{take-suc, take-all, getD-set-same, getD-set-other}
 use borrow.Author.Tests.{eq-eqb, ne-eqb, le-leb}
-use Rattle.trees.specs.Plain.{if_then_else_, member}
-use Rattle.trees.specs.Consensus.{count}
+use Rattle.trees.specs.Plain.{member}
 use Rattle.theorems.specs.ListLaws.{Mem, member-not}
 use Rattle.theorems.specs.RisingLaws.{Rising}
 use Rattle.fields.specs.Field.{number}
-use Rattle.head.specs.HeadLaws.{upTo-same}
 use Rattle.head.specs.Head.{numbersAt}
-use Rattle.layout.specs.Store.{treesHeldAt, splitsHeldAt, countsFrom, maskAt, countAt, listAt, treeAt}
-use Rattle.layout.specs.StoreLaws.{tree-is}
-use Rattle.layout.specs.WholeStore.{listed, goodCount}
-use Rattle.store.specs.ListTests.{oneIf, CountedPart, Counted}
-use Rattle.store.specs.ListTestLaws.{mem-getD}
+use Rattle.layout.specs.Store.{partsAt, treesHeldAt, splitsHeldAt, countsFrom, maskAt, countAt, listAt, treeAt}
+use Rattle.layout.specs.StoreLaws.{count-is}
+use Rattle.layout.specs.WholeStore.{listed, goodCount, countGood, listedIn}
+use Rattle.layout.specs.UpToLaws.{mem-getD, mem-map, oneIf, one-most, listed-nil, listed-step, listed-most}
+use Rattle.store.specs.ListTests.{CountedPart, Counted}
 use Rattle.store.specs.ChainTests.{equal-or-not}
-use Rattle.layout.specs.UpToLaws.{mem-map, listed-nil, listed-next}
-
--- ---- one tree more
-
-pub listed-step : (s : List ℕ) (k t : ℕ) → listed s k (suc t) ≡ listed s k t + oneIf (member k (listAt s t))
-unfolding oneIf
-listed-step s k t = listed-next s k t ∙ go (member k (listAt s t))
-  where
-    go : (b : Bool) → (if b then suc (listed s k t) else listed s k t) ≡ listed s k t + (if b then 1 else 0)
-    go true = omega arith
-    go false = omega arith
-
-pub one-most : (b : Bool) → oneIf b ≤ 1
-unfolding oneIf
-one-most true = omega arith
-one-most false = omega arith
-
-pub listed-most : (s : List ℕ) (k t : ℕ) → listed s k t ≤ t
-listed-most s k zero = omega (arith, listed-nil s k)
-listed-most s k (suc t) = omega (arith, listed-step s k t, one-most (member k (listAt s t)), listed-most s k t)
-
-pub listed-same : (s t : List ℕ) (k n : ℕ) → ((i : ℕ) → i < n → listAt s i ≡ listAt t i) → listed s k n ≡ listed t k n
-unfolding listed
-listed-same s t k n h = ap (λ (ls : List (List ℕ)). count ls k) (upTo-same (listAt s) (listAt t) n h)
 
 -- ---- the first numbers of a list
 
@@ -87,7 +58,7 @@ module _ (l : List ℕ) (j k : ℕ) (h : j < length l) where
 
 -- ---- the counts of a part
 
-module _ (s : List ℕ) (t : ℕ) where
+module _ (s : List ℕ) (t : ℕ) (here : t < treesHeldAt s) where
   pub part-none : (c : List ℕ) → Counted s t c → CountedPart s t 0 c
   unfolding oneIf member
   part-none c p = record { size = p .size; entries = λ k h. p .entries k h ∙ sym (add-zero (listed s k t)) }
@@ -96,11 +67,11 @@ module _ (s : List ℕ) (t : ℕ) where
   part-all j c h p =
       record {
         size = p .size;
-        entries = λ k l. p .entries k l ∙ rw (take-all j (listAt s t) h, add-one t) (sym (listed-step s k t));
+        entries = λ k l. p .entries k l ∙ rw (take-all j (listAt s t) h, add-one t) (sym (listed-step (partsAt s) k t here));
       }
 
   pub part-most : (j : ℕ) (c : List ℕ) → CountedPart s t j c → (x : ℕ) → x < splitsHeldAt s → getD c x 0 ≤ t + 1
-  part-most j c p x h = omega (arith, p .entries x h, one-most (member x (take j (listAt s t))), listed-most s x t)
+  part-most j c p x h = omega (arith, p .entries x h, one-most (member x (take j (listAt s t))), listed-most (partsAt s) x t (omega arith))
 
   module _ (j : ℕ) (c : List ℕ) (p : CountedPart s t j c) (r : Rising (treeAt s t)) (h : j < length (listAt s t)) where
     pub part-more : (x : ℕ) → getD (listAt s t) j 0 ≡ x → x < 4096 → CountedPart s t (j + 1) (set c x (getD c x 0 + 1))
@@ -110,7 +81,7 @@ module _ (s : List ℕ) (t : ℕ) where
             → getD (set c x (getD c x 0 + 1)) k 0 ≡ listed s k t + oneIf (member k (take (j + 1) (listAt s t)))
         go k l (inl q) =
             let z = p .size in
-            let m = front-here (listAt s t) j k h (maskAt s) (rw (← tree-is s t) r) (q ∙ sym e) in
+            let m = front-here (listAt s t) j k h (maskAt s) r (q ∙ sym e) in
             let w = p .entries k l in
             let u : getD c k 0 ≡ getD c x 0 = ap (λ (i : ℕ). getD c i 0) q in
             let v : getD c x 0 + 1 ≡ listed s k t + oneIf (member k (take (j + 1) (listAt s t))) = omega arith in
@@ -123,7 +94,7 @@ module _ (s : List ℕ) (t : ℕ) where
 
 -- no tree is counted yet
 pub counted-none : (s : List ℕ) → Counted s 0 (replicate 4096 0)
-counted-none s = record { size = length-replicate {A = ℕ} 4096 0; entries = λ k h. zeros 4096 k ∙ sym (listed-nil s k) }
+counted-none s = record { size = length-replicate {A = ℕ} 4096 0; entries = λ k h. zeros 4096 k ∙ sym (listed-nil (partsAt s) k) }
   where
     zeros : (n k : ℕ) → _≡_ {A = ℕ} (getD (replicate n 0) k 0) 0
     zeros zero k = refl
@@ -132,19 +103,18 @@ counted-none s = record { size = length-replicate {A = ℕ} 4096 0; entries = λ
 
 -- ---- a count's test, in the order of the code
 
-module _ (s : List ℕ) (k first x : ℕ) (d : first ≡ countsFrom (numbersAt s)) (q : x ≡ number 4 s (first + 4 * k)) where
+module _ (s : List ℕ) (k : ℕ) (h : k < splitsHeldAt s) (first x : ℕ) (d : first ≡ countsFrom (numbersAt s)) (q : x ≡ number 4 s (first + 4 * k)) where
   count-at : countAt s k ≡ x
-  unfolding countAt
-  count-at = rw (← d) (sym q)
+  count-at = count-is s k h ∙ rw (← d) (sym q)
 
   pub count-zero : x ≡ 0 → goodCount s k ≡ false
-  unfolding goodCount
+  unfolding countGood
   count-zero e = rw (count-at, e)
 
   pub count-wrong : (x ≡ listed s k (treesHeldAt s) → ⊥) → goodCount s k ≡ false
-  unfolding goodCount
+  unfolding countGood
   count-wrong n = rw (count-at, ne-eqb _ _ n) (and-false (leb 1 x))
 
   pub count-right : (x ≡ 0 → ⊥) → x ≡ listed s k (treesHeldAt s) → goodCount s k ≡ true
-  unfolding goodCount
+  unfolding countGood
   count-right n e = rw (count-at, le-leb 1 x (omega arith), eq-eqb _ _ e)

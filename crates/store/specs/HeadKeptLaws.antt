@@ -4,13 +4,34 @@
 --   first-kept, second-kept, opening-kept     the opening, where those from 16 up to 4,096 are equal too
 use Prim.Native.Nat.{ℕ, _+_, _*_, _≤_, _<_}
 use native.Mathlib.Omega.{arith}
-use mathlib.Core.Path.{_≡_, refl}
+use mathlib.Core.Path.{_≡_, refl, sym, _∙_}
 use mathlib.Core.List.{List}
-use lib.ListN.{length, getD}
+use lib.ListN.{length, getD, take, drop, length-drop}
+use lib.Seq.{length-take-le, getD-take, getD-drop, ext-getD}
 use Rattle.fields.specs.Field.{number}
+use Rattle.fields.specs.FieldLaws.{number-same}
 use Rattle.head.specs.Head.{numbersAt, nameAt, namesAt, firstAt, secondAt, openingAt}
 use Rattle.head.specs.HeadLaws.{upTo-same}
-use Rattle.store.specs.PartFrameLaws.{SameBetween, number-frame, run-frame}
+
+abbrev pub SameBetween : List ℕ → List ℕ → ℕ → ℕ → Type 0
+SameBetween s t a b = (i : ℕ) → a ≤ i → i < b → getD s i 0 ≡ getD t i 0
+
+-- ---- a number and a run of equal bytes
+
+pub number-frame : (s t : List ℕ) (k a c : ℕ) → a ≡ c → SameBetween s t a (a + k) → number k s a ≡ number k t c
+number-frame s t k a c e h = number-same k s t a c (λ i l. h (a + i) (omega arith) (omega arith) ∙ rw e)
+
+pub run-frame : (s t : List ℕ) (b n : ℕ) → b + n ≤ length s → b + n ≤ length t → SameBetween s t b (b + n) → take n (drop b s) ≡ take n (drop b t)
+run-frame s t b n f g h =
+    let p = length-drop b s in
+    let q = length-drop b t in
+    let u : length (take n (drop b s)) ≡ n = length-take-le n (drop b s) (omega arith) in
+    let v : length (take n (drop b t)) ≡ n = length-take-le n (drop b t) (omega arith) in
+    ext-getD 0 _ _ (u ∙ sym v) (λ i l.
+    let k : i < n = omega arith in
+    rw (getD-take n (drop b s), getD-take n (drop b t), getD-drop b s, getD-drop b t) (h (b + i) (omega arith) (omega arith)))
+
+-- ---- the head
 
 module _ (s t : List ℕ) (h : SameBetween s t 0 10) where
   number-kept : (a : ℕ) → a + 2 ≤ 10 → number 2 s a ≡ number 2 t a

@@ -8,7 +8,7 @@
 --   held-whole                     all that is held is in order
 use Prim.Native.Nat.{ℕ, _+_, _<_}
 use native.Mathlib.Omega.{arith}
-use mathlib.Core.Path.{_≡_, refl}
+use mathlib.Core.Path.{_≡_, refl, sym, _∙_}
 use mathlib.Core.Bool.{true}
 use mathlib.Core.List.{List}
 use lib.Dec.{eqb}
@@ -25,8 +25,9 @@ use Rattle.theorems.specs.WholeHeld.{whole}
 use Rattle.theorems.specs.HeldLaws.{Whole, facts-whole}
 use Rattle.fields.specs.Field.{number}
 use Rattle.head.specs.Head.{numbersAt, openingAt}
-use Rattle.head.specs.HeadLaws.{upTo-length}
-use Rattle.layout.specs.Store.{treesHeldAt, laneFrom, treeAt, laneAt, heldAt}
+use Rattle.head.specs.HeadLaws.{upTo-at}
+use Rattle.layout.specs.Store.{partsAt, treesHeldAt, laneFrom, treeAt, laneAt, heldAt, heldIn}
+use Rattle.layout.specs.StoreLaws.{shaped-at, length-is, lane-is}
 use Rattle.layout.specs.WholeStore.{wholeAt}
 use Rattle.layout.specs.WholeFacts.{WholeAt, whole-at-facts}
 use Rattle.layout.specs.UpToLaws.{upTo-mem}
@@ -37,20 +38,22 @@ use Rattle.store.specs.RecordedAtLaws.{trees-length, trees-mem, tree-mem
 
 module _ (s : List ℕ) where
   pub held-opening : heldAt s .opening ≡ openingAt s
-  unfolding heldAt
+  unfolding heldIn
   held-opening = refl
 
   pub held-numbers : heldAt s .opening .numbers ≡ numbersAt s
-  unfolding heldAt openingAt
+  unfolding heldIn openingAt
   held-numbers = refl
 
   pub texts-length : length (heldAt s .texts) ≡ numbersAt s .lanes
-  unfolding heldAt
-  texts-length = upTo-length (laneAt s) (numbersAt s .lanes)
+  unfolding heldIn
+  texts-length = shaped-at s .texts
 
   pub texts-mem : (x : Lane) → Mem x (heldAt s .texts) → (l : ℕ) × (l < numbersAt s .lanes) × (x ≡ laneAt s l)
-  unfolding heldAt
-  texts-mem x h = upTo-mem (laneAt s) (numbersAt s .lanes) x h
+  unfolding heldIn partsAt
+  texts-mem x h =
+      let r = upTo-mem _ (numbersAt s .lanes) x h in
+      (r .0, r .1, r .2 ∙ sym (upTo-at _ (numbersAt s .lanes) (r .0) _ (r .1)))
 
 -- ---- what whole bytes hold
 
@@ -66,7 +69,7 @@ module _ (s : List ℕ) (w : wholeAt s ≡ true) where
       every-intro (proper (numbersAt s .taxa)) (treeAt s i)
       (λ m q.
       let k = tree-mem s i m q in
-      rw (k .2) (mask-proper s (facts .splits) (k .0) (facts .lists i h .numbers-below (k .0) (k .1))))
+      rw (k .2) (mask-proper (partsAt s) (shaped-at s .order) (facts .splits) (k .0) (facts .lists i h .numbers-below (k .0) (k .1))))
 
   pub tree-rises : (i : ℕ) → i < treesHeldAt s → Rising (treeAt s i)
   tree-rises i h = rising-true (treeAt s i) (facts .lists i h .tree-rising)
@@ -76,12 +79,13 @@ module _ (s : List ℕ) (w : wholeAt s ≡ true) where
   tree-good i h = and-true (tree-proper i h) (and-true (facts .lists i h .tree-rising) (facts .lists i h .agreeing))
 
   pub lane-good : (l : ℕ) → l < numbersAt s .lanes → goodLane (laneAt s l) ≡ true
-  unfolding laneAt goodLane
+  unfolding goodLane
   lane-good l h =
-      by-test (λ (x : Lane). goodLane x ≡ true) (eqb (number 2 s (laneFrom l)) 4097) (λ e. refl)
+      rw (lane-is s l h)
+      (by-test (λ (x : Lane). goodLane x ≡ true) (eqb (number 2 s (laneFrom l)) 4097) (λ e. refl)
       (λ e.
       let n = length-take (number 2 s (laneFrom l)) (drop (laneFrom l + 8) s) in
-      le-leb (length (take (number 2 s (laneFrom l)) (drop (laneFrom l + 8) s))) mostText (omega (arith, facts .lanes l h, eqb-false (number 2 s (laneFrom l)) 4097 e)))
+      le-leb (length (take (number 2 s (laneFrom l)) (drop (laneFrom l + 8) s))) mostText (omega (arith, facts .lanes l h, length-is s l h, eqb-false (number 2 s (laneFrom l)) 4097 e))))
 
   held-facts : Whole (heldAt s)
   held-facts =

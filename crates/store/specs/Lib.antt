@@ -3,9 +3,7 @@ pub mod RecordedAtLaws
 pub mod HeldWholeLaws
 pub mod Chain
 pub mod ChainLaws
-pub mod PartFrameLaws
 pub mod HeadKeptLaws
-pub mod FrameLaws
 pub mod Sums
 pub mod SumLaws
 pub mod GoodHeadLaws
@@ -13,7 +11,6 @@ pub mod NeighbourLaws
 pub mod Splits
 pub mod SplitLaws
 pub mod ChainTests
-pub mod RoomLaws
 pub mod ListTests
 pub mod ListTestLaws
 pub mod Outer

@@ -1,52 +1,48 @@
--- Laws of rising lists of a function's values: neighbours that rise are enough. Assumes nothing.
+-- A list rises where each number is below the next. Assumes nothing.
 --
---   mem-from, from-mem     the members of a list made by `fromTo`
---   rise-neighbours        in a list that rises neighbours rise
---   later-above            where neighbours rise, each value is above all before
---   neighbours-rise        so the list rises
-use Prim.Native.Nat.{ℕ, zero, suc, _+_, _-_, _≤_, _<_}
-use native.Mathlib.Nat.{eq-or-lt-of-le}
+--   neighbours-rise        neighbours that rise are enough
+--   front-rises, front-falls     of the first numbers of a list
+use Prim.Native.Nat.{ℕ, suc, _≤_, _<_}
 use native.Mathlib.Omega.{arith}
-use mathlib.Core.Path.{_≡_, refl, ap, sym, subst}
-use mathlib.Core.Logic.{inl, inr, ⊎-elim}
+use mathlib.Core.Path.{_≡_, refl, sym}
+use mathlib.Core.Logic.{inl, inr}
+use mathlib.Core.Bool.{Bool, true, false}
+use mathlib.Core.List.{List, [], _∷_}
+use lib.ListN.{length, getD, take}
+use lib.Seq.{length-take-le, getD-take}
+use Rattle.trees.specs.Whole.{rising}
 use Rattle.theorems.specs.ListLaws.{Mem}
-use Rattle.theorems.specs.RisingLaws.{Rising}
-use Rattle.head.specs.Head.{fromTo}
+use Rattle.theorems.specs.RisingLaws.{Rising, rising-true, true-rising}
+use Rattle.layout.specs.UpToLaws.{rising-at}
 
-module _ (f : ℕ → ℕ) where
-  pub mem-from : (k n y : ℕ) → Mem y (fromTo f k n) → (i : ℕ) × (k ≤ i) × (i < k + n) × (y ≡ f i)
-  unfolding fromTo
-  mem-from k (suc n) y (inl e) = (k, omega arith, omega arith, e)
-  mem-from k (suc n) y (inr h) = let r = mem-from (suc k) n y h in (r .0, omega arith, omega arith, r .3)
+pub neighbours-rise : (l : List ℕ) → ((i : ℕ) → suc i < length l → getD l i 0 < getD l (suc i) 0) → Rising l
+neighbours-rise [] up = tt
+neighbours-rise (x ∷ []) up = ((λ y h. absurd h), tt)
+neighbours-rise (x ∷ y ∷ l) up =
+    let rest = neighbours-rise (y ∷ l) (λ i q. up (suc i) (omega arith)) in
+    (above (up 0 (omega arith)) (rest .0), rest)
+  where
+    above : x < y → ((z : ℕ) → Mem z l → y < z) → (z : ℕ) → Mem z (y ∷ l) → x < z
+    above a f z (inl e) = rw e a
+    above a f z (inr h) = omega (arith, f z h)
 
-  pub from-mem : (k n i : ℕ) → k ≤ i → i < k + n → Mem (f i) (fromTo f k n)
-  unfolding fromTo
-  from-mem k zero i a b = absurd (omega arith)
-  from-mem k (suc n) i a b =
-      ⊎-elim (λ (e : k ≡ i). inl (ap f (sym e))) (λ (l : k < i). inr (from-mem (suc k) n i l (omega arith))) (eq-or-lt-of-le a)
+module _ (l : List ℕ) (n : ℕ) (h : n ≤ length l) where
+  long : length (take n l) ≡ n
+  long = length-take-le n l h
 
-  pub rise-neighbours : (k n : ℕ) → Rising (fromTo f k n) → (i : ℕ) → k ≤ i → suc i < k + n → f i < f (suc i)
-  unfolding fromTo
-  rise-neighbours k zero h i a b = absurd (omega arith)
-  rise-neighbours k (suc n) h i a b =
-      ⊎-elim
-      (λ (e : k ≡ i). subst (λ (j : ℕ). f j < f (suc i)) e (h .0 (f (suc i)) (from-mem (suc k) n (suc i) (omega arith) (omega arith))))
-      (λ (l : k < i). rise-neighbours (suc k) n (h .1) i l (omega arith))
-      (eq-or-lt-of-le a)
+  at : (i : ℕ) → i < n → getD (take n l) i 0 ≡ getD l i 0
+  at i q = getD-take n l i 0 q
 
-  module _ (top : ℕ) (up : (i : ℕ) → suc i < top → f i < f (suc i)) where
-    pub later-above : (d i j : ℕ) → j ≡ i + suc d → j < top → f i < f j
-    later-above zero i j e l = let q : j ≡ suc i = omega arith in rw q (up i (omega arith))
-    later-above (suc d) i j e l =
-        let a = later-above d i (i + suc d) refl (omega arith) in
-        let b = up (i + suc d) (omega arith) in
-        let q : j ≡ suc (i + suc d) = omega arith in
-        rw q (omega arith)
+  pub front-rises : ((i : ℕ) → suc i < n → getD l i 0 < getD l (suc i) 0) → rising (take n l) ≡ true
+  front-rises f =
+      true-rising (take n l) (neighbours-rise (take n l) (λ i q.
+      let k : suc i < n = omega (arith, long) in
+      omega (arith, f i k, at i (omega arith), at (suc i) k)))
 
-    pub neighbours-rise : (k n : ℕ) → k + n ≤ top → Rising (fromTo f k n)
-    unfolding fromTo
-    neighbours-rise k zero l = tt
-    neighbours-rise k (suc n) l = (
-      λ y h. let r = mem-from (suc k) n y h in rw (r .3) (later-above (r .0 - suc k) k (r .0) (omega arith) (omega arith)),
-      neighbours-rise (suc k) n (omega arith),
-    )
+  pub front-falls : (i : ℕ) → suc i < n → getD l (suc i) 0 ≤ getD l i 0 → rising (take n l) ≡ false
+  front-falls i a q = go (rising (take n l)) refl
+    where
+      go : (b : Bool) → rising (take n l) ≡ b → b ≡ false
+      go false e = refl
+      go true e =
+          absurd (omega (arith, rising-at (take n l) (rising-true (take n l) e) i (suc i) (omega arith) (omega (arith, long)), at i (omega arith), at (suc i) a))

@@ -13,6 +13,7 @@ use mathlib.Core.Path.{_≡_, refl, sym, _∙_}
 use mathlib.Core.Bool.{true, false, _&&_}
 use mathlib.Core.List.{List}
 use lib.Dec.{ltb}
+use lib.ListN.{length, getD}
 use lib.Count.{ones, onesIn}
 use borrow.Author.Tests.{ltb-true, lt-ltb, le-ltb, eq-eqb, ne-eqb}
 use Rattle.trees.specs.Plain.{every}
@@ -24,13 +25,15 @@ use Rattle.theorems.specs.OpeningLaws.{both}
 use Rattle.theorems.specs.ProperLaws.{proper-two}
 use Rattle.theorems.specs.RisingLaws.{rising-true, true-rising}
 use Rattle.fields.specs.Field.{number}
-use Rattle.head.specs.Head.{upTo, numbersAt, secondAt}
-use Rattle.layout.specs.Store.{splitsHeldAt, masksFrom, identifiersFrom, orderFrom, maskAt, orderAt, splitAt, masksAt, identifierAt}
-use Rattle.layout.specs.WholeStore.{allBelow, goodOrder, goodIdentifier, goodSplits}
-use Rattle.layout.specs.UpToLaws.{bool-same}
-use Rattle.store.specs.Splits.{maskBefore, goodMask}
+use Rattle.head.specs.Head.{numbersAt, secondAt}
+use Rattle.layout.specs.Store.{partsAt, splitsHeldAt, masksFrom, identifiersFrom, orderFrom, maskAt, orderAt, splitAt, masksAt, identifierAt}
+use Rattle.layout.specs.WholeStore.{allBelow, goodOrder, goodIdentifier, goodSplits, identifierGood, orderGood, splitsGood}
+use Rattle.layout.specs.StoreLaws.{shaped-at, mask-is, identifier-is, order-is}
 use Rattle.layout.specs.AllLaws.{all-at, all-intro}
-use Rattle.store.specs.NeighbourLaws.{mem-from, from-mem, rise-neighbours, neighbours-rise}
+use Rattle.layout.specs.UpToLaws.{bool-same, mem-getD, mem-at, rising-at}
+use Rattle.layout.specs.OrderLaws.{masks-length, number-mask}
+use Rattle.store.specs.NeighbourLaws.{neighbours-rise}
+use Rattle.store.specs.Splits.{maskBefore, goodMask}
 
 -- ---- a proper mask
 
@@ -49,32 +52,28 @@ pub before-more : (s : List ℕ) (k : ℕ) → maskBefore s (k + 1) ≡ splitAt 
 unfolding maskBefore
 before-more s k = rw (add-one k)
 
-module _ (s : List ℕ) (k at m : ℕ) where
+module _ (s : List ℕ) (k at m : ℕ) (h : k < splitsHeldAt s) where
   pub mask-read : at ≡ masksFrom (numbersAt s) → m ≡ number 8 s (at + 8 * k) → m ≡ maskAt s k
-  unfolding maskAt
-  mask-read e q = q ∙ rw e
+  mask-read e q = q ∙ rw e (sym (mask-is s k h))
 
   pub identifier-read : at ≡ identifiersFrom (numbersAt s) → m ≡ number 8 s (at + 8 * k) → m ≡ identifierAt s k
-  unfolding identifierAt
-  identifier-read e q = q ∙ rw e
+  identifier-read e q = q ∙ rw e (sym (identifier-is s k h))
 
   pub row-read : at ≡ orderFrom (numbersAt s) → m ≡ number 2 s (at + 2 * k) → m ≡ orderAt s k
-  unfolding orderAt
-  row-read e q = q ∙ rw e
+  row-read e q = q ∙ rw e (sym (order-is s k h))
 
 -- the mask that is read in the row of number k
 pub split-read : (s : List ℕ) (k row m : ℕ) → row ≡ orderAt s k → m ≡ maskAt s row → m ≡ splitAt s k
-unfolding splitAt
 split-read s k row m e q = q ∙ rw e
 
 module _ (s : List ℕ) (k row : ℕ) (r : row ≡ orderAt s k) where
   pub order-bad : splitsHeldAt s ≤ row → goodMask s k ≡ false
-  unfolding goodMask goodOrder
+  unfolding goodMask orderGood
   order-bad h = rw (← r, le-ltb row (splitsHeldAt s) h)
 
   module _ (h : row < splitsHeldAt s) (n m : ℕ) (e : n ≡ numbersAt s .taxa) (q : m ≡ splitAt s k) where
     ordered : goodOrder s k ≡ true
-    unfolding goodOrder
+    unfolding orderGood
     ordered = rw (← r) (lt-ltb row (splitsHeldAt s) h)
 
     pub mask-improper : proper n m ≡ false → goodMask s k ≡ false
@@ -92,21 +91,26 @@ module _ (s : List ℕ) (k row : ℕ) (r : row ≡ orderAt s k) where
 
 module _ (s : List ℕ) (k m x y : ℕ) (q : m ≡ maskAt s k) (i : x ≡ identifierAt s k) (j : y ≡ identifier (secondAt s) m) where
   pub identifier-good : x ≡ y → goodIdentifier s k ≡ true
-  unfolding goodIdentifier
+  unfolding identifierGood
   identifier-good e = eq-eqb _ _ (sym i ∙ e ∙ j ∙ rw q)
 
   pub identifier-bad : (x ≡ y → ⊥) → goodIdentifier s k ≡ false
-  unfolding goodIdentifier
+  unfolding identifierGood
   identifier-bad f = ne-eqb _ _ (λ e. f (i ∙ e ∙ sym (j ∙ rw q)))
 
 module _ (s : List ℕ) where
+  long : length (masksAt s) ≡ splitsHeldAt s
+  long = masks-length (partsAt s) (shaped-at s .order)
+
+  at-number : (i : ℕ) → i < splitsHeldAt s → getD (masksAt s) i 0 ≡ splitAt s i
+  at-number i l = number-mask (partsAt s) (shaped-at s .order) i l
+
   each-proper : every (proper (numbersAt s .taxa)) (masksAt s) ≡ true → (i : ℕ) → i < splitsHeldAt s → proper (numbersAt s .taxa) (splitAt s i) ≡ true
-  unfolding masksAt upTo
-  each-proper e i l = every-at _ _ e (splitAt s i) (from-mem (splitAt s) 0 (splitsHeldAt s) i (omega arith) (omega arith))
+  each-proper e i l = rw (← at-number i l) (every-at _ _ e _ (mem-getD (masksAt s) i (omega (arith, long))))
 
   neighbours : rising (masksAt s) ≡ true → (i : ℕ) → suc i < splitsHeldAt s → splitAt s i < splitAt s (suc i)
-  unfolding masksAt upTo
-  neighbours h i l = rise-neighbours (splitAt s) 0 (splitsHeldAt s) (rising-true _ h) i (omega arith) (omega arith)
+  neighbours h i l =
+      omega (arith, rising-at (masksAt s) (rising-true _ h) i (suc i) (omega arith) (omega (arith, long)), at-number i (omega arith), at-number (suc i) l)
 
   each-above : every (proper (numbersAt s .taxa)) (masksAt s) ≡ true → rising (masksAt s) ≡ true
       → (i : ℕ) → i < splitsHeldAt s → maskBefore s i < splitAt s i
@@ -135,20 +139,20 @@ module _ (s : List ℕ) where
   all-ordered h = all-intro (goodOrder s) _ (λ i l. mask-ordered i (all-at _ _ h i l))
 
   all-proper : allBelow (goodMask s) (splitsHeldAt s) ≡ true → every (proper (numbersAt s .taxa)) (masksAt s) ≡ true
-  unfolding masksAt upTo
   all-proper h =
       every-intro _ _ (λ y k.
-      let r = mem-from (splitAt s) 0 (splitsHeldAt s) y k in
-      rw (r .3) (mask-proper (r .0) (all-at _ _ h (r .0) (omega arith))))
+      let r = mem-at (masksAt s) y k in
+      let l : r .0 < splitsHeldAt s = omega (arith, r .1, long) in
+      rw (← r .2, at-number (r .0) l) (mask-proper (r .0) (all-at _ _ h (r .0) l)))
 
   all-rising : allBelow (goodMask s) (splitsHeldAt s) ≡ true → rising (masksAt s) ≡ true
-  unfolding masksAt upTo
   all-rising h =
-      true-rising _
-      (neighbours-rise (splitAt s) (splitsHeldAt s) (λ i l. mask-above i (all-at _ _ h (suc i) l)) 0 (splitsHeldAt s) (omega arith))
+      true-rising _ (neighbours-rise (masksAt s) (λ i l.
+      let q : suc i < splitsHeldAt s = omega (arith, long) in
+      omega (arith, mask-above i (all-at _ _ h (suc i) q), at-number i (omega arith), at-number (suc i) q)))
 
   good-apart : goodSplits s ≡ true → (allBelow (goodMask s) (splitsHeldAt s) && allBelow (goodIdentifier s) (splitsHeldAt s)) ≡ true
-  unfolding goodSplits
+  unfolding splitsGood
   good-apart e =
       let o = both (allBelow (goodOrder s) (splitsHeldAt s)) _ e in
       let p = both (every (proper (numbersAt s .taxa)) (masksAt s)) _ (o .1) in
@@ -156,7 +160,7 @@ module _ (s : List ℕ) where
       and-true (masks-all (o .0) (p .0) (r .0)) (r .1)
 
   good-together : (allBelow (goodMask s) (splitsHeldAt s) && allBelow (goodIdentifier s) (splitsHeldAt s)) ≡ true → goodSplits s ≡ true
-  unfolding goodSplits
+  unfolding splitsGood
   good-together e =
       let h = both (allBelow (goodMask s) (splitsHeldAt s)) (allBelow (goodIdentifier s) (splitsHeldAt s)) e in
       and-true (all-ordered (h .0)) (and-true (all-proper (h .0)) (and-true (all-rising (h .0)) (h .1)))

@@ -14,19 +14,18 @@ use Rattle.trees.specs.Mask.{proper}
 use Rattle.trees.specs.Hash.{place}
 use Rattle.head.specs.Head.{numbersAt, firstAt}
 use Rattle.layout.specs.Store.{maskAt, splitAt}
-use Rattle.layout.specs.WholeStore.{goodOrder, highestBelow}
+use Rattle.layout.specs.WholeStore.{goodOrder, highestBelow, orderGood}
 
 unfoldable pub maskBefore : List ℕ → ℕ → ℕ
-unfolding splitAt
 maskBefore s zero = 0
 maskBefore s (suc k) = splitAt s k
 
 unfoldable pub goodMask : List ℕ → ℕ → Bool
-unfolding goodOrder proper numbersAt splitAt maskBefore
+unfolding orderGood proper numbersAt maskBefore
 goodMask s k = goodOrder s k && (proper (numbersAt s .taxa) (splitAt s k) && ltb (maskBefore s k) (splitAt s k))
 
 unfoldable pub placeAt : List ℕ → ℕ → ℕ
-unfolding place firstAt numbersAt maskAt
+unfolding place firstAt numbersAt
 placeAt s k = place (firstAt s) (numbersAt s .places) (maskAt s k)
 
 -- there are at most 8,192 places

@@ -3,20 +3,20 @@
 use answers::Tree;
 ghost use mathlib.Core.Path.{_≡_};
 ghost use mathlib.Core.Bool.{true};
-ghost use Prim.Native.Nat.{_+_, _*_, _≤_, _<_};
+ghost use Prim.Native.Nat.{_+_, _≤_, _<_};
 ghost use lib.ListN.{length, take};
 ghost use lib.Bits.{bitAnd};
 ghost use Rattle.trees.specs.Whole.{rising, agreeInPairs};
-ghost use Rattle.fields.specs.Field.{number};
 ghost use Rattle.head.specs.Head.{numbersAt};
-ghost use Rattle.layout.specs.Store.{treesHeldAt, splitsHeldAt, treeFrom, listAt, treeAt};
-ghost use Rattle.layout.specs.WholeStore.{allBelow, goodHead, goodList, goodCount, goodLaneAt};
+ghost use Rattle.layout.specs.Store.{treesHeldAt, splitsHeldAt, listAt};
+ghost use Rattle.layout.specs.WholeStore.{allBelow, goodList, goodCount, goodLaneAt};
+ghost use Rattle.layout.specs.WholeFacts.{HeadAt};
 ghost use Rattle.store.specs.ListTests.{allRows, Counted};
 ghost use Rattle.store.specs.Outer.{UnionAt};
 
 // Whether every tree's list is in order.
 pub(crate) fn lists_good(s: &[u8]) -> bool
-    requires { ⌜ goodHead (now s) ≡ true ⌝ }
+    requires { ⌜ HeadAt (now s) ⌝ }
     ensures { λ r. ⌜ r ≡ allBelow (goodList (now (s .entry))) (treesHeldAt (now (s .entry))) ⌝ }
 {
     let trees = layout::trees_held(s);
@@ -32,11 +32,11 @@ pub(crate) fn lists_good(s: &[u8]) -> bool
 
 // Whether tree i lists at most 62 recorded splits, whose masks rise and agree in pairs.
 pub(crate) fn list_good(s: &[u8], i: usize) -> bool
-    requires { ⌜ goodHead (now s) ≡ true ⌝ }
+    requires { ⌜ HeadAt (now s) ⌝ }
     requires { ⌜ i < treesHeldAt (now s) ⌝ }
     ensures { λ r. ⌜ r ≡ goodList (now (s .entry)) i ⌝ }
 {
-    let n = layout::number16(s, tree_from(s, i));
+    let n = rows::splits_in(s, Tree(i));
     if 62 < n {
         return false;
     }
@@ -44,7 +44,7 @@ pub(crate) fn list_good(s: &[u8], i: usize) -> bool
         return false;
     }
     let mut masks = [0; 64];
-    copy_masks(s, i, n, &mut masks);
+    rows::copy_tree(s, Tree(i), &mut masks);
     if !masks_rise(&masks, n) {
         return false;
     }
@@ -53,17 +53,17 @@ pub(crate) fn list_good(s: &[u8], i: usize) -> bool
 
 // Whether the n rows of tree i are those of recorded splits.
 fn rows_below(s: &[u8], i: usize, n: usize) -> bool
-    requires { ⌜ goodHead (now s) ≡ true ⌝ }
+    requires { ⌜ HeadAt (now s) ⌝ }
     requires { ⌜ i < treesHeldAt (now s) ⌝ }
-    requires { ⌜ n ≡ number 2 (now s) (treeFrom (numbersAt (now s)) i) ⌝ }
+    requires { ⌜ n ≡ length (listAt (now s) i) ⌝ }
     requires { ⌜ n ≤ 62 ⌝ }
     ensures { λ r. ⌜ r ≡ allRows (splitsHeldAt (now (s .entry))) (listAt (now (s .entry)) i) ⌝ }
 {
-    let from = tree_from(s, i) + 2;
+    let from = rows::tree_from(s, Tree(i));
     let splits = layout::splits_held(s);
     let mut j = 0;
     while j < n {
-        if splits <= layout::number16(s, from + 2 * j) {
+        if splits <= rows::row_in(s, Tree(i), from, j) {
             return false;
         }
         j += 1;
@@ -85,27 +85,6 @@ fn masks_rise(masks: &[u64; 64], n: usize) -> bool
         j += 1;
     }
     true
-}
-
-// Copies the n masks of tree i to the front of `masks`.
-fn copy_masks(s: &[u8], i: usize, n: usize, masks: &mut [u64; 64])
-    requires { ⌜ goodHead (now s) ≡ true ⌝ }
-    requires { ⌜ i < treesHeldAt (now s) ⌝ }
-    requires { ⌜ n ≡ number 2 (now s) (treeFrom (numbersAt (now s)) i) ⌝ }
-    requires { ⌜ n ≤ 62 ⌝ }
-    requires { ⌜ allRows (splitsHeldAt (now s)) (listAt (now s) i) ≡ true ⌝ }
-    requires { ⌜ length (now masks) ≡ 64 ⌝ }
-    ensures { λ r. ⌜ take n (now (masks .exit)) ≡ treeAt (now (s .entry)) i ⌝ }
-    ensures { λ r. ⌜ length (now (masks .exit)) ≡ 64 ⌝ }
-{
-    let from = tree_from(s, i) + 2;
-    let first = layout::masks_from(s);
-    let mut j = 0;
-    while j < n {
-        let k = layout::number16(s, from + 2 * j);
-        masks[j] = fields::get64(s, first + 8 * k);
-        j += 1;
-    }
 }
 
 // Whether every two of the first n masks, which rise, agree. Of the masks passed, `outer` has those
@@ -161,7 +140,7 @@ fn union_at(outer: &[u64; 64], taxa: u64) -> u64
 
 // Whether every split's count is the number of trees that list it, at least 1.
 pub(crate) fn counts_good(s: &[u8]) -> bool
-    requires { ⌜ goodHead (now s) ≡ true ⌝ }
+    requires { ⌜ HeadAt (now s) ⌝ }
     requires { ⌜ allBelow (goodList (now s)) (treesHeldAt (now s)) ≡ true ⌝ }
     ensures { λ r. ⌜ r ≡ allBelow (goodCount (now (s .entry))) (splitsHeldAt (now (s .entry))) ⌝ }
 {
@@ -172,7 +151,7 @@ pub(crate) fn counts_good(s: &[u8]) -> bool
 
 // Adds up, for each split, how many trees list it.
 fn count_lists(s: &[u8], counts: &mut [u16; 4096])
-    requires { ⌜ goodHead (now s) ≡ true ⌝ }
+    requires { ⌜ HeadAt (now s) ⌝ }
     requires { ⌜ allBelow (goodList (now s)) (treesHeldAt (now s)) ≡ true ⌝ }
     requires { ⌜ Counted (now s) 0 (now counts) ⌝ }
     ensures { λ r. ⌜ Counted (now (s .entry)) (treesHeldAt (now (s .entry))) (now (counts .exit)) ⌝ }
@@ -187,17 +166,17 @@ fn count_lists(s: &[u8], counts: &mut [u16; 4096])
 
 // Adds one to the count of each split that tree i lists.
 fn count_list(s: &[u8], i: usize, counts: &mut [u16; 4096])
-    requires { ⌜ goodHead (now s) ≡ true ⌝ }
+    requires { ⌜ HeadAt (now s) ⌝ }
     requires { ⌜ i < treesHeldAt (now s) ⌝ }
     requires { ⌜ goodList (now s) i ≡ true ⌝ }
     requires { ⌜ Counted (now s) i (now counts) ⌝ }
     ensures { λ r. ⌜ Counted (now (s .entry)) (i + 1) (now (counts .exit)) ⌝ }
 {
-    let from = tree_from(s, i);
+    let from = rows::tree_from(s, Tree(i));
     let n = layout::number16(s, from);
     let mut j = 0;
     while j < n {
-        let k = layout::number16(s, from + 2 + 2 * j);
+        let k = rows::row_in(s, Tree(i), from, j);
         counts[k] = counts[k] + 1;
         j += 1;
     }
@@ -205,7 +184,7 @@ fn count_list(s: &[u8], i: usize, counts: &mut [u16; 4096])
 
 // Whether every split's count is the one that was added up, at least 1.
 fn counts_match(s: &[u8], counts: &[u16; 4096]) -> bool
-    requires { ⌜ goodHead (now s) ≡ true ⌝ }
+    requires { ⌜ HeadAt (now s) ⌝ }
     requires { ⌜ Counted (now s) (treesHeldAt (now s)) (now counts) ⌝ }
     ensures { λ r. ⌜ r ≡ allBelow (goodCount (now (s .entry))) (splitsHeldAt (now (s .entry))) ⌝ }
 {
@@ -227,7 +206,7 @@ fn counts_match(s: &[u8], counts: &[u16; 4096]) -> bool
 
 // Whether every lane's length is in range.
 pub(crate) fn lanes_good(s: &[u8]) -> bool
-    requires { ⌜ goodHead (now s) ≡ true ⌝ }
+    requires { ⌜ HeadAt (now s) ⌝ }
     ensures { λ r. ⌜ r ≡ allBelow (goodLaneAt (now (s .entry))) (numbersAt (now (s .entry)) .lanes) ⌝ }
 {
     let lanes = head::lanes(s) as usize;
@@ -239,16 +218,6 @@ pub(crate) fn lanes_good(s: &[u8]) -> bool
         l += 1;
     }
     true
-}
-
-// Where tree i begins, 128 bytes of which are lent.
-fn tree_from(s: &[u8], i: usize) -> usize
-    requires { ⌜ goodHead (now s) ≡ true ⌝ }
-    requires { ⌜ i < treesHeldAt (now s) ⌝ }
-    ensures { λ r. ⌜ r ≡ treeFrom (numbersAt (now (s .entry))) i ⌝ }
-    ensures { λ r. ⌜ r + 128 ≤ length (now (s .entry)) ⌝ }
-{
-    layout::tree_from(s, Tree(i))
 }
 
 // x in 32 bits, of which it takes 16.

@@ -7,15 +7,17 @@ ghost use mathlib.Core.Bool.{true, false};
 ghost use Rattle.trees.specs.Hash.{place};
 ghost use Rattle.head.specs.Head.{numbersAt, firstAt};
 ghost use Rattle.layout.specs.Store.{splitsHeldAt};
-ghost use Rattle.layout.specs.WholeStore.{allBelow, goodHead, goodIdentifier, goodSplits, goodStart, goodChains};
+ghost use Rattle.layout.specs.WholeStore.{allBelow, goodIdentifier, goodSplits, goodStart, goodChains};
+ghost use Rattle.layout.specs.WholeFacts.{HeadAt};
 ghost use Rattle.store.specs.Splits.{goodMask, Highest};
 ghost use Rattle.store.specs.Sums.{constantsAt, Sums};
+use answers::Split;
 use crate::sums::fill_sums;
 use crate::sums::sum_over;
 
 // Whether the recorded masks are proper and rise, and the stored identifiers are right.
 pub(crate) fn splits_good(s: &[u8]) -> bool
-    requires { ⌜ goodHead (now s) ≡ true ⌝ }
+    requires { ⌜ HeadAt (now s) ⌝ }
     ensures { λ r. ⌜ r ≡ goodSplits (now (s .entry)) ⌝ }
 {
     if !masks_good(s) {
@@ -27,21 +29,19 @@ pub(crate) fn splits_good(s: &[u8]) -> bool
 // Whether each number has a row, and its mask is proper and above the one before; a proper mask is
 // above 0, before the first.
 fn masks_good(s: &[u8]) -> bool
-    requires { ⌜ goodHead (now s) ≡ true ⌝ }
+    requires { ⌜ HeadAt (now s) ⌝ }
     ensures { λ r. ⌜ r ≡ allBelow (goodMask (now (s .entry))) (splitsHeldAt (now (s .entry))) ⌝ }
 {
     let n = head::taxa(s);
-    let from = layout::masks_from(s);
-    let order = layout::order_from(s);
     let held = layout::splits_held(s);
     let mut last = 0u64;
     let mut k = 0;
     while k < held {
-        let row = layout::number16(s, order + 2 * k);
+        let row = rows::row_of(s, Split(k));
         if held <= row {
             return false;
         }
-        let m = fields::get64(s, from + 8 * row);
+        let m = rows::mask_at(s, row);
         if !masks::is_proper(m, n) {
             return false;
         }
@@ -56,18 +56,16 @@ fn masks_good(s: &[u8]) -> bool
 
 // Whether each stored identifier is that of its split's mask.
 fn identifiers_good(s: &[u8]) -> bool
-    requires { ⌜ goodHead (now s) ≡ true ⌝ }
+    requires { ⌜ HeadAt (now s) ⌝ }
     ensures { λ r. ⌜ r ≡ allBelow (goodIdentifier (now (s .entry))) (splitsHeldAt (now (s .entry))) ⌝ }
 {
     let mut sums = [0; 2048];
     fill_sums(s, true, &mut sums);
-    let from = layout::masks_from(s);
-    let to = layout::identifiers_from(s);
     let held = layout::splits_held(s);
     let mut k = 0;
     while k < held {
-        let m = fields::get64(s, from + 8 * k);
-        if fields::get64(s, to + 8 * k) != sum_over(&sums, m) {
+        let m = rows::mask_at(s, k);
+        if rows::identifier_at(s, k) != sum_over(&sums, m) {
             return false;
         }
         k += 1;
@@ -77,19 +75,17 @@ fn identifiers_good(s: &[u8]) -> bool
 
 // Whether the chain of each place meets its splits, each once and the highest first.
 pub(crate) fn chains_good(s: &[u8]) -> bool
-    requires { ⌜ goodHead (now s) ≡ true ⌝ }
+    requires { ⌜ HeadAt (now s) ⌝ }
     ensures { λ r. ⌜ r ≡ goodChains (now (s .entry)) ⌝ }
 {
     let mut sums = [0; 2048];
     fill_sums(s, false, &mut sums);
-    let from = layout::masks_from(s);
-    let to = layout::links_from(s);
     let held = layout::splits_held(s);
     let mut highest = [0u16; 8192];
     let mut k = 0;
     while k < held {
-        let p = place_of(s, &sums, fields::get64(s, from + 8 * k));
-        if fields::get16(s, to + 2 * k) != highest[p] {
+        let p = place_of(s, &sums, rows::mask_at(s, k));
+        if rows::link_at(s, k) != highest[p] as usize {
             return false;
         }
         k += 1;
@@ -100,7 +96,7 @@ pub(crate) fn chains_good(s: &[u8]) -> bool
 
 // The place of the split m, by the table of the sums of the first constants.
 fn place_of(s: &[u8], sums: &[u64; 2048], m: u64) -> usize
-    requires { ⌜ goodHead (now s) ≡ true ⌝ }
+    requires { ⌜ HeadAt (now s) ⌝ }
     requires { ⌜ Sums (constantsAt false (now s)) 8 (now sums) ⌝ }
     ensures { λ r. ⌜ r ≡ place (firstAt (now (s .entry))) (numbersAt (now (s .entry)) .places) m ⌝ }
 {
@@ -109,15 +105,14 @@ fn place_of(s: &[u8], sums: &[u64; 2048], m: u64) -> usize
 
 // Whether the chain of each place starts at the highest of its splits.
 fn starts_good(s: &[u8], highest: &[u16; 8192]) -> bool
-    requires { ⌜ goodHead (now s) ≡ true ⌝ }
+    requires { ⌜ HeadAt (now s) ⌝ }
     requires { ⌜ Highest (now s) (splitsHeldAt (now s)) (now highest) ⌝ }
     ensures { λ r. ⌜ r ≡ allBelow (goodStart (now (s .entry))) (numbersAt (now (s .entry)) .places) ⌝ }
 {
-    let from = layout::places_from(s);
     let n = head::places(s) as usize;
     let mut p = 0;
     while p < n {
-        if fields::get16(s, from + 2 * p) != highest[p] {
+        if rows::start_at(s, p) != highest[p] as usize {
             return false;
         }
         p += 1;

@@ -6,7 +6,7 @@ ghost use mathlib.Core.Path.{_≡_};
 ghost use mathlib.Core.Bool.{true};
 ghost use Prim.Native.Nat.{_+_, _*_, _≤_, _<_};
 ghost use lib.ListN.{length, getD};
-ghost use Rattle.layout.specs.WholeStore.{goodHead};
+ghost use Rattle.layout.specs.WholeFacts.{HeadAt};
 ghost use Rattle.store.specs.Sums.{constantsAt, Sums, SumBy, ByteSums, Doubled};
 use answers::Taxon;
 
@@ -28,7 +28,7 @@ pub(crate) fn sum_over(sums: &[u64; 2048], m: u64) -> u64
 
 // Makes the table of the second constants, or of the first.
 pub(crate) fn fill_sums(s: &[u8], second: bool, sums: &mut [u64; 2048])
-    requires { ⌜ goodHead (now s) ≡ true ⌝ }
+    requires { ⌜ HeadAt (now s) ⌝ }
     requires { ⌜ length (now sums) ≡ 2048 ⌝ }
     ensures { λ r. ⌜ Sums (constantsAt second (now (s .entry))) 8 (now (sums .exit)) ⌝ }
 {
@@ -41,7 +41,7 @@ pub(crate) fn fill_sums(s: &[u8], second: bool, sums: &mut [u64; 2048])
 
 // Makes the 256 sums of byte b: none of its taxa, then a taxon more at a time.
 fn fill_byte(s: &[u8], second: bool, b: usize, sums: &mut [u64; 2048])
-    requires { ⌜ goodHead (now s) ≡ true ⌝ }
+    requires { ⌜ HeadAt (now s) ⌝ }
     requires { ⌜ b < 8 ⌝ }
     requires { ⌜ length (now sums) ≡ 2048 ⌝ }
     ensures { λ r. ⌜ ByteSums (constantsAt second (now (s .entry))) b 256 (now (sums .entry)) (now (sums .exit)) ⌝ }
@@ -72,7 +72,7 @@ fn double(sums: &mut [u64; 2048], at: usize, width: usize, c: u64)
 
 // The second constant of taxon i, or the first; 0 where the store has no such taxon.
 fn constant(s: &[u8], second: bool, i: Taxon) -> u64
-    requires { ⌜ goodHead (now s) ≡ true ⌝ }
+    requires { ⌜ HeadAt (now s) ⌝ }
     requires { ⌜ i .0 < 64 ⌝ }
     ensures { λ r. ⌜ r ≡ getD (constantsAt second (now (s .entry))) (i .0) 0 ⌝ }
 {

@@ -29,7 +29,7 @@ use Rattle.layout.specs.UpToLaws.{less-or-not}
 use Rattle.opening.specs.Given.{numbersOf}
 use Rattle.opening.specs.GivenLaws.{range-not-taxa}
 use Rattle.table.specs.Promises.{OpenedAs}
-use Rattle.table.specs.FrontLaws.{copied-more, copied-all}
+use Rattle.rows.specs.FrontLaws.{copied-more, copied-all}
 use Rattle.table.specs.OpenLaws.{not-in-range, refused-as}
 use Rattle.summary.specs.Summary.{spacesIn, summaryNumbers, firstConstant, secondConstant, namesOpening, summaryOpening, summaryBytes}
 use Rattle.summary.specs.FirstLine.{Kept, keptOpening}

@@ -6,7 +6,6 @@ pub mod OpenLaws
 pub mod Asked
 pub mod Counts
 pub mod CountsLaws
-pub mod FrontLaws
 pub mod QuestionLaws
 pub mod Filled
 pub mod FilledLaws

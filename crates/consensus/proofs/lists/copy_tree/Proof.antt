@@ -7,7 +7,7 @@ use lib.ListN.{length, take, drop}
 use lib.Seq.{take-append-seam}
 use Rattle.layout.specs.Store.{treeAt}
 use Rattle.rows.specs.ReadLaws.{tree-most}
-use Rattle.table.specs.FrontLaws.{copied-length, copied-more, copied-all}
+use Rattle.rows.specs.FrontLaws.{copied-length, copied-more, copied-all}
 use Rattle.consensus.proofs.lists.copy_tree.Statement.{statement}
 use Rattle.consensus.proofs.lists.copy_tree.Tie as tie
 

@@ -27,7 +27,7 @@ returns : tie.Need-returns Inv-loop μ-loop
 returns c =
     let l = c .before .before .before .loop in
     let d = c .before .before .before .before .before .counts-from .ensures .0 in
-    sym (all-fails (goodCount _) _ (l .k) (omega arith) (count-zero _ _ _ _ d (c .before .get32 .ensures) (c .if1 .taken)))
+    sym (all-fails (goodCount _) _ (l .k) (omega arith) (count-zero _ _ (omega arith) _ _ d (c .before .get32 .ensures) (c .if1 .taken)))
 
 returns-2 : tie.Need-returns-2 Inv-loop μ-loop
 returns-2 c =
@@ -35,7 +35,7 @@ returns-2 c =
     let l = b .before .before .loop in
     let d = b .before .before .before .before .counts-from .ensures .0 in
     let e = b .before .before .before .before .before .before .pre .1 .entries (l .k) (omega arith) in
-    sym (all-fails (goodCount _) _ (l .k) (omega arith) (count-wrong _ _ _ _ d (b .get32 .ensures) (λ q. c .if2 .taken (omega arith))))
+    sym (all-fails (goodCount _) _ (l .k) (omega arith) (count-wrong _ _ (omega arith) _ _ d (b .get32 .ensures) (λ q. c .if2 .taken (omega arith))))
 
 loop-again : tie.Need-loop-again Inv-loop μ-loop
 loop-again c =
@@ -43,7 +43,7 @@ loop-again c =
     let l = b .before .before .loop in
     let d = b .before .before .before .before .counts-from .ensures .0 in
     let e = b .before .before .before .before .before .before .pre .1 .entries (l .k) (omega arith) in
-    let r = count-right _ _ _ _ d (b .get32 .ensures) (c .before .before .before .if1 .left) (omega arith) in
+    let r = count-right _ (l .k) (omega arith) _ _ d (b .get32 .ensures) (c .before .before .before .if1 .left) (omega arith) in
     (omega arith, l .inv .1, l .inv .2, all-more (goodCount _) _ (l .inv .3) r)
 
 returns-3 : tie.Need-returns-3 Inv-loop μ-loop

@@ -26,12 +26,12 @@ inside c κs =
 
 returns : tie.Need-returns Inv-loop μ-loop
 returns c =
-    sym (all-fails (goodLaneAt _) _ (c .before .before .before .loop .l) (omega arith) (lane-long _ _ (omega arith)))
+    sym (all-fails (goodLaneAt _) _ (c .before .before .before .loop .l) (omega arith) (lane-long _ _ (omega arith) (omega arith)))
 
 loop-again : tie.Need-loop-again Inv-loop μ-loop
 loop-again c =
     let v = c .before .before .before .loop .inv in
-    (omega arith, v .1, all-more (goodLaneAt _) _ (v .2) (lane-short _ _ (omega arith)))
+    (omega arith, v .1, all-more (goodLaneAt _) _ (v .2) (lane-short _ _ (omega arith) (omega arith)))
 
 returns-2 : tie.Need-returns-2 Inv-loop μ-loop
 returns-2 c =

@@ -13,7 +13,7 @@ returns : tie.Need-returns
 returns c =
     let d = c .before .before .before .before in
     let n = c .before .number16 .ensures .0 ∙ ap (number 2 (d .args .s .now)) (c .before .before .tree-from .ensures .0) in
-    sym (list-long _ _ (omega arith))
+    sym (list-long _ _ (d .pre .1) (omega arith))
 
 rows-below-requires : tie.Need-rows-below-requires
 rows-below-requires c κs =
@@ -26,7 +26,7 @@ returns-2 c =
     let b = c .before .before .before in
     let d = b .before .before .before in
     let n = b .number16 .ensures .0 ∙ ap (number 2 (d .args .s .now)) (b .before .tree-from .ensures .0) in
-    sym (list-foreign _ _ (omega arith) (failed _ _ (c .before .rows-below .ensures) (c .if2 .taken)))
+    sym (list-foreign _ _ (d .pre .1) (omega arith) (failed _ _ (c .before .rows-below .ensures) (c .if2 .taken)))
 
 copy-masks-requires : tie.Need-copy-masks-requires
 copy-masks-requires c κs =
@@ -44,7 +44,7 @@ returns-3 c =
     let n = b .number16 .ensures .0 ∙ ap (number 2 (d .args .s .now)) (b .before .tree-from .ensures .0) in
     let r = passed _ _ (e .before .rows-below .ensures) (e .if2 .left) in
     let m = ap rising (c .before .before .before .copy-masks .ensures .0) in
-    sym (list-falls _ _ (omega arith) r (sym m ∙ failed _ _ (c .before .masks-rise .ensures) (c .if3 .taken)))
+    sym (list-falls _ _ (d .pre .1) (omega arith) r (sym m ∙ failed _ _ (c .before .masks-rise .ensures) (c .if3 .taken)))
 
 pairs-agree-requires : tie.Need-pairs-agree-requires
 pairs-agree-requires c κs = (search needs, (search needs, passed _ _ (c .before .before .masks-rise .ensures) (c .before .if3 .left)))
@@ -59,7 +59,7 @@ returns-4 c =
     let r = passed _ _ (e .before .rows-below .ensures) (e .if2 .left) in
     let m = f .before .before .before .copy-masks .ensures .0 in
     let q = sym (ap rising m) ∙ passed _ _ (f .before .masks-rise .ensures) (f .if3 .left) in
-    c .pairs-agree .ensures ∙ ap agreeInPairs m ∙ sym (list-rest _ _ (omega arith) r q)
+    c .pairs-agree .ensures ∙ ap agreeInPairs m ∙ sym (list-rest _ _ (d .pre .1) (omega arith) r q)
 
 pub list-good-spec : {M : Type 1} → statement M
 list-good-spec =

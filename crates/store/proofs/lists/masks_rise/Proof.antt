@@ -6,7 +6,7 @@ use mathlib.Core.List.{List}
 use native.Mathlib.Omega.{arith}
 use lib.ListN.{getD}
 use Rattle.layout.specs.UpToLaws.{less-or-not}
-use Rattle.store.specs.ListTestLaws.{front-rises, front-falls}
+use Rattle.store.specs.NeighbourLaws.{front-rises, front-falls}
 use Rattle.store.proofs.lists.masks_rise.Statement.{statement}
 use Rattle.store.proofs.lists.masks_rise.Tie as tie
 
@@ -46,7 +46,7 @@ loop-again c =
 returns-2 : tie.Need-returns-2 Inv-loop μ-loop
 returns-2 c =
     let a = c .before .before .args in
-    sym (front-rises (a .masks .now) (a .n) (omega arith) (c .before .loop .j) (omega arith) (c .before .loop .inv .1))
+    sym (front-rises (a .masks .now) (a .n) (omega arith) (λ i h. c .before .loop .inv .1 i (omega arith)))
 
 pub masks-rise-spec : {M : Type 1} → statement M
 masks-rise-spec =

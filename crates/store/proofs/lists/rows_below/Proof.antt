@@ -6,7 +6,8 @@ use lib.ListN.{drop}
 use Rattle.layout.specs.Store.{listAt}
 use Rattle.store.specs.RoomLaws.{good-head}
 use Rattle.store.specs.ListTests.{allRows}
-use Rattle.store.specs.ListTestLaws.{list-length, list-number, rows-more, rows-high, rows-end}
+use Rattle.layout.specs.StoreLaws.{list-length}
+use Rattle.store.specs.ListTestLaws.{list-number, rows-more, rows-high, rows-end}
 use Rattle.store.proofs.lists.rows_below.Statement.{statement}
 use Rattle.store.proofs.lists.rows_below.Tie as tie
 
@@ -20,8 +21,8 @@ returns : tie.Need-returns Inv-loop μ-loop
 returns c =
     let a = c .before .before .before .before .before .before .before .args in
     let l = c .before .before .before .loop in
-    let n = list-length (a .s .now) (a .i) in
-    let x = list-number (a .s .now) (a .i) (l .j) _ _ (omega arith) (omega arith) (c .before .number16 .ensures .0) in
+    let n = list-length (a .s .now) (a .i) (omega arith) in
+    let x = list-number (a .s .now) (a .i) (omega arith) (l .j) _ _ (omega arith) (omega arith) (c .before .number16 .ensures .0) in
     rw (← c .before .before .before .before .splits-held .ensures .0)
     (sym (l .inv .1 ∙ rows-high _ (listAt (a .s .now) (a .i)) (l .j) _ (omega arith) x (omega arith)))
 
@@ -29,14 +30,14 @@ loop-again : tie.Need-loop-again Inv-loop μ-loop
 loop-again c =
     let a = c .before .before .before .before .before .before .before .args in
     let l = c .before .before .before .loop in
-    let n = list-length (a .s .now) (a .i) in
-    let x = list-number (a .s .now) (a .i) (l .j) _ _ (omega arith) (omega arith) (c .before .number16 .ensures .0) in
+    let n = list-length (a .s .now) (a .i) (omega arith) in
+    let x = list-number (a .s .now) (a .i) (omega arith) (l .j) _ _ (omega arith) (omega arith) (c .before .number16 .ensures .0) in
     (omega arith, l .inv .1 ∙ rows-more _ (listAt (a .s .now) (a .i)) (l .j) _ (omega arith) x (omega arith))
 
 returns-2 : tie.Need-returns-2 Inv-loop μ-loop
 returns-2 c =
     let a = c .before .before .before .before .before .args in
-    let n = list-length (a .s .now) (a .i) in
+    let n = list-length (a .s .now) (a .i) (omega arith) in
     rw (← c .before .before .splits-held .ensures .0)
     (sym (c .before .loop .inv .1 ∙ rows-end _ (listAt (a .s .now) (a .i)) (c .before .loop .j) (omega arith)))
 

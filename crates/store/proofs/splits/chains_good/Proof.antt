@@ -59,11 +59,11 @@ returns c =
     let g = c .before .before in
     let l = g .before .before .before .before in
     let d = l .before .before .before .before .before .before .before in
-    let m = mask-read _ (l .loop .k) _ _ (l .before .before .before .masks-from .ensures .0) (g .before .get64 .ensures) in
+    let m = mask-read _ (l .loop .k) _ _ (omega arith) (l .before .before .before .masks-from .ensures .0) (g .before .get64 .ensures) in
     let p = place-read _ _ _ _ m (g .place-of .ensures) in
     let h = place-small _ (good-head _ (d .pre)) _ _ (g .place-of .ensures) in
     let a = l .before .before .links-from .ensures .0 in
-    let e = link-bad _ _ _ _ _ _ a (c .before .get16 .ensures) p (l .loop .inv .3 .each _ h) (c .if1 .taken) in
+    let e = link-bad _ (l .loop .k) (omega arith) _ _ _ _ a (c .before .get16 .ensures) p (l .loop .inv .3 .each _ h) (c .if1 .taken) in
     let s = d .args .s .now in
     let f : allBelow (goodLink s) (splitsHeldAt s) ≡ false = all-fails _ _ (l .loop .k) (omega arith) e in
     sym (good-chains s ∙ rw f)
@@ -83,11 +83,11 @@ loop-again c =
     let g = c .before .before in
     let l = g .before .before .before .before in
     let d = l .before .before .before .before .before .before .before in
-    let m = mask-read _ (l .loop .k) _ _ (l .before .before .before .masks-from .ensures .0) (g .before .get64 .ensures) in
+    let m = mask-read _ (l .loop .k) _ _ (omega arith) (l .before .before .before .masks-from .ensures .0) (g .before .get64 .ensures) in
     let p = place-read _ _ _ _ m (g .place-of .ensures) in
     let h = place-small _ (good-head _ (d .pre)) _ _ (g .place-of .ensures) in
     let a = l .before .before .links-from .ensures .0 in
-    let e = link-good _ _ _ _ _ _ a (c .before .get16 .ensures) p (l .loop .inv .3 .each _ h) (c .if1 .left) in (
+    let e = link-good _ (l .loop .k) (omega arith) _ _ _ _ a (c .before .get16 .ensures) p (l .loop .inv .3 .each _ h) (c .if1 .left) in (
       omega arith,
       l .loop .inv .1,
       simp length-set (l .loop .inv .2),

@@ -36,8 +36,8 @@ returns : tie.Need-returns Inv-loop μ-loop
 returns c =
     let g = c .before .before .before in
     let l = g .before .before .before in
-    let m = mask-read _ (l .loop .k) _ _ (l .before .before .before .masks-from .ensures .0) (g .before .get64 .ensures) in
-    let i = identifier-read _ (l .loop .k) _ _ (l .before .before .identifiers-from .ensures .0) (g .get642 .ensures) in
+    let m = mask-read _ (l .loop .k) _ _ (omega arith) (l .before .before .before .masks-from .ensures .0) (g .before .get64 .ensures) in
+    let i = identifier-read _ (l .loop .k) _ _ (omega arith) (l .before .before .identifiers-from .ensures .0) (g .get642 .ensures) in
     let r = identifier-sum _ _ _ _ (l .loop .inv .2) (c .before .sum-over .ensures) in
     let e = identifier-bad _ _ _ _ _ m i r (c .if1 .taken) in
     sym (all-fails _ _ (l .loop .k) (omega arith) e)
@@ -46,8 +46,8 @@ loop-again : tie.Need-loop-again Inv-loop μ-loop
 loop-again c =
     let g = c .before .before .before in
     let l = g .before .before .before in
-    let m = mask-read _ (l .loop .k) _ _ (l .before .before .before .masks-from .ensures .0) (g .before .get64 .ensures) in
-    let i = identifier-read _ (l .loop .k) _ _ (l .before .before .identifiers-from .ensures .0) (g .get642 .ensures) in
+    let m = mask-read _ (l .loop .k) _ _ (omega arith) (l .before .before .before .masks-from .ensures .0) (g .before .get64 .ensures) in
+    let i = identifier-read _ (l .loop .k) _ _ (omega arith) (l .before .before .identifiers-from .ensures .0) (g .get642 .ensures) in
     let r = identifier-sum _ _ _ _ (l .loop .inv .2) (c .before .sum-over .ensures) in
     let e = identifier-good _ _ _ _ _ m i r (c .if1 .left) in
     (omega arith, all-more _ _ (l .loop .inv .1) e, l .loop .inv .2)

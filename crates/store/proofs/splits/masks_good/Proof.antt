@@ -30,7 +30,7 @@ number16-requires c κs =
 returns : tie.Need-returns Inv-loop μ-loop
 returns c =
     let l = c .before .before .before in
-    let r = row-read _ (l .loop .k) _ _ (l .before .before .order-from .ensures .0) (c .before .number16 .ensures .0) in
+    let r = row-read _ (l .loop .k) _ _ (omega arith) (l .before .before .order-from .ensures .0) (c .before .number16 .ensures .0) in
     sym (all-fails _ _ (l .loop .k) (omega arith) (order-bad _ _ _ r (omega arith)))
 
 get64-requires : tie.Need-get64-requires Inv-loop μ-loop
@@ -43,8 +43,8 @@ returns-2 : tie.Need-returns-2 Inv-loop μ-loop
 returns-2 c =
     let g = c .before .before in
     let l = g .before .before .before .before in
-    let r = row-read _ (l .loop .k) _ _ (l .before .before .order-from .ensures .0) (g .before .before .number16 .ensures .0) in
-    let m = split-read _ _ _ _ r (mask-read _ _ _ _ (l .before .before .before .masks-from .ensures .0) (g .get64 .ensures)) in
+    let r = row-read _ (l .loop .k) _ _ (omega arith) (l .before .before .order-from .ensures .0) (g .before .before .number16 .ensures .0) in
+    let m = split-read _ _ _ _ r (mask-read _ _ _ _ (omega arith) (l .before .before .before .masks-from .ensures .0) (g .get64 .ensures)) in
     let p = sym (c .before .is-proper .ensures) ∙ not-true _ (c .if2 .taken) in
     let e = mask-improper _ _ _ r (omega arith) _ _ (l .before .before .before .before .taxa .ensures .0) m p in
     sym (all-fails _ _ (l .loop .k) (omega arith) e)
@@ -54,8 +54,8 @@ returns-3 c =
     let d = c .before .before in
     let g = d .before .before in
     let l = g .before .before .before .before in
-    let r = row-read _ (l .loop .k) _ _ (l .before .before .order-from .ensures .0) (g .before .before .number16 .ensures .0) in
-    let m = split-read _ _ _ _ r (mask-read _ _ _ _ (l .before .before .before .masks-from .ensures .0) (g .get64 .ensures)) in
+    let r = row-read _ (l .loop .k) _ _ (omega arith) (l .before .before .order-from .ensures .0) (g .before .before .number16 .ensures .0) in
+    let m = split-read _ _ _ _ r (mask-read _ _ _ _ (omega arith) (l .before .before .before .masks-from .ensures .0) (g .get64 .ensures)) in
     let p = sym (d .before .is-proper .ensures) ∙ not-false _ (d .if2 .left) in
     let b = sym (c .before .comes-before .ensures) ∙ not-true _ (c .if3 .taken) in
     let e = mask-below _ _ _ r (omega arith) _ _ (l .before .before .before .before .taxa .ensures .0) m p _ (l .loop .inv .1) b in
@@ -66,8 +66,8 @@ loop-again c =
     let d = c .before .before in
     let g = d .before .before in
     let l = g .before .before .before .before in
-    let r = row-read _ (l .loop .k) _ _ (l .before .before .order-from .ensures .0) (g .before .before .number16 .ensures .0) in
-    let m = split-read _ _ _ _ r (mask-read _ _ _ _ (l .before .before .before .masks-from .ensures .0) (g .get64 .ensures)) in
+    let r = row-read _ (l .loop .k) _ _ (omega arith) (l .before .before .order-from .ensures .0) (g .before .before .number16 .ensures .0) in
+    let m = split-read _ _ _ _ r (mask-read _ _ _ _ (omega arith) (l .before .before .before .masks-from .ensures .0) (g .get64 .ensures)) in
     let p = sym (d .before .is-proper .ensures) ∙ not-false _ (d .if2 .left) in
     let b = sym (c .before .comes-before .ensures) ∙ not-false _ (c .if3 .left) in
     let e = mask-good _ _ _ r (omega arith) _ _ (l .before .before .before .before .taxa .ensures .0) m p _ (l .loop .inv .1) b in

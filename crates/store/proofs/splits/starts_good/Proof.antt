@@ -34,7 +34,7 @@ returns c =
     let l = g .before .before in
     let h = l .before .before .before .before .pre .1 in
     let a = l .before .before .places-from .ensures .0 in
-    let e = start-bad _ (l .loop .p) _ _ _ a (g .get16 .ensures) (h .each _ (omega arith)) (c .if1 .taken) in
+    let e = start-bad _ (l .loop .p) (omega arith) _ _ _ a (g .get16 .ensures) (h .each _ (omega arith)) (c .if1 .taken) in
     sym (all-fails _ _ (l .loop .p) (omega arith) e)
 
 loop-again : tie.Need-loop-again Inv-loop μ-loop
@@ -43,7 +43,7 @@ loop-again c =
     let l = g .before .before in
     let h = l .before .before .before .before .pre .1 in
     let a = l .before .before .places-from .ensures .0 in
-    let e = start-good _ (l .loop .p) _ _ _ a (g .get16 .ensures) (h .each _ (omega arith)) (c .if1 .left) in
+    let e = start-good _ (l .loop .p) (omega arith) _ _ _ a (g .get16 .ensures) (h .each _ (omega arith)) (c .if1 .left) in
     (omega arith, omega arith, all-more _ _ (l .loop .inv .2) e)
 
 returns-2 : tie.Need-returns-2 Inv-loop μ-loop

@@ -10,7 +10,7 @@ use Rattle.store.specs.SplitLaws.{split-read}
 use Rattle.table.specs.Counts.{countsAt}
 use Rattle.table.specs.CountsLaws.{counts-length, number-count, row-count}
 use Rattle.rows.specs.ReadLaws.{long, count-small}
-use Rattle.table.specs.FrontLaws.{copied-length, copied-more, copied-all}
+use Rattle.rows.specs.FrontLaws.{copied-length, copied-more, copied-all}
 use Rattle.table.proofs.questions.copy_splits.Statement.{statement}
 use Rattle.table.proofs.questions.copy_splits.Tie as tie
 

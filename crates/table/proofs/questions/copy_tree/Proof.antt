@@ -6,7 +6,7 @@ use native.Mathlib.Omega.{arith}
 use lib.ListN.{length, take, drop}
 use Rattle.layout.specs.Store.{treeAt}
 use Rattle.rows.specs.ReadLaws.{tree-most}
-use Rattle.table.specs.FrontLaws.{copied-length, copied-more, copied-all}
+use Rattle.rows.specs.FrontLaws.{copied-length, copied-more, copied-all}
 use Rattle.table.proofs.questions.copy_tree.Statement.{statement}
 use Rattle.table.proofs.questions.copy_tree.Tie as tie
 
