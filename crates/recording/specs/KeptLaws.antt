@@ -4,7 +4,7 @@
 --   numbers-kept, opening-kept            the opening's numbers, where the first 10 bytes are kept; the opening, where those from 16 on are too
 use Prim.Native.Nat.{ℕ, _+_, _*_, _≤_, _<_}
 use native.Mathlib.Omega.{arith}
-use mathlib.Core.Path.{_≡_, refl, sym, ap, ap₂, _∙_}
+use mathlib.Core.Path.{_≡_, refl, sym, ap, _∙_}
 use mathlib.Core.Bool.{Bool, true, false}
 use mathlib.Core.List.{List}
 use lib.Dec.{eqb}
@@ -12,10 +12,10 @@ use lib.ListN.{length, getD, take, drop, length-drop}
 use lib.Seq.{length-take-le, getD-take, getD-drop, ext-getD}
 use borrow.Author.Tests.{eqb-false}
 use Rattle.trees.specs.Plain.{if_then_else_}
-use Rattle.trees.specs.Held.{Lane, holding, overrun}
+use Rattle.trees.specs.Held.{holding, overrun}
 use Rattle.fields.specs.Field.{number}
 use Rattle.fields.specs.FieldLaws.{number-same}
-use Rattle.head.specs.Head.{upTo, numbersAt, nameAt, namesAt, firstAt, secondAt, openingAt}
+use Rattle.head.specs.Head.{numbersAt, nameAt, namesAt, firstAt, secondAt, openingAt}
 use Rattle.head.specs.HeadLaws.{upTo-same}
 use Rattle.layout.specs.Columns.{columnAt, column-same}
 use Rattle.layout.specs.Store.{listFrom, textFrom}

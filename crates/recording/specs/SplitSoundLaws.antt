@@ -10,18 +10,18 @@ use native.Mathlib.Numerals.{add-one}
 use native.Mathlib.Omega.{arith}
 use mathlib.Core.Path.{_≡_, refl, sym, ap, ap₂, _∙_, subst}
 use mathlib.Core.Logic.{_⊎_, inl, inr}
-use mathlib.Core.Bool.{true, false}
+use mathlib.Core.Bool.{Bool, true, false}
 use mathlib.Core.List.{List, [], _∷_, _++_, map}
 use lib.Dec.{eqb}
-use lib.ListN.{length, length-append, length-set, length-map, List·getD-append, List·getD-map}
+use lib.ListN.{length, getD, set, length-append, length-set, length-map, List·getD-append, List·getD-map}
 use lib.Seq.{ext-getD, getD-at, getD-set-same, getD-set-other}
-use borrow.Author.Tests.{eq-eqb, ne-eqb}
+use borrow.Author.Tests.{eqb-true, eqb-false}
 use Rattle.trees.specs.Plain.{if_then_else_, member}
 use Rattle.trees.specs.Mask.{proper}
 use Rattle.trees.specs.Hash.{place, identifier}
 use Rattle.trees.specs.Opening.{Opening}
 use Rattle.trees.specs.Splits.{insert}
-use Rattle.theorems.specs.ListLaws.{if-true, if-false, Mem, member-not, not-member, every-at, every-intro}
+use Rattle.theorems.specs.ListLaws.{if-false, Mem, member-not, not-member, every-at, every-intro}
 use Rattle.theorems.specs.RisingLaws.{rising-true, true-rising, insert-mem, insert-rising}
 use Rattle.layout.specs.Store.{Parts, splitsIn, treesIn, maskIn, identifierIn, countIn, linkIn, startIn, orderIn, masksIn, listIn, treeIn, heldIn}
 use Rattle.layout.specs.StoreLaws.{Shaped}
@@ -34,32 +34,16 @@ use Rattle.recording.specs.RowLaws.{map-same, row-mem, row-length, row-m
 
 -- ---- a column with one more
 
-one-more : {A : Type 0} (l : List A) (x : A) → length (l ++ x ∷ []) ≡ suc (length l)
+one-more : (l : List ℕ) (x : ℕ) → length (l ++ x ∷ []) ≡ suc (length l)
 one-more l x = length-append l (x ∷ []) ∙ add-one (length l)
 
--- what holds of the rows below n and of row n holds of those below n + 1
-by-row : (n : ℕ) (P : ℕ → Type 0) → ((j : ℕ) → j < n → P j) → P n → (j : ℕ) → j < suc n → P j
-by-row n P f e j h = go (less-or-not j n)
+-- what holds of each row and its value, and of row n and the new value, holds of all
+each-row : (l : List ℕ) (x n : ℕ) → length l ≡ n → (P : ℕ → ℕ → Type 0) → ((j : ℕ) → j < n → P j (getD l j 0)) → P n x → (j : ℕ) → j < suc n → P j (getD (l ++ x ∷ []) j 0)
+each-row l x n e P f g j h = go (less-or-not j n)
   where
-    go : (j < n) ⊎ (n ≤ j) → P j
-    go (inl l) = f j l
-    go (inr l) = let d : n ≡ j = omega arith in subst P d e
-
--- ---- the highest row of a place
-
-highest-same : (h : ℕ → ℕ) (p p′ : Parts) (q n : ℕ) → ((k : ℕ) → k < n → maskIn p′ k ≡ maskIn p k) → highestIn h p′ q n ≡ highestIn h p q n
-unfolding highestIn
-highest-same h p p′ q zero e = refl
-highest-same h p p′ q (suc n) e =
-    ap₂ (λ (m x : ℕ). if eqb (h m) q then suc n else x) (e n (omega arith)) (highest-same h p p′ q n (λ k l. e k (omega arith)))
-
-highest-here : (h : ℕ → ℕ) (p : Parts) (q n : ℕ) → h (maskIn p n) ≡ q → highestIn h p q (suc n) ≡ suc n
-unfolding highestIn
-highest-here h p q n e = if-true _ _ (eq-eqb _ _ e)
-
-highest-lower : (h : ℕ → ℕ) (p : Parts) (q n : ℕ) → (h (maskIn p n) ≡ q → ⊥) → highestIn h p q (suc n) ≡ highestIn h p q n
-unfolding highestIn
-highest-lower h p q n e = if-false _ _ (ne-eqb _ _ e)
+    go : (j < n) ⊎ (n ≤ j) → P j (getD (l ++ x ∷ []) j 0)
+    go (inl b) = rw (List·getD-append l (x ∷ []) 0 j (omega arith)) (f j b)
+    go (inr b) = let d : j ≡ n = omega arith in rw (d, getD-at l x [] 0 n e) g
 
 module _ (o : Opening) (m : ℕ) (p : Parts) (f : Sound o p) where
   abbrev new : Parts
@@ -95,8 +79,8 @@ module _ (o : Opening) (m : ℕ) (p : Parts) (f : Sound o p) where
       let F = map (maskIn new) in
       let G = map (maskIn p) in
       let e : map F (p .lists) ≡ map G (p .lists) =
-          ext-getD [] _ _ (length-map (p .lists) F ∙ sym (length-map (p .lists) G)) (λ i h.
-          List·getD-map F (p .lists) i [] ∙ tree-same i (omega (arith, length-map (p .lists) F)) ∙ sym (List·getD-map G (p .lists) i [])) in
+      ext-getD [] _ _ (length-map (p .lists) F ∙ sym (length-map (p .lists) G)) (λ i h.
+      List·getD-map F (p .lists) i [] ∙ tree-same i (omega (arith, length-map (p .lists) F)) ∙ sym (List·getD-map G (p .lists) i [])) in
       rw e
 
   pub split-masks : member m (masksIn p) ≡ false → masksIn new ≡ insert m (masksIn p)
@@ -119,9 +103,8 @@ module _ (o : Opening) (m : ℕ) (p : Parts) (f : Sound o p) where
   identifier-new : (j : ℕ) → j < suc (splitsIn p) → identifierIn new j ≡ identifier (o .second) (maskIn new j)
   unfolding withSplit
   identifier-new =
-      by-row (splitsIn p) (λ j. identifierIn new j ≡ identifier (o .second) (maskIn new j))
-      (λ j h. List·getD-append (p .identifiers) _ 0 j (omega (arith, f .shaped .identifiers)) ∙ f .splits .identifiers j h ∙ ap (identifier (o .second)) (sym (mask-old j h)))
-      (getD-at (p .identifiers) _ [] 0 _ (f .shaped .identifiers) ∙ ap (identifier (o .second)) (sym mask-new))
+      each-row (p .identifiers) _ (splitsIn p) (f .shaped .identifiers) (λ (j y : ℕ). y ≡ identifier (o .second) (maskIn new j))
+      (λ j h. f .splits .identifiers j h ∙ ap (identifier (o .second)) (sym (mask-old j h))) (ap (identifier (o .second)) (sym mask-new))
 
   splits-new : proper (o .numbers .taxa) m ≡ true → member m (masksIn p) ≡ false → SplitsIn (o .numbers .taxa) (o .second) new
   splits-new good other =
@@ -162,47 +145,37 @@ module _ (o : Opening) (m : ℕ) (p : Parts) (f : Sound o p) where
   count-new : (k : ℕ) → k < suc (splitsIn p) → countIn new k ≡ listedIn new k (treesIn new)
   unfolding withSplit listedIn
   count-new =
-      by-row (splitsIn p) (λ k. countIn new k ≡ listedIn p k (treesIn p))
-      (λ k h. List·getD-append (p .counts) _ 0 k (omega (arith, f .shaped .counts)) ∙ f .counts k h)
-      (getD-at (p .counts) 0 [] 0 _ (f .shaped .counts) ∙ sym (listed-none (treesIn p) (omega arith)))
+      each-row (p .counts) 0 (splitsIn p) (f .shaped .counts) (λ (k y : ℕ). y ≡ listedIn p k (treesIn p)) (f .counts) (sym (listed-none (treesIn p) (omega arith)))
 
   -- ---- the chains
 
   abbrev h : ℕ → ℕ
   h = place (o .first) (o .numbers .places)
 
-  module _ (below : h m < o .numbers .places) where
-    high-old : (q n : ℕ) → n ≤ splitsIn p → highestIn h new q n ≡ highestIn h p q n
-    high-old q n l = highest-same h p new q n (λ k g. mask-old k (omega arith))
+  high-old : (q n : ℕ) → n ≤ splitsIn p → highestIn h p q n ≡ highestIn h new q n
+  unfolding highestIn
+  high-old q zero l = refl
+  high-old q (suc n) l = ap₂ (λ (y x : ℕ). if eqb (h y) q then suc n else x) (sym (mask-old n l)) (high-old q n (omega arith))
 
+  high-new : (q : ℕ) → (if eqb (h m) q then suc (splitsIn p) else highestIn h p q (splitsIn p)) ≡ highestIn h new q (suc (splitsIn p))
+  unfolding highestIn
+  high-new q = ap₂ (λ (y x : ℕ). if eqb (h y) q then suc (splitsIn p) else x) (sym mask-new) (high-old q (splitsIn p) (omega arith))
+
+  module _ (below : h m < o .numbers .places) where
     link-new : (k : ℕ) → k < suc (splitsIn p) → linkIn new k ≡ highestIn h new (h (maskIn new k)) k
     unfolding withSplit
     link-new =
-        by-row (splitsIn p) (λ k. linkIn new k ≡ highestIn h new (h (maskIn new k)) k)
-        (λ k l.
-        List·getD-append (p .links) _ 0 k (omega (arith, f .shaped .links))
-        ∙ f .chains .links k l ∙ sym (high-old _ k (omega arith)) ∙ ap (λ (x : ℕ). highestIn h new (h x) k) (sym (mask-old k l)))
-        (getD-at (p .links) _ [] 0 _ (f .shaped .links)
-        ∙ f .chains .starts (h m) below ∙ sym (high-old _ _ (omega arith)) ∙ ap (λ (x : ℕ). highestIn h new (h x) (splitsIn p)) (sym mask-new))
-
-    start-other : (q : ℕ) → q < o .numbers .places → (q ≡ h m → ⊥) → startIn new q ≡ highestIn h new q (suc (splitsIn p))
-    unfolding withSplit
-    start-other q l d =
-        getD-set-other (p .starts) (h m) q _ 0 d
-        ∙ f .chains .starts q l ∙ sym (high-old q _ (omega arith)) ∙ sym (highest-lower h new q (splitsIn p) (λ e. d (sym e ∙ ap h mask-new)))
-
-    start-here : startIn new (h m) ≡ highestIn h new (h m) (suc (splitsIn p))
-    unfolding withSplit
-    start-here =
-        getD-set-same (p .starts) (h m) _ 0 (omega (arith, f .shaped .starts, below)) ∙ sym (highest-here h new (h m) (splitsIn p) (ap h mask-new))
+        each-row (p .links) _ (splitsIn p) (f .shaped .links) (λ (k y : ℕ). y ≡ highestIn h new (h (maskIn new k)) k)
+        (λ k l. f .chains .links k l ∙ high-old _ k (omega arith) ∙ ap (λ (x : ℕ). highestIn h new (h x) k) (sym (mask-old k l)))
+        (f .chains .starts (h m) below ∙ high-old _ _ (omega arith) ∙ ap (λ (x : ℕ). highestIn h new (h x) (splitsIn p)) (sym mask-new))
 
     start-new : (q : ℕ) → q < o .numbers .places → startIn new q ≡ highestIn h new q (suc (splitsIn p))
-    start-new q l = go (less-or-not q (h m)) (less-or-not (h m) q)
+    unfolding withSplit
+    start-new q l = go (eqb (h m) q) refl ∙ high-new q
       where
-        go : (q < h m) ⊎ (h m ≤ q) → (h m < q) ⊎ (q ≤ h m) → startIn new q ≡ highestIn h new q (suc (splitsIn p))
-        go (inl a) b = start-other q l (λ e. omega arith)
-        go (inr a) (inl b) = start-other q l (λ e. omega arith)
-        go (inr a) (inr b) = let e : q ≡ h m = omega arith in rw e start-here
+        go : (b : Bool) → eqb (h m) q ≡ b → getD (set (p .starts) (h m) (suc (splitsIn p))) q 0 ≡ (if b then suc (splitsIn p) else highestIn h p q (splitsIn p))
+        go true e = rw (← eqb-true (h m) q e) (getD-set-same (p .starts) (h m) _ 0 (omega (arith, f .shaped .starts, below)))
+        go false e = getD-set-other (p .starts) (h m) q _ 0 (λ d. eqb-false _ _ e (sym d)) ∙ f .chains .starts q l
 
     chains-new : ChainsIn h (o .numbers .places) new
     chains-new = let e = split-number in record { links = λ k l. link-new k (rw e at l); starts = λ q l. rw e (start-new q l) }
