@@ -1,10 +1,10 @@
 -- The definitions that the contracts cite, and their laws.
 pub mod Added
 pub mod Listed
-pub mod Entering
 pub mod ListSoundLaws
-pub mod Recording
 pub mod KeptLaws
+pub mod EnteringLaws
+pub mod Recording
 pub mod Steps
 pub mod RowLaws
 pub mod InsertLaws
@@ -16,3 +16,4 @@ pub mod WalkLaws
 pub mod NewLaws
 pub mod FillLaws
 pub mod GrownLaws
+pub mod AcceptLaws

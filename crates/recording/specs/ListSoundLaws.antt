@@ -84,6 +84,7 @@ module _ (o : Opening) (rs : List ℕ) (p : Parts) where
   list-sound f r =
       let a = f .shaped in
       let b = f .splits in
+      let c = f .chains in
       record {
         shaped =
             record {
@@ -98,10 +99,6 @@ module _ (o : Opening) (rs : List ℕ) (p : Parts) where
         splits = record { rows-below = b .rows-below; masks-proper = b .masks-proper; masks-rising = b .masks-rising; identifiers = b .identifiers };
         lists = each-list rs p r (f .lists);
         counts = λ k h. list-counted rs p k h ∙ rw (f .counts k h) (sym (listed-more rs p k));
-        chains =
-            record {
-              links = λ k h. f .chains .links k h ∙ sym (highest-kept rs p _ _ k);
-              starts = λ q h. f .chains .starts q h ∙ sym (highest-kept rs p _ q (splitsIn p));
-            };
+        chains = record { links = λ k h. c .links k h ∙ sym (highest-kept rs p _ _ k); starts = λ q h. c .starts q h ∙ sym (highest-kept rs p _ q (splitsIn p)) };
         lanes = f .lanes;
       }
