@@ -17,13 +17,12 @@ use lib.Seq.{getD-set-same, getD-set-other}
 use Rattle.trees.specs.Plain.{if_then_else_, keep}
 use Rattle.trees.specs.Hash.{identifier, collide, collisions}
 use Rattle.head.specs.Head.{fromTo, upTo, numbersAt, firstAt, secondAt}
-use Rattle.layout.specs.Store.{splitsHeldAt, maskAt, orderAt, splitAt, masksAt, identifierAt}
-use Rattle.layout.specs.StoreLaws.{split-is}
-use Rattle.layout.specs.WholeStore.{wholeAt}
+use Rattle.layout.specs.Store.{partsAt, splitsHeldAt, maskAt, orderAt, splitAt, masksAt, identifierAt}
+use Rattle.layout.specs.StoreLaws.{shaped-at}
+use Rattle.layout.specs.WholeStore.{wholeAt, placeIn}
 use Rattle.layout.specs.WholeFacts.{SplitsAt, whole-at-facts}
-use Rattle.store.specs.ListTests.{oneIf}
-use Rattle.store.specs.CountLaws.{one-most}
-use Rattle.store.specs.Chain.{placeIn}
+use Rattle.layout.specs.UpToLaws.{oneIf, one-most}
+use Rattle.layout.specs.OrderLaws.{masks-numbered}
 use Rattle.store.specs.ChainTests.{equal-or-not}
 use Rattle.colliding.specs.Collisions.{Placed, Numbered, alike, alikeTo, countFrom, pairsFrom}
 use Rattle.colliding.specs.PlacedLaws.{held-most, placed-all}
@@ -61,7 +60,7 @@ module _ (s : List ℕ) (whole : wholeAt s ≡ true) where
   numbered-more rows places identifiers k row x d f h r i =
       let l = row-below k row h r in
       let m = held-most s whole in
-      let e : splitAt s k ≡ maskAt s row = split-is s k ∙ sym (ap (maskAt s) r) in
+      let e : splitAt s k ≡ maskAt s row = sym (ap (maskAt s) r) in
       record {
         places-size = length-set places k _ ∙ f .places-size;
         identifiers-size = length-set identifiers k x ∙ f .identifiers-size;
@@ -141,5 +140,7 @@ module _ (s places identifiers : List ℕ) (h : ℕ) (d : Numbered s h places id
 
 pub collisions-counted : (s places identifiers : List ℕ) → Numbered s (splitsHeldAt s) places identifiers
     → pairsFrom places identifiers 0 (splitsHeldAt s) ≡ collisions (firstAt s) (secondAt s) (numbersAt s .places) (masksAt s)
-unfolding masksAt upTo
-collisions-counted s places identifiers d = from-collisions s places identifiers (splitsHeldAt s) d 0 (splitsHeldAt s) (omega arith)
+unfolding upTo
+collisions-counted s places identifiers d =
+    from-collisions s places identifiers (splitsHeldAt s) d 0 (splitsHeldAt s) (omega arith)
+    ∙ ap (collisions (firstAt s) (secondAt s) (numbersAt s .places)) (sym (masks-numbered (partsAt s) (shaped-at s .order)))

@@ -17,8 +17,8 @@ use lib.ListN.{length, getD}
 use Rattle.trees.specs.Hash.{identifier}
 use Rattle.head.specs.Head.{secondAt}
 use Rattle.layout.specs.Store.{splitsHeldAt, maskAt, splitAt}
-use Rattle.store.specs.ListTests.{oneIf}
-use Rattle.store.specs.Chain.{placeIn}
+use Rattle.layout.specs.WholeStore.{placeIn}
+use Rattle.layout.specs.UpToLaws.{oneIf}
 
 -- ---- the places of the rows, noted along the chains
 

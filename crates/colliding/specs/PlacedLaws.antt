@@ -1,6 +1,6 @@
 -- The places of the rows, as they are noted along the chains. Assumes nothing.
 --
---   whole-head, held-most, places-most     a whole store's head is in order; it has at most 4,096 splits and 8,192 places
+--   head-at, held-most             a whole store's head is in order; it has at most 4,096 splits
 --   highest-has, highest-over      the highest row of a place has it, and none above
 --   placed-none, placed-all        no place is noted; every place is
 --   part-starts, part-more, part-ends     one place: its start, a row along it, its end
@@ -17,11 +17,10 @@ use borrow.Author.Tests.{eqb-true, eqb-false}
 use Rattle.trees.specs.Plain.{if_then_else_}
 use Rattle.head.specs.Head.{numbersAt}
 use Rattle.layout.specs.Store.{splitsHeldAt, maskAt, linkAt, startAt}
-use Rattle.layout.specs.WholeStore.{highestBelow, wholeAt}
-use Rattle.layout.specs.WholeFacts.{ChainsAt, whole-at-facts, facts-head}
-use Rattle.store.specs.GoodHeadLaws.{GoodHead, good-head}
+use Rattle.layout.specs.WholeStore.{wholeAt, placeIn, highestBelow, highestIn}
+use Rattle.layout.specs.WholeFacts.{HeadAt, ChainsAt, whole-at-facts}
+use Rattle.layout.specs.InsideLaws.{splits-few}
 use Rattle.layout.specs.UpToLaws.{less-or-not}
-use Rattle.store.specs.Chain.{placeIn}
 use Rattle.store.specs.ChainLaws.{highest-most, place-below}
 use Rattle.store.specs.ChainTests.{equal-or-not}
 use Rattle.colliding.specs.Collisions.{Placed, PlacedPart}
@@ -29,21 +28,18 @@ use Rattle.colliding.specs.Collisions.{Placed, PlacedPart}
 -- ---- a whole store
 
 module _ (s : List ℕ) (whole : wholeAt s ≡ true) where
-  pub whole-head : GoodHead s
-  whole-head = good-head s (facts-head s (whole-at-facts s whole .head))
+  pub head-at : HeadAt s
+  head-at = whole-at-facts s whole .head
 
   pub held-most : splitsHeldAt s ≤ 4096
-  held-most = let g = whole-head in omega (arith, g .splits-fit, g .ranges .most-splits)
-
-  pub places-most : numbersAt s .places ≤ 8192
-  places-most = let g = whole-head in omega (arith, g .ranges .most-places, g .ranges .most-splits)
+  held-most = splits-few s head-at
 
 -- ---- the highest row of a place
 
 module _ (s : List ℕ) (p : ℕ) where
   -- it has the place
   pub highest-has : (n k : ℕ) → highestBelow s p n ≡ suc k → placeIn s (maskAt s k) ≡ p
-  unfolding highestBelow
+  unfolding highestIn
   highest-has zero k e = absurd (omega arith)
   highest-has (suc n) k e = go (eqb (placeIn s (maskAt s n)) p) refl e (highest-has n k)
     where
@@ -54,7 +50,7 @@ module _ (s : List ℕ) (p : ℕ) where
 
   -- none above it has the place
   pub highest-over : (n k : ℕ) → k < n → highestBelow s p n ≤ k → placeIn s (maskAt s k) ≡ p → ⊥
-  unfolding highestBelow
+  unfolding highestIn
   highest-over zero k h l e = omega arith
   highest-over (suc n) k h l e = go (eqb (placeIn s (maskAt s n)) p) refl l (highest-over n k) (less-or-not k n)
     where

@@ -11,8 +11,9 @@ ghost use Rattle.trees.specs.Hash.{collisions};
 ghost use Rattle.head.specs.Head.{numbersAt, firstAt, secondAt};
 ghost use Rattle.layout.specs.Store.{splitsHeldAt, masksAt};
 ghost use Rattle.layout.specs.WholeStore.{wholeAt};
-ghost use Rattle.store.specs.ListTests.{oneIf};
+ghost use Rattle.layout.specs.UpToLaws.{oneIf};
 ghost use Rattle.colliding.specs.Collisions.{Placed, Numbered, alike, countFrom, pairsFrom};
+use answers::Split;
 
 // The count of unordered pairs of different recorded splits equal in place and identifier.
 pub fn collision_number(s: &[u8]) -> usize
@@ -48,12 +49,11 @@ fn note_place(s: &[u8], p: usize, rows: &mut [u16; 4096])
     requires { ⌜ Placed (now s) p (now rows) ⌝ }
     ensures { λ r. ⌜ Placed (now (s .entry)) (p + 1) (now (rows .exit)) ⌝ }
 {
-    let links = layout::links_from(s);
-    let mut entry = layout::number16(s, layout::places_from(s) + 2 * p);
+    let mut entry = rows::start_at(s, p);
     while entry != 0 {
         let row = entry - 1;
         rows[row] = p as u16;
-        entry = layout::number16(s, links + 2 * row);
+        entry = rows::link_at(s, row);
     }
 }
 
@@ -69,14 +69,12 @@ fn list_by_number(
     requires { ⌜ Numbered (now s) 0 (now places) (now identifiers) ⌝ }
     ensures { λ r. ⌜ Numbered (now (s .entry)) (splitsHeldAt (now (s .entry))) (now (places .exit)) (now (identifiers .exit)) ⌝ }
 {
-    let order = layout::order_from(s);
-    let from = layout::identifiers_from(s);
     let held = layout::splits_held(s);
     let mut k = 0;
     while k < held {
-        let row = layout::number16(s, order + 2 * k);
+        let row = rows::row_of(s, Split(k));
         places[k] = rows[row];
-        identifiers[k] = fields::get64(s, from + 8 * row);
+        identifiers[k] = rows::identifier_at(s, row);
         k += 1;
     }
 }

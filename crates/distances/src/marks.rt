@@ -4,11 +4,10 @@
 // Its contracts cite `specs/Marks.antt`.
 ghost use mathlib.Core.Path.{_≡_};
 ghost use mathlib.Core.Bool.{true};
-ghost use Prim.Native.Nat.{_+_, _≤_, _<_};
-ghost use lib.ListN.{length, getD};
+ghost use Prim.Native.Nat.{_≤_, _<_};
+ghost use lib.ListN.{length};
 ghost use Rattle.trees.specs.Distance.{oneSided, doubled};
-ghost use Rattle.head.specs.Head.{numbersAt};
-ghost use Rattle.layout.specs.Store.{treesHeldAt, treeFrom, listAt, treeAt};
+ghost use Rattle.layout.specs.Store.{treesHeldAt, listAt, treeAt};
 ghost use Rattle.layout.specs.WholeStore.{wholeAt};
 ghost use Rattle.distances.specs.Marks.{marked, marksOf, markSum};
 use answers::Tree;
@@ -20,11 +19,11 @@ pub(crate) fn mark_tree(s: &[u8], i: usize, v: u8, marks: &mut [u8; 4096])
     requires { ⌜ length (now marks) ≡ 4096 ⌝ }
     ensures { λ r. ⌜ now (marks .exit) ≡ marked v (listAt (now (s .entry)) i) (now (marks .entry)) ⌝ }
 {
-    let from = tree_from(s, i);
-    let n = list_length(s, i);
+    let from = rows::tree_from(s, Tree(i));
+    let n = rows::splits_in(s, Tree(i));
     let mut j = 0;
     while j < n {
-        let k = row(s, i, from, j);
+        let k = rows::row_in(s, Tree(i), from, j);
         marks[k] = v;
         j += 1;
     }
@@ -39,7 +38,7 @@ pub(crate) fn distance(s: &[u8], i: usize, marks: &[u8; 4096], j: usize) -> u16
     ensures { λ r. ⌜ r ≡ doubled (treeAt (now (s .entry)) i) (treeAt (now (s .entry)) j) ⌝ }
 {
     let here = lacking(s, i, marks, j);
-    let there = list_length(s, i) + here - list_length(s, j);
+    let there = rows::splits_in(s, Tree(i)) + here - rows::splits_in(s, Tree(j));
     (there + here) as u16
 }
 
@@ -62,12 +61,12 @@ fn sum_marks(s: &[u8], marks: &[u8; 4096], j: usize) -> usize
     requires { ⌜ j < treesHeldAt (now s) ⌝ }
     ensures { λ r. ⌜ r ≡ markSum (now (marks .entry)) (listAt (now (s .entry)) j) ⌝ }
 {
-    let from = tree_from(s, j);
-    let n = list_length(s, j);
+    let from = rows::tree_from(s, Tree(j));
+    let n = rows::splits_in(s, Tree(j));
     let mut sum = 0;
     let mut at = 0;
     while at < n {
-        let k = row(s, j, from, at);
+        let k = rows::row_in(s, Tree(j), from, at);
         sum += wide(marks[k]);
         at += 1;
     }
@@ -79,36 +78,4 @@ fn wide(x: u8) -> usize
     ensures { λ r. ⌜ (r ≡ x) × (r < 256) ⌝ }
 {
     x as usize
-}
-
-// How many splits tree i lists.
-fn list_length(s: &[u8], i: usize) -> usize
-    requires { ⌜ wholeAt (now s) ≡ true ⌝ }
-    requires { ⌜ i < treesHeldAt (now s) ⌝ }
-    ensures { λ r. ⌜ r ≡ length (listAt (now (s .entry)) i) ⌝ }
-    ensures { λ r. ⌜ r ≤ 62 ⌝ }
-{
-    layout::number16(s, tree_from(s, i))
-}
-
-// The row of split j of tree i, which begins at `from`.
-fn row(s: &[u8], i: usize, from: usize, j: usize) -> usize
-    requires { ⌜ wholeAt (now s) ≡ true ⌝ }
-    requires { ⌜ i < treesHeldAt (now s) ⌝ }
-    requires { ⌜ from ≡ treeFrom (numbersAt (now s)) i ⌝ }
-    requires { ⌜ j < length (listAt (now s) i) ⌝ }
-    ensures { λ r. ⌜ r ≡ getD (listAt (now (s .entry)) i) j 0 ⌝ }
-    ensures { λ r. ⌜ r < 4096 ⌝ }
-{
-    layout::number16(s, from + 2 + 2 * j)
-}
-
-// Where tree i begins.
-fn tree_from(s: &[u8], i: usize) -> usize
-    requires { ⌜ wholeAt (now s) ≡ true ⌝ }
-    requires { ⌜ i < treesHeldAt (now s) ⌝ }
-    ensures { λ r. ⌜ r ≡ treeFrom (numbersAt (now (s .entry))) i ⌝ }
-    ensures { λ r. ⌜ r + 128 ≤ length (now (s .entry)) ⌝ }
-{
-    layout::tree_from(s, Tree(i))
 }

@@ -1,6 +1,6 @@
 -- The rows of the splits and their order by mask. Assumes nothing.
 --
---   masks-length, number-mask     the recorded masks, by the splits' numbers
+--   masks-length, number-mask, masks-numbered     the recorded masks, by the splits' numbers
 -- where the splits are in order:
 --   splits-rise                   the masks rise with the splits' numbers
 --   row-numbered                  every row is that of one number
@@ -14,9 +14,12 @@ use mathlib.Core.Logic.{_⊎_, inl, inr}
 use mathlib.Core.Bool.{true}
 use mathlib.Core.List.{List}
 use lib.ListN.{length, getD}
+use lib.Seq.{ext-getD}
 use Rattle.trees.specs.Mask.{proper}
 use Rattle.theorems.specs.ListLaws.{Mem, every-at}
 use Rattle.theorems.specs.RisingLaws.{Rising, rising-true}
+use Rattle.head.specs.Head.{upTo}
+use Rattle.head.specs.HeadLaws.{upTo-length, upTo-at}
 use Rattle.layout.specs.Store.{Parts, splitsIn, maskIn, orderIn, splitIn, masksIn}
 use Rattle.layout.specs.WholeFacts.{SplitsIn}
 use Rattle.layout.specs.UpToLaws.{less-or-not, length-map, map-at, map-mem, mem-map, mem-getD, mem-at, rising-at}
@@ -28,6 +31,12 @@ module _ (p : Parts) (long : length (p .order) ≡ splitsIn p) where
 
   pub number-mask : (k : ℕ) → k < splitsIn p → getD (masksIn p) k 0 ≡ splitIn p k
   number-mask k h = map-at (maskIn p) (p .order) k (omega (arith, long))
+
+  pub masks-numbered : masksIn p ≡ upTo (splitIn p) (splitsIn p)
+  masks-numbered =
+      ext-getD 0 _ _ (masks-length ∙ sym (upTo-length (splitIn p) (splitsIn p))) (λ i q.
+      let h : i < splitsIn p = omega (arith, masks-length) in
+      number-mask i h ∙ sym (upTo-at (splitIn p) (splitsIn p) i 0 h))
 
   module _ {taxa : ℕ} {second : List ℕ} (f : SplitsIn taxa second p) where
     pub masks-rise : Rising (masksIn p)

@@ -1,14 +1,13 @@
 -- Laws of the chains of the places: how the loops test them. Assumes nothing.
 --
 --   equal-or-not                         two numbers compared
---   link-read, start-read                a link and a start, as they are read
 --   place-read                           the place of split k, as it is computed
 --   highest-none, highest-here, highest-other     `highestBelow`, a split at a time
 --   heights-none, heights-more           the highest split of each place, as a loop keeps it
 --   link-good, link-bad                  the test of the link of split k
 --   start-good, start-bad                the test of the start of place p
 --   good-chains                          the test of the chains is these tests
-use Prim.Native.Nat.{ℕ, suc, _+_, _*_, _<_}
+use Prim.Native.Nat.{ℕ, suc, _+_, _<_}
 use native.Mathlib.Numerals.{add-one}
 use native.Mathlib.Omega.{arith}
 use mathlib.Core.Path.{_≡_, refl, sym, _∙_}
@@ -21,10 +20,8 @@ use lib.Seq.{getD-set-same, getD-set-other}
 use borrow.Author.Tests.{eqb-true, eqb-false, eq-eqb, ne-eqb}
 use Rattle.trees.specs.Hash.{place}
 use Rattle.theorems.specs.ListLaws.{if-true, if-false}
-use Rattle.fields.specs.Field.{number}
 use Rattle.head.specs.Head.{numbersAt, firstAt}
-use Rattle.layout.specs.Store.{splitsHeldAt, linksFrom, placesFrom, maskAt, linkAt, startAt}
-use Rattle.layout.specs.StoreLaws.{link-is, start-is}
+use Rattle.layout.specs.Store.{splitsHeldAt, maskAt, linkAt, startAt}
 use Rattle.layout.specs.WholeStore.{allBelow, highestBelow, goodLink, goodStart, goodChains, chainsGood, highestIn, linkGood, startGood}
 use Rattle.store.specs.Splits.{placeAt, Highest}
 
@@ -67,31 +64,23 @@ module _ (s : List ℕ) where
 
   -- ---- links and starts
 
-  module _ (k : ℕ) (h : k < splitsHeldAt s) (at x : ℕ) where
-    pub link-read : at ≡ linksFrom (numbersAt s) → x ≡ number 2 s (at + 2 * k) → x ≡ linkAt s k
-    link-read a i = i ∙ rw a (sym (link-is s k h))
-
-  module _ (q : ℕ) (h : q < numbersAt s .places) (at x : ℕ) where
-    pub start-read : at ≡ placesFrom (numbersAt s) → x ≡ number 2 s (at + 2 * q) → x ≡ startAt s q
-    start-read a i = i ∙ rw a (sym (start-is s q h))
-
-  module _ (k : ℕ) (h : k < splitsHeldAt s) (at x p y : ℕ) (a : at ≡ linksFrom (numbersAt s)) (i : x ≡ number 2 s (at + 2 * k)) (e : p ≡ placeAt s k) (j : y ≡ highestBelow s p k) where
+  module _ (k x p y : ℕ) (i : x ≡ linkAt s k) (e : p ≡ placeAt s k) (j : y ≡ highestBelow s p k) where
     pub link-good : x ≡ y → goodLink s k ≡ true
     unfolding linkGood placeAt
-    link-good d = eq-eqb _ _ (sym (link-read k h at x a i) ∙ d ∙ j ∙ rw e)
+    link-good d = eq-eqb _ _ (sym i ∙ d ∙ j ∙ rw e)
 
     pub link-bad : (x ≡ y → ⊥) → goodLink s k ≡ false
     unfolding linkGood placeAt
-    link-bad f = ne-eqb _ _ (λ d. f (link-read k h at x a i ∙ d ∙ sym (j ∙ rw e)))
+    link-bad f = ne-eqb _ _ (λ d. f (i ∙ d ∙ sym (j ∙ rw e)))
 
-  module _ (p : ℕ) (h : p < numbersAt s .places) (at x y : ℕ) (a : at ≡ placesFrom (numbersAt s)) (i : x ≡ number 2 s (at + 2 * p)) (j : y ≡ highestBelow s p (splitsHeldAt s)) where
+  module _ (p x y : ℕ) (i : x ≡ startAt s p) (j : y ≡ highestBelow s p (splitsHeldAt s)) where
     pub start-good : x ≡ y → goodStart s p ≡ true
     unfolding startGood
-    start-good d = eq-eqb _ _ (sym (start-read p h at x a i) ∙ d ∙ j)
+    start-good d = eq-eqb _ _ (sym i ∙ d ∙ j)
 
     pub start-bad : (x ≡ y → ⊥) → goodStart s p ≡ false
     unfolding startGood
-    start-bad f = ne-eqb _ _ (λ d. f (start-read p h at x a i ∙ d ∙ sym j))
+    start-bad f = ne-eqb _ _ (λ d. f (i ∙ d ∙ sym j))
 
   pub good-chains : goodChains s ≡ (allBelow (goodLink s) (splitsHeldAt s) && allBelow (goodStart s) (numbersAt s .places))
   unfolding chainsGood

@@ -9,7 +9,7 @@ use mathlib.Core.Path.{_≡_, refl, sym, ap, _∙_}
 use mathlib.Core.Logic.{_⊎_, inl, inr}
 use mathlib.Core.Bool.{Bool, true, false, _||_, and-false, or-false, or-assoc}
 use mathlib.Core.List.{List, [], _∷_, _++_, map}
-use Prim.Native.Nat.{ℕ, zero, suc, _+_, _*_, _≤_, _<_}
+use Prim.Native.Nat.{ℕ, zero, suc, _+_, _≤_, _<_}
 use native.Mathlib.Nat.{add-zero}
 use native.Mathlib.Numerals.{add-one}
 use native.Mathlib.Omega.{arith}
@@ -20,10 +20,7 @@ use borrow.Author.Tests.{eq-eqb, ne-eqb, le-leb}
 use Rattle.trees.specs.Plain.{member}
 use Rattle.theorems.specs.ListLaws.{Mem, member-not}
 use Rattle.theorems.specs.RisingLaws.{Rising}
-use Rattle.fields.specs.Field.{number}
-use Rattle.head.specs.Head.{numbersAt}
-use Rattle.layout.specs.Store.{partsAt, treesHeldAt, splitsHeldAt, countsFrom, maskAt, countAt, listAt, treeAt}
-use Rattle.layout.specs.StoreLaws.{count-is}
+use Rattle.layout.specs.Store.{partsAt, treesHeldAt, splitsHeldAt, maskAt, countAt, listAt, treeAt}
 use Rattle.layout.specs.WholeStore.{listed, goodCount, countGood, listedIn}
 use Rattle.layout.specs.UpToLaws.{mem-getD, mem-map, oneIf, one-most, listed-nil, listed-step, listed-most}
 use Rattle.store.specs.ListTests.{CountedPart, Counted}
@@ -103,18 +100,15 @@ counted-none s = record { size = length-replicate {A = ℕ} 4096 0; entries = λ
 
 -- ---- a count's test, in the order of the code
 
-module _ (s : List ℕ) (k : ℕ) (h : k < splitsHeldAt s) (first x : ℕ) (d : first ≡ countsFrom (numbersAt s)) (q : x ≡ number 4 s (first + 4 * k)) where
-  count-at : countAt s k ≡ x
-  count-at = count-is s k h ∙ rw (← d) (sym q)
-
+module _ (s : List ℕ) (k x : ℕ) (q : x ≡ countAt s k) where
   pub count-zero : x ≡ 0 → goodCount s k ≡ false
   unfolding countGood
-  count-zero e = rw (count-at, e)
+  count-zero e = rw (← q, e)
 
   pub count-wrong : (x ≡ listed s k (treesHeldAt s) → ⊥) → goodCount s k ≡ false
   unfolding countGood
-  count-wrong n = rw (count-at, ne-eqb _ _ n) (and-false (leb 1 x))
+  count-wrong n = rw (← q, ne-eqb _ _ n) (and-false (leb 1 x))
 
   pub count-right : (x ≡ 0 → ⊥) → x ≡ listed s k (treesHeldAt s) → goodCount s k ≡ true
   unfolding countGood
-  count-right n e = rw (count-at, le-leb 1 x (omega arith), eq-eqb _ _ e)
+  count-right n e = rw (← q, le-leb 1 x (omega arith), eq-eqb _ _ e)

@@ -2,11 +2,11 @@
 --
 --   proper-some                   a proper mask is not 0
 --   before-none, before-more      the mask before, as a loop makes it
---   mask-read, identifier-read, row-read, split-read     what is read
+--   split-read                    the mask that is read
 --   order-bad, mask-improper, mask-below, mask-good      the test of split number k, by its parts
 --   identifier-good, identifier-bad          the test of an identifier
 --   good-splits                   the test of the splits is these tests and those of the identifiers
-use Prim.Native.Nat.{ℕ, zero, suc, _+_, _*_, _≤_, _<_}
+use Prim.Native.Nat.{ℕ, zero, suc, _+_, _≤_, _<_}
 use native.Mathlib.Numerals.{add-one}
 use native.Mathlib.Omega.{arith}
 use mathlib.Core.Path.{_≡_, refl, sym, _∙_}
@@ -24,11 +24,10 @@ use Rattle.theorems.specs.ListLaws.{and-left, and-right, and-true, every-at, ev
 use Rattle.theorems.specs.OpeningLaws.{both}
 use Rattle.theorems.specs.ProperLaws.{proper-two}
 use Rattle.theorems.specs.RisingLaws.{rising-true, true-rising}
-use Rattle.fields.specs.Field.{number}
 use Rattle.head.specs.Head.{numbersAt, secondAt}
-use Rattle.layout.specs.Store.{partsAt, splitsHeldAt, masksFrom, identifiersFrom, orderFrom, maskAt, orderAt, splitAt, masksAt, identifierAt}
+use Rattle.layout.specs.Store.{partsAt, splitsHeldAt, maskAt, orderAt, splitAt, masksAt, identifierAt}
 use Rattle.layout.specs.WholeStore.{allBelow, goodOrder, goodIdentifier, goodSplits, identifierGood, orderGood, splitsGood}
-use Rattle.layout.specs.StoreLaws.{shaped-at, mask-is, identifier-is, order-is}
+use Rattle.layout.specs.StoreLaws.{shaped-at}
 use Rattle.layout.specs.AllLaws.{all-at, all-intro}
 use Rattle.layout.specs.UpToLaws.{bool-same, mem-getD, mem-at, rising-at}
 use Rattle.layout.specs.OrderLaws.{masks-length, number-mask}
@@ -51,16 +50,6 @@ before-none s = refl
 pub before-more : (s : List ℕ) (k : ℕ) → maskBefore s (k + 1) ≡ splitAt s k
 unfolding maskBefore
 before-more s k = rw (add-one k)
-
-module _ (s : List ℕ) (k at m : ℕ) (h : k < splitsHeldAt s) where
-  pub mask-read : at ≡ masksFrom (numbersAt s) → m ≡ number 8 s (at + 8 * k) → m ≡ maskAt s k
-  mask-read e q = q ∙ rw e (sym (mask-is s k h))
-
-  pub identifier-read : at ≡ identifiersFrom (numbersAt s) → m ≡ number 8 s (at + 8 * k) → m ≡ identifierAt s k
-  identifier-read e q = q ∙ rw e (sym (identifier-is s k h))
-
-  pub row-read : at ≡ orderFrom (numbersAt s) → m ≡ number 2 s (at + 2 * k) → m ≡ orderAt s k
-  row-read e q = q ∙ rw e (sym (order-is s k h))
 
 -- the mask that is read in the row of number k
 pub split-read : (s : List ℕ) (k row m : ℕ) → row ≡ orderAt s k → m ≡ maskAt s row → m ≡ splitAt s k

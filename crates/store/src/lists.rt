@@ -188,11 +188,10 @@ fn counts_match(s: &[u8], counts: &[u16; 4096]) -> bool
     requires { ⌜ Counted (now s) (treesHeldAt (now s)) (now counts) ⌝ }
     ensures { λ r. ⌜ r ≡ allBelow (goodCount (now (s .entry))) (splitsHeldAt (now (s .entry))) ⌝ }
 {
-    let first = layout::counts_from(s);
     let splits = layout::splits_held(s);
     let mut k = 0;
     while k < splits {
-        let count = fields::get32(s, first + 4 * k);
+        let count = rows::count_at(s, k);
         if count == 0 {
             return false;
         }
@@ -220,9 +219,9 @@ pub(crate) fn lanes_good(s: &[u8]) -> bool
     true
 }
 
-// x in 32 bits, of which it takes 16.
-fn wide16(x: u16) -> u32
+// A count as a number to compare.
+pub(crate) fn wide16(x: u16) -> usize
     ensures { λ r. ⌜ r ≡ x ⌝ }
 {
-    x as u32
+    x as usize
 }

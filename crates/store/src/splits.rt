@@ -12,6 +12,7 @@ ghost use Rattle.layout.specs.WholeFacts.{HeadAt};
 ghost use Rattle.store.specs.Splits.{goodMask, Highest};
 ghost use Rattle.store.specs.Sums.{constantsAt, Sums};
 use answers::Split;
+use crate::lists::wide16;
 use crate::sums::fill_sums;
 use crate::sums::sum_over;
 
@@ -85,7 +86,7 @@ pub(crate) fn chains_good(s: &[u8]) -> bool
     let mut k = 0;
     while k < held {
         let p = place_of(s, &sums, rows::mask_at(s, k));
-        if rows::link_at(s, k) != highest[p] as usize {
+        if rows::link_at(s, k) != wide16(highest[p]) {
             return false;
         }
         k += 1;
@@ -112,7 +113,7 @@ fn starts_good(s: &[u8], highest: &[u16; 8192]) -> bool
     let n = head::places(s) as usize;
     let mut p = 0;
     while p < n {
-        if rows::start_at(s, p) != highest[p] as usize {
+        if rows::start_at(s, p) != wide16(highest[p]) {
             return false;
         }
         p += 1;

@@ -2,7 +2,7 @@
 use mathlib.Core.Path.{ap, _∙_}
 use native.Mathlib.Omega.{arith}
 use Rattle.colliding.specs.Collisions.{pairsFrom}
-use Rattle.colliding.specs.PlacedLaws.{whole-head, held-most, placed-none}
+use Rattle.colliding.specs.PlacedLaws.{head-at, held-most, placed-none}
 use Rattle.colliding.specs.CollisionLaws.{numbered-none, collisions-counted}
 use Rattle.colliding.proofs.collision_number.Statement.{statement}
 use Rattle.colliding.proofs.collision_number.Tie as tie
@@ -23,6 +23,6 @@ collision-number-spec =
     (tie.spec
     (λ c κs. (c .before .before .pre, placed-none _))
     (λ c κs. (c .before .before .before .before .before .before .pre, (c .before .before .before .note-places .ensures, numbered-none _)))
-    (λ c κs. whole-head _ (c .before .before .before .before .before .before .before .before .before .pre) .long)
+    (λ c κs. head-at _ (c .before .before .before .before .before .before .before .before .before .pre) .head-there)
     few
     returns)

@@ -1,60 +1,36 @@
 -- `colliding::note_place` meets its contract. The loop's invariant: the rows of the place from the entry on are noted. Assumes nothing.
 use Prim.Native.Nat.{_-_}
-use mathlib.Core.Path.{_≡_}
 use native.Mathlib.Omega.{arith}
+use mathlib.Core.Path.{_≡_}
+use Rattle.layout.specs.InsideLaws.{places-few}
 use Rattle.store.specs.ChainLaws.{link-falls}
-use Rattle.store.specs.GoodHeadLaws.{start-fits, link-fits}
 use Rattle.colliding.specs.Collisions.{PlacedPart}
-use Rattle.store.specs.ChainTests.{start-read, link-read}
-use Rattle.colliding.specs.PlacedLaws.{whole-head, held-most, places-most, part-starts, part-more, part-ends}
+use Rattle.colliding.specs.PlacedLaws.{head-at, held-most, part-starts, part-more, part-ends}
 use Rattle.colliding.proofs.note_place.Statement.{statement}
 use Rattle.colliding.proofs.note_place.Tie as tie
 
 abbrev Inv-loop : tie.InvT-loop
-Inv-loop s p rows₀ links entry₀ rows entry = PlacedPart s p entry rows
+Inv-loop s p rows₀ entry₀ rows entry = PlacedPart s p entry rows
 
 abbrev μ-loop : tie.MeasureT-loop
-μ-loop s p rows₀ links entry₀ rows entry = entry
-
-start-there : tie.Need-number16-requires Inv-loop μ-loop
-start-there c κs =
-    let p = c .before .before .before .pre in
-    omega (arith, start-fits _ (whole-head _ (p .0)) _ (p .1 .0), c .places-from .ensures .0)
+μ-loop s p rows₀ entry₀ rows entry = entry
 
 loop-holds : tie.Need-loop-holds Inv-loop μ-loop
-loop-holds c =
-    let p = c .before .before .before .before .pre in
-    part-starts _ (p .0) _ _ _ (p .1 .0) (p .1 .1) (start-read _ _ _ _ (c .before .places-from .ensures .0) (c .number16 .ensures .0))
+loop-holds c = let p = c .before .before .pre in part-starts _ (p .0) _ _ _ (p .1 .0) (p .1 .1) (c .start-at .ensures)
 
 small : tie.Need-cast-rows Inv-loop μ-loop
-small c =
-    let p = c .before .before .before .before .before .before .pre in
-    omega (arith, places-most _ (p .0), p .1 .0)
+small c = let p = c .before .before .before .before .pre in omega (arith, places-few _ (head-at _ (p .0)), p .1 .0)
 
 inside : tie.Need-element-write-rows Inv-loop μ-loop
-inside c =
-    let p = c .before .before .before .before .before .before .pre in
-    omega (arith, held-most _ (p .0), c .before .loop .inv .most)
-
-link-there : tie.Need-number16-requires-2 Inv-loop μ-loop
-link-there c κs =
-    let p = c .before .before .before .before .before .before .pre in
-    let l = c .before .loop in
-    omega (arith, link-fits _ (whole-head _ (p .0)) (l .entry - 1) (omega (arith, l .inv .most)), c .before .before .before .before .links-from .ensures .0)
+inside c = omega (arith, held-most _ (c .before .before .before .before .pre .0), c .before .loop .inv .most)
 
 loop-less : tie.Need-loop-less Inv-loop μ-loop
 loop-less c =
-    let p = c .before .before .before .before .before .before .before .pre in
     let l = c .before .before .loop in
-    let q = link-read _ (l .entry - 1) _ _ (c .before .before .before .before .before .links-from .ensures .0) (c .number162 .ensures .0) in
-    omega (arith, q, link-falls _ (p .0) (l .entry - 1) (omega (arith, l .inv .most)))
+    omega (arith, c .link-at .ensures, link-falls _ (c .before .before .before .before .before .pre .0) (l .entry - 1) (omega (arith, l .inv .most)))
 
 loop-again : tie.Need-loop-again Inv-loop μ-loop
-loop-again c =
-    let p = c .before .before .before .before .before .before .before .pre in
-    let l = c .before .before .loop in
-    let q = link-read _ (l .entry - 1) _ _ (c .before .before .before .before .before .links-from .ensures .0) (c .number162 .ensures .0) in
-    part-more _ (p .0) _ _ (l .entry) (l .entry - 1) _ (l .inv) (omega arith) q
+loop-again c = let l = c .before .before .loop in part-more _ (c .before .before .before .before .before .pre .0) _ _ (l .entry) (l .entry - 1) _ (l .inv) (omega arith) (c .link-at .ensures)
 
 returns : tie.Need-returns Inv-loop μ-loop
 returns c =
@@ -68,19 +44,13 @@ note-place-spec =
     (tie.spec
     Inv-loop
     μ-loop
-    (λ c κs. whole-head _ (c .before .pre .0) .long)
-    (λ c κs. whole-head _ (c .before .before .pre .0) .long)
-    (λ c. let p = c .before .before .before .pre in omega (arith, places-most _ (p .0), p .1 .0))
-    (λ c. let p = c .before .before .before .pre in omega (arith, places-most _ (p .0), p .1 .0))
-    start-there
+    (λ c κs. let p = c .before .pre in (head-at _ (p .0), p .1 .0))
     loop-holds
     (λ c. omega arith)
     small
-    (λ c. let p = c .before .before .before .before .before .before .pre in omega (arith, held-most _ (p .0), c .before .loop .inv .most))
+    (λ c. omega (arith, held-most _ (c .before .before .before .before .pre .0), c .before .loop .inv .most))
     inside
-    (λ c. let p = c .before .before .before .before .before .before .pre in omega (arith, held-most _ (p .0), c .before .loop .inv .most))
-    (λ c. let p = c .before .before .before .before .before .before .pre in omega (arith, held-most _ (p .0), c .before .loop .inv .most))
-    link-there
+    (λ c κs. (head-at _ (c .before .before .before .before .pre .0), omega (arith, c .before .loop .inv .most)))
     loop-less
     loop-again
     returns)

@@ -4,7 +4,7 @@ use mathlib.Core.Path.{_≡_}
 use native.Mathlib.Omega.{arith}
 use Rattle.head.specs.Head.{numbersAt}
 use Rattle.colliding.specs.Collisions.{Placed}
-use Rattle.colliding.specs.PlacedLaws.{whole-head}
+use Rattle.colliding.specs.PlacedLaws.{head-at}
 use Rattle.colliding.proofs.note_places.Statement.{statement}
 use Rattle.colliding.proofs.note_places.Tie as tie
 
@@ -31,7 +31,7 @@ note-places-spec =
     (tie.spec
     Inv-loop
     μ-loop
-    (λ c κs. whole-head _ (c .before .pre .0) .long)
+    (λ c κs. head-at _ (c .before .pre .0) .head-there)
     (λ c. omega arith)
     (λ c. (omega arith, c .places .ensures .0, c .before .before .pre .1))
     note-place-requires

@@ -1,7 +1,7 @@
 -- `colliding::one_if_equal` meets its contract. Assumes nothing.
 use native.Mathlib.Omega.{arith}
 use borrow.Author.Tests.{eq-eqb, ne-eqb}
-use Rattle.store.specs.ListTests.{oneIf}
+use Rattle.layout.specs.UpToLaws.{oneIf}
 use Rattle.colliding.proofs.one_if_equal.Statement.{statement}
 use Rattle.colliding.proofs.one_if_equal.Tie as tie
 

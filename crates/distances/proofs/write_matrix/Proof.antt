@@ -9,7 +9,7 @@ use Rattle.distances.specs.Marks.{marked, noMarks}
 use Rattle.distances.specs.MarkLaws.{none-length, marks-made, marksOf-length, marks-gone}
 use Rattle.distances.specs.Entries.{Filled}
 use Rattle.distances.specs.EntryLaws.{filled-none, filled-all}
-use Rattle.distances.specs.WholeTreeLaws.{head-there}
+use Rattle.distances.specs.WholeTreeLaws.{head-at}
 use Rattle.distances.proofs.write_matrix.Statement.{statement}
 use Rattle.distances.proofs.write_matrix.Tie as tie
 
@@ -71,7 +71,7 @@ write-matrix-spec =
     (tie.spec
     Inv-loop
     μ-loop
-    (λ c κs. head-there _ (c .before .before .pre .0))
+    (λ c κs. head-at _ (c .before .before .pre .0) .head-there)
     loop-holds
     mark-tree-requires
     write-row-requires

@@ -3,6 +3,7 @@ use mathlib.Core.Path.{_≡_, sym, _∙_}
 use mathlib.Core.Bool.{Bool, true, false, not}
 use borrow.Author.Tests.{not-true, not-false}
 use borrow.Author.Needs.{needs}
+use Rattle.layout.specs.WholeFacts.{head-facts}
 use Rattle.store.specs.WholeTestLaws.{no-head, no-splits, no-lists, no-counts, no-chains, by-lanes}
 use Rattle.store.proofs.is_whole.Statement.{statement}
 use Rattle.store.proofs.is_whole.Tie as tie
@@ -20,13 +21,13 @@ is-whole-spec =
     (tie.spec
     (λ c κs. search needs)
     (λ c. no-head _ (failed (c .before .head-good .ensures) (c .if1 .taken)))
-    (λ c κs. (passed (c .before .head-good .ensures) (c .if1 .left)))
+    (λ c κs. head-facts _ (passed (c .before .head-good .ensures) (c .if1 .left)))
     (λ c. no-splits _ (passed (c .before .before .before .head-good .ensures) (c .before .before .if1 .left)) (failed (c .before .splits-good .ensures) (c .if2 .taken)))
-    (λ c κs. (passed (c .before .before .before .head-good .ensures) (c .before .before .if1 .left)))
+    (λ c κs. head-facts _ (passed (c .before .before .before .head-good .ensures) (c .before .before .if1 .left)))
     (λ c. no-lists _ (passed (c .before .before .before .before .before .head-good .ensures) (c .before .before .before .before .if1 .left)) (passed (c .before .before .before .splits-good .ensures) (c .before .before .if2 .left)) (failed (c .before .lists-good .ensures) (c .if3 .taken)))
-    (λ c κs. ((passed (c .before .before .before .before .before .head-good .ensures) (c .before .before .before .before .if1 .left)), (passed (c .before .lists-good .ensures) (c .if3 .left))))
+    (λ c κs. (head-facts _ (passed (c .before .before .before .before .before .head-good .ensures) (c .before .before .before .before .if1 .left)), (passed (c .before .lists-good .ensures) (c .if3 .left))))
     (λ c. no-counts _ (passed (c .before .before .before .before .before .before .before .head-good .ensures) (c .before .before .before .before .before .before .if1 .left)) (passed (c .before .before .before .before .before .splits-good .ensures) (c .before .before .before .before .if2 .left)) (passed (c .before .before .before .lists-good .ensures) (c .before .before .if3 .left)) (failed (c .before .counts-good .ensures) (c .if4 .taken)))
-    (λ c κs. (passed (c .before .before .before .before .before .before .before .head-good .ensures) (c .before .before .before .before .before .before .if1 .left)))
+    (λ c κs. head-facts _ (passed (c .before .before .before .before .before .before .before .head-good .ensures) (c .before .before .before .before .before .before .if1 .left)))
     (λ c. no-chains _ (passed (c .before .before .before .before .before .before .before .before .before .head-good .ensures) (c .before .before .before .before .before .before .before .before .if1 .left)) (passed (c .before .before .before .before .before .before .before .splits-good .ensures) (c .before .before .before .before .before .before .if2 .left)) (passed (c .before .before .before .before .before .lists-good .ensures) (c .before .before .before .before .if3 .left)) (passed (c .before .before .before .counts-good .ensures) (c .before .before .if4 .left)) (failed (c .before .chains-good .ensures) (c .if5 .taken)))
-    (λ c κs. (passed (c .before .before .before .before .before .before .before .before .before .head-good .ensures) (c .before .before .before .before .before .before .before .before .if1 .left)))
+    (λ c κs. head-facts _ (passed (c .before .before .before .before .before .before .before .before .before .head-good .ensures) (c .before .before .before .before .before .before .before .before .if1 .left)))
     (λ c. by-lanes _ (passed (c .before .before .before .before .before .before .before .before .before .before .head-good .ensures) (c .before .before .before .before .before .before .before .before .before .if1 .left)) (passed (c .before .before .before .before .before .before .before .before .splits-good .ensures) (c .before .before .before .before .before .before .before .if2 .left)) (passed (c .before .before .before .before .before .before .lists-good .ensures) (c .before .before .before .before .before .if3 .left)) (passed (c .before .before .before .before .counts-good .ensures) (c .before .before .before .if4 .left)) (passed (c .before .before .chains-good .ensures) (c .before .if5 .left)) (c .lanes-good .ensures)))

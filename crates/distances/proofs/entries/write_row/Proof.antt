@@ -4,8 +4,9 @@ use mathlib.Core.Path.{_≡_, refl, ap, _∙_}
 use native.Mathlib.Omega.{arith}
 use lib.ListN.{length, drop}
 use Rattle.layout.specs.Store.{treesHeldAt}
+use Rattle.layout.specs.InsideLaws.{trees-few}
 use Rattle.distances.specs.Entries.{Filled}
-use Rattle.distances.specs.WholeTreeLaws.{head-there, trees-few}
+use Rattle.distances.specs.WholeTreeLaws.{head-at}
 use Rattle.distances.specs.EntryLaws.{filled-row, pair-more}
 use Rattle.distances.proofs.entries.write_row.Statement.{statement}
 use Rattle.distances.proofs.entries.write_row.Tie as tie
@@ -32,7 +33,7 @@ put-pair-requires c κs =
     let l = c .before .before .before .loop in
     let e = l .inv .1 in
     let f = ap (λ n. n * n) e in
-    (omega (arith, e, trees-few _ (p .0)), (omega (arith, f, l .inv .3, p .1 .1 .1 .0), (omega (arith, e, p .1 .0), omega arith)))
+    (omega (arith, e, trees-few _ (head-at _ (p .0))), (omega (arith, f, l .inv .3, p .1 .1 .1 .0), (omega (arith, e, p .1 .0), omega arith)))
 
 loop-again : tie.Need-loop-again Inv-loop μ-loop
 loop-again c =
@@ -57,7 +58,7 @@ write-row-spec =
     (tie.spec
     Inv-loop
     μ-loop
-    (λ c κs. head-there _ (c .before .before .pre .0))
+    (λ c κs. head-at _ (c .before .before .pre .0) .head-there)
     loop-holds
     distance-requires
     put-pair-requires

@@ -2,11 +2,11 @@
 use Prim.Native.Nat.{_≤_, _-_}
 use mathlib.Core.Path.{_≡_, refl, sym, _∙_}
 use native.Mathlib.Omega.{arith}
-use borrow.Author.Needs.{needs}
 use lib.ListN.{length, drop, length-set}
 use Rattle.layout.specs.Store.{listAt}
 use Rattle.distances.specs.Marks.{marked}
 use Rattle.distances.specs.MarkLaws.{marked-more, marked-end}
+use Rattle.distances.specs.WholeTreeLaws.{head-at, list-few, row-small}
 use Rattle.distances.proofs.marks.mark_tree.Statement.{statement}
 use Rattle.distances.proofs.marks.mark_tree.Tie as tie
 
@@ -17,28 +17,30 @@ Inv-loop s i v marks₀ from n j₀ marks j =
 abbrev μ-loop : tie.MeasureT-loop
 μ-loop s i v marks₀ from n j₀ marks j = n - j
 
-loop-holds : tie.Need-loop-holds Inv-loop μ-loop
-loop-holds c = (omega arith, c .before .before .before .pre .1 .1, refl)
-
-row-requires : tie.Need-row-requires Inv-loop μ-loop
-row-requires c κs =
+row-in-requires : tie.Need-row-in-requires Inv-loop μ-loop
+row-in-requires c κs =
     let p = c .before .before .before .before .before .pre in
-    (p .0, (p .1 .0, (c .before .before .before .tree-from .ensures .0, omega (arith, c .before .before .list-length .ensures .0))))
+    let n = c .before .before .splits-in .ensures in
+    (head-at _ (p .0), (p .1 .0, (c .before .before .before .tree-from .ensures .0, (omega (arith, n), omega (arith, n, list-few _ (p .0) _ (p .1 .0))))))
+
+inside : tie.Need-element-write-marks Inv-loop μ-loop
+inside c =
+    let p = c .before .before .before .before .before .before .pre in
+    let k = row-small _ (p .0) _ (p .1 .0) (c .before .before .loop .j) _ (omega (arith, c .before .before .before .splits-in .ensures)) (c .row-in .ensures) in
+    omega (arith, k, c .before .before .loop .inv .1)
 
 loop-again : tie.Need-loop-again Inv-loop μ-loop
 loop-again c =
     let d = c .before .before .before .before .before .before in
     let l = c .before .before .loop in
-    let n = c .before .before .before .list-length .ensures .0 in
-    let q = marked-more (d .args .v) (listAt (d .args .s .now) (d .args .i)) (l .marks) (l .j) _ (omega (arith, n)) (c .row .ensures .0) in
+    let q = marked-more (d .args .v) (listAt (d .args .s .now) (d .args .i)) (l .marks) (l .j) _ (omega (arith, c .before .before .before .splits-in .ensures)) (c .row-in .ensures) in
     (omega arith, length-set (l .marks) _ _ ∙ l .inv .1, l .inv .2 ∙ q)
 
 returns : tie.Need-returns Inv-loop μ-loop
 returns c =
     let d = c .before .before .before .before .before in
     let l = c .before .loop in
-    let n = c .before .before .list-length .ensures .0 in
-    sym (l .inv .2 ∙ marked-end (d .args .v) (listAt (d .args .s .now) (d .args .i)) (l .marks) (l .j) (omega (arith, n)))
+    sym (l .inv .2 ∙ marked-end (d .args .v) (listAt (d .args .s .now) (d .args .i)) (l .marks) (l .j) (omega (arith, c .before .before .splits-in .ensures)))
 
 pub mark-tree-spec : {M : Type 1} → statement M
 mark-tree-spec =
@@ -46,11 +48,11 @@ mark-tree-spec =
     (tie.spec
     Inv-loop
     μ-loop
-    (λ c κs. search needs)
-    (λ c κs. search needs)
-    loop-holds
-    row-requires
-    (λ c. omega arith)
+    (λ c κs. let p = c .before .pre in (head-at _ (p .0), p .1 .0))
+    (λ c κs. let p = c .before .before .pre in (head-at _ (p .0), p .1 .0))
+    (λ c. (omega arith, c .before .before .before .pre .1 .1, refl))
+    row-in-requires
+    inside
     (λ c. omega arith)
     (λ c. omega arith)
     loop-again

@@ -1,89 +1,68 @@
 -- `store::lists::count_list` meets its contract. The loop's invariant: the first j numbers are counted. Assumes nothing.
-use Prim.Native.Nat.{ℕ, _+_, _*_, _≤_, _<_, _-_}
-use mathlib.Core.Path.{_≡_, ap, _∙_}
+use Prim.Native.Nat.{ℕ, _≤_, _<_, _-_}
+use mathlib.Core.Path.{_≡_, sym, _∙_}
 use mathlib.Core.Bool.{true}
 use mathlib.Core.List.{List}
 use native.Mathlib.Omega.{arith}
-use Rattle.fields.specs.Field.{number}
-use Rattle.head.specs.Head.{numbersAt}
-use Rattle.layout.specs.Store.{treeFrom, treesHeldAt, splitsHeldAt}
+use lib.ListN.{length, getD}
+use Rattle.layout.specs.Store.{splitsHeldAt, listAt}
 use Rattle.layout.specs.StoreLaws.{list-length}
-use Rattle.layout.specs.WholeStore.{goodHead, goodList}
-use Rattle.store.specs.RoomLaws.{good-head}
+use Rattle.layout.specs.WholeStore.{goodList}
+use Rattle.layout.specs.WholeFacts.{HeadAt}
+use Rattle.layout.specs.InsideLaws.{trees-few, splits-few}
+use Rattle.rows.specs.ReadLaws.{row-in-list}
 use Rattle.store.specs.ListTests.{CountedPart}
-use Rattle.store.specs.ListTestLaws.{list-few, list-numbers, list-rises, list-number, number-recorded}
+use Rattle.store.specs.ListTestLaws.{list-rows, list-rises}
 use Rattle.store.specs.CountLaws.{part-none, part-more, part-all, part-most}
 use Rattle.store.proofs.lists.count_list.Statement.{statement}
 use Rattle.store.proofs.lists.count_list.Tie as tie
 
 abbrev Inv-loop : tie.InvT-loop
-Inv-loop s i counts₀ from n j₀ counts j = (j ≤ n) × (n ≡ number 2 s (treeFrom (numbersAt s) i)) × (n ≤ 62) × CountedPart s i j counts
+Inv-loop s i counts₀ from n j₀ counts j = (j ≤ n) × (n ≡ length (listAt s i)) × (n ≤ 62) × CountedPart s i j counts
 
 abbrev μ-loop : tie.MeasureT-loop
 μ-loop s i counts₀ from n j₀ counts j = n - j
 
 loop-holds : tie.Need-loop-holds Inv-loop μ-loop
 loop-holds c =
-    let d = c .before .before .before in
-    let n = c .number16 .ensures .0 ∙ ap (number 2 (d .args .s .now)) (c .before .tree-from .ensures .0) in
-    let f = list-few _ _ (d .pre .1 .0) (d .pre .1 .1 .0) in
-    (omega arith, n, omega arith, part-none _ _ (d .pre .1 .0) _ (d .pre .1 .1 .1))
+    let p = c .before .before .before .pre in
+    let n : c .number16 .result ≡ length (listAt (c .before .before .before .args .s .now) (c .before .before .before .args .i)) =
+        c .number16 .ensures .0 ∙ rw (c .before .tree-from .ensures .0) (sym (list-length _ _ (p .1 .0))) in
+    (omega arith, n, omega (arith, n, list-rows _ _ (p .1 .1 .0) .few), part-none _ _ (p .1 .0) _ (p .1 .1 .1))
 
--- the number that is read is that of a split, of which there are at most 4,096
-recorded : (s : List ℕ) (i j from k : ℕ) → goodHead s ≡ true → i < treesHeldAt s → goodList s i ≡ true → j < number 2 s (treeFrom (numbersAt s) i) → from ≡ treeFrom (numbersAt s) i
-    → k ≡ number 2 s (from + 2 + 2 * j) → (k < splitsHeldAt s) × (k < 4096)
-recorded s i j from k g t l h e q =
-    let r = number-recorded s i t j (from + 2) k h (omega arith) q (list-numbers s i t l) in
-    let d = good-head s g in
-    (r, omega (arith, d .splits, d .ranges .most-splits))
+-- the row that is read is a split's, of which there are at most 4,096
+recorded : (s : List ℕ) (i j k : ℕ) → HeadAt s → goodList s i ≡ true → j < length (listAt s i) → k ≡ getD (listAt s i) j 0 → (k < splitsHeldAt s) × (k < 4096)
+recorded s i j k h g l e =
+    let r = row-in-list s i j l (list-rows s i g) in
+    (omega (arith, e, r), omega (arith, e, r, splits-few s h))
 
 inside : tie.Need-element-copy-out-counts Inv-loop μ-loop
-inside c =
-    let p = c .before .before .before .before .before .before .pre in
-    let e = c .before .before .before .before .tree-from .ensures .0 in
-    recorded _ _ (c .before .before .loop .j) _ _ (p .0) (p .1 .0) (p .1 .1 .0) (omega arith) e (c .number162 .ensures .0) .1
+inside c = let p = c .before .before .before .before .before .before .pre in recorded _ _ (c .before .before .loop .j) _ (p .0) (p .1 .1 .0) (omega arith) (c .row-in .ensures) .1
 
 few : tie.Need-add-counts Inv-loop μ-loop
 few c =
-    let d = c .before .before .before .before .before .before .before in
-    let p = d .pre in
+    let p = c .before .before .before .before .before .before .before .pre in
     let l = c .before .before .before .loop in
-    let e = c .before .before .before .before .before .tree-from .ensures .0 in
-    let r = recorded _ _ (l .j) _ _ (p .0) (p .1 .0) (p .1 .1 .0) (omega arith) e (c .before .number162 .ensures .0) in
-    let m = part-most _ _ (p .1 .0) _ _ (l .inv .3) _ (r .0) in
-    let g = good-head _ (p .0) in
-    omega (arith, m, g .trees, g .ranges .most-trees)
+    let r = recorded _ _ (l .j) _ (p .0) (p .1 .1 .0) (omega arith) (c .before .row-in .ensures) in
+    omega (arith, part-most _ _ (p .1 .0) _ _ (l .inv .3) _ (r .0), p .1 .0, trees-few _ (p .0))
 
 inside-2 : tie.Need-element-write-counts Inv-loop μ-loop
-inside-2 c =
-    let p = c .before .before .before .before .before .before .before .pre in
-    let e = c .before .before .before .before .before .tree-from .ensures .0 in
-    recorded _ _ (c .before .before .before .loop .j) _ _ (p .0) (p .1 .0) (p .1 .1 .0) (omega arith) e (c .before .number162 .ensures .0) .1
+inside-2 c = let p = c .before .before .before .before .before .before .before .pre in recorded _ _ (c .before .before .before .loop .j) _ (p .0) (p .1 .1 .0) (omega arith) (c .before .row-in .ensures) .1
 
 loop-again : tie.Need-loop-again Inv-loop μ-loop
 loop-again c =
-    let d = c .before .before .before .before .before .before .before in
-    let p = d .pre in
-    let s = d .args .s .now in
-    let i = d .args .i in
+    let p = c .before .before .before .before .before .before .before .pre in
     let l = c .before .before .before .loop in
-    let e = c .before .before .before .before .before .tree-from .ensures .0 in
-    let q = c .before .number162 .ensures .0 in
-    let r = recorded s i (l .j) _ _ (p .0) (p .1 .0) (p .1 .1 .0) (omega arith) e q in
-    let n = list-length s i (p .1 .0) in
-    let x = list-number s i (p .1 .0) (l .j) _ _ (omega arith) (omega arith) q in (
+    let x = c .before .row-in .ensures in
+    let r = recorded _ _ (l .j) _ (p .0) (p .1 .1 .0) (omega arith) x in (
       omega arith,
       l .inv .1,
       l .inv .2,
-      part-more s i (p .1 .0) (l .j) _ (l .inv .3) (list-rises s i (p .1 .1 .0)) (omega arith) _ x (r .1),
+      part-more _ _ (p .1 .0) (l .j) _ (l .inv .3) (list-rises _ _ (p .1 .1 .0)) (omega arith) _ (sym x) (r .1),
     )
 
 returns : tie.Need-returns Inv-loop μ-loop
-returns c =
-    let a = c .before .before .before .before .before .args in
-    let p = c .before .before .before .before .before .pre in
-    let n = list-length (a .s .now) (a .i) (p .1 .0) in
-    part-all _ _ (p .1 .0) (c .before .loop .j) _ (omega arith) (c .before .loop .inv .3)
+returns c = part-all _ _ (c .before .before .before .before .before .pre .1 .0) (c .before .loop .j) _ (omega arith) (c .before .loop .inv .3)
 
 pub count-list-spec : {M : Type 1} → statement M
 count-list-spec =
@@ -94,14 +73,11 @@ count-list-spec =
     (λ c κs. (c .before .pre .0, c .before .pre .1 .0))
     (λ c κs. omega arith)
     loop-holds
-    (λ c. omega arith)
-    (λ c. omega arith)
-    (λ c. omega arith)
-    (λ c κs. omega arith)
-    (λ c. omega arith)
+    (λ c κs. let p = c .before .before .before .before .before .pre in (p .0, (p .1 .0, (c .before .before .before .tree-from .ensures .0, (omega arith, omega arith)))))
+    (λ c. omega (arith, inside c))
     inside
     few
-    (λ c. omega arith)
+    (λ c. omega (arith, inside-2 c))
     inside-2
     (λ c. omega arith)
     (λ c. omega arith)

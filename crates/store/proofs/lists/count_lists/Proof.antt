@@ -5,7 +5,6 @@ use native.Mathlib.Omega.{arith}
 use Rattle.layout.specs.Store.{treesHeldAt}
 use Rattle.layout.specs.WholeStore.{goodList}
 use Rattle.layout.specs.AllLaws.{all-at}
-use Rattle.store.specs.RoomLaws.{good-head}
 use Rattle.store.specs.ListTests.{Counted}
 use Rattle.store.proofs.lists.count_lists.Statement.{statement}
 use Rattle.store.proofs.lists.count_lists.Tie as tie
@@ -34,7 +33,7 @@ count-lists-spec =
     (tie.spec
     Inv-loop
     μ-loop
-    (λ c κs. good-head _ (c .before .pre .0) .head)
+    (λ c κs. c .before .pre .0 .head-there)
     (λ c. (omega arith, c .trees-held .ensures, c .before .before .pre .1 .1))
     count-list-requires
     (λ c. omega arith)

@@ -7,49 +7,42 @@ use borrow.Author.Needs.{needs}
 use Rattle.layout.specs.Store.{splitsHeldAt}
 use Rattle.layout.specs.WholeStore.{allBelow, goodCount}
 use Rattle.layout.specs.AllLaws.{all-none, all-more, all-fails}
-use Rattle.store.specs.RoomLaws.{good-head, counts-inside}
+use Rattle.layout.specs.InsideLaws.{splits-few}
 use Rattle.store.specs.CountLaws.{count-zero, count-wrong, count-right}
 use Rattle.store.proofs.lists.counts_match.Statement.{statement}
 use Rattle.store.proofs.lists.counts_match.Tie as tie
 
 abbrev Inv-loop : tie.InvT-loop
-Inv-loop s counts first splits k₀ k = (k ≤ splits) × (splits ≡ splitsHeldAt s) × (splits ≤ 4096) × (allBelow (goodCount s) k ≡ true)
+Inv-loop s counts splits k₀ k = (k ≤ splits) × (splits ≡ splitsHeldAt s) × (splits ≤ 4096) × (allBelow (goodCount s) k ≡ true)
 
 abbrev μ-loop : tie.MeasureT-loop
-μ-loop s counts first splits k₀ k = splits - k
+μ-loop s counts splits k₀ k = splits - k
 
 loop-holds : tie.Need-loop-holds Inv-loop μ-loop
-loop-holds c =
-    let g = good-head _ (c .before .before .before .pre .0) in
-    (omega arith, c .splits-held .ensures .0, omega (arith, g .splits, g .ranges .most-splits), all-none (goodCount _))
+loop-holds c = (omega arith, c .splits-held .ensures .0, omega (arith, splits-few _ (c .before .before .pre .0)), all-none (goodCount _))
 
 returns : tie.Need-returns Inv-loop μ-loop
 returns c =
     let l = c .before .before .before .loop in
-    let d = c .before .before .before .before .before .counts-from .ensures .0 in
-    sym (all-fails (goodCount _) _ (l .k) (omega arith) (count-zero _ _ (omega arith) _ _ d (c .before .get32 .ensures) (c .if1 .taken)))
+    sym (all-fails (goodCount _) _ (l .k) (omega arith) (count-zero _ _ _ (c .before .count-at .ensures) (c .if1 .taken)))
 
 returns-2 : tie.Need-returns-2 Inv-loop μ-loop
 returns-2 c =
-    let b = c .before .before .before .before in
-    let l = b .before .before .loop in
-    let d = b .before .before .before .before .counts-from .ensures .0 in
-    let e = b .before .before .before .before .before .before .pre .1 .entries (l .k) (omega arith) in
-    sym (all-fails (goodCount _) _ (l .k) (omega arith) (count-wrong _ _ (omega arith) _ _ d (b .get32 .ensures) (λ q. c .if2 .taken (omega arith))))
+    let l = c .before .before .before .before .before .before .loop in
+    let e = c .before .before .before .before .before .before .before .before .before .pre .1 .entries (l .k) (omega arith) in
+    sym (all-fails (goodCount _) _ (l .k) (omega arith) (count-wrong _ _ _ (c .before .before .before .before .count-at .ensures) (λ q. c .if2 .taken (omega arith))))
 
 loop-again : tie.Need-loop-again Inv-loop μ-loop
 loop-again c =
-    let b = c .before .before .before .before in
-    let l = b .before .before .loop in
-    let d = b .before .before .before .before .counts-from .ensures .0 in
-    let e = b .before .before .before .before .before .before .pre .1 .entries (l .k) (omega arith) in
-    let r = count-right _ (l .k) (omega arith) _ _ d (b .get32 .ensures) (c .before .before .before .if1 .left) (omega arith) in
+    let l = c .before .before .before .before .before .before .loop in
+    let e = c .before .before .before .before .before .before .before .before .before .pre .1 .entries (l .k) (omega arith) in
+    let r = count-right _ (l .k) _ (c .before .before .before .before .count-at .ensures) (c .before .before .before .if1 .left) (omega arith) in
     (omega arith, l .inv .1, l .inv .2, all-more (goodCount _) _ (l .inv .3) r)
 
 returns-3 : tie.Need-returns-3 Inv-loop μ-loop
 returns-3 c =
     let l = c .before .loop in
-    let e : l .k ≡ splitsHeldAt (c .before .before .before .before .before .args .s .now) = omega arith in
+    let e : l .k ≡ splitsHeldAt (c .before .before .before .before .args .s .now) = omega arith in
     sym (rw e at (l .inv .3))
 
 pub counts-match-spec : {M : Type 1} → statement M
@@ -58,12 +51,9 @@ counts-match-spec =
     (tie.spec
     Inv-loop
     μ-loop
-    (λ c κs. good-head _ (c .before .pre .0) .head)
-    (λ c κs. good-head _ (c .before .before .pre .0) .head)
+    (λ c κs. c .before .pre .0 .head-there)
     loop-holds
-    (λ c. omega arith)
-    (λ c. omega arith)
-    (λ c κs. omega (arith, counts-inside _ (good-head _ (c .before .before .before .before .before .pre .0))))
+    (λ c κs. (c .before .before .before .before .pre .0, omega arith))
     returns
     (λ c. omega arith)
     (λ c. omega arith)

@@ -7,7 +7,7 @@ use Rattle.head.specs.Head.{numbersAt}
 use Rattle.layout.specs.Store.{laneFrom}
 use Rattle.layout.specs.WholeStore.{allBelow, goodLaneAt}
 use Rattle.layout.specs.AllLaws.{all-none, all-more, all-fails}
-use Rattle.store.specs.RoomLaws.{good-head, lane-inside}
+use Rattle.layout.specs.InsideLaws.{lane-inside}
 use Rattle.store.specs.ListTestLaws.{lane-long, lane-short}
 use Rattle.store.proofs.lists.lanes_good.Statement.{statement}
 use Rattle.store.proofs.lists.lanes_good.Tie as tie
@@ -21,7 +21,7 @@ abbrev μ-loop : tie.MeasureT-loop
 inside : tie.Need-number16-requires Inv-loop μ-loop
 unfolding laneFrom
 inside c κs =
-    let h = lane-inside _ (good-head _ (c .before .before .before .before .pre)) (c .before .loop .l) (omega arith) in
+    let h = lane-inside _ (c .before .before .before .before .pre) (c .before .loop .l) (omega arith) in
     omega (arith, h)
 
 returns : tie.Need-returns Inv-loop μ-loop
@@ -45,7 +45,7 @@ lanes-good-spec =
     (tie.spec
     Inv-loop
     μ-loop
-    (λ c κs. good-head _ (c .before .pre) .head)
+    (λ c κs. c .before .pre .head-there)
     (λ c. omega arith)
     (λ c. (omega arith, c .lanes .ensures .0, all-none (goodLaneAt _)))
     (λ c. omega arith)

@@ -7,7 +7,6 @@ use Rattle.opening.specs.GivenLaws.{failed, passed}
 use Rattle.layout.specs.Store.{treesHeldAt}
 use Rattle.layout.specs.WholeStore.{allBelow, goodList}
 use Rattle.layout.specs.AllLaws.{all-none, all-more, all-fails}
-use Rattle.store.specs.RoomLaws.{good-head}
 use Rattle.store.proofs.lists.lists_good.Statement.{statement}
 use Rattle.store.proofs.lists.lists_good.Tie as tie
 
@@ -40,7 +39,7 @@ lists-good-spec =
     (tie.spec
     Inv-loop
     μ-loop
-    (λ c κs. good-head _ (c .before .pre) .head)
+    (λ c κs. c .before .pre .head-there)
     (λ c. (omega arith, c .trees-held .ensures, all-none (goodList _)))
     (λ c κs. (c .before .before .before .before .pre, omega arith))
     returns
