@@ -1,7 +1,6 @@
 -- Whether there is room for a tree, and the tree recorded behind its new splits. Assumes nothing.
 --
---   no-tree-room, no-split-room, room-enough     11, 12 or neither
---   new-most                        there are no more new ones than splits
+--   no-tree-room, no-split-room     11 and 12
 --   refuses                         a refusal that changes nothing
 --   trees-in, rows-in               what listing the tree asks
 --   records                         the tree is recorded
@@ -9,7 +8,7 @@ use Prim.Native.Nat.{ℕ, suc, _+_, _*_, _≤_, _<_}
 use native.Mathlib.Omega.{arith}
 use mathlib.Core.Path.{_≡_, refl, sym, ap, ap₂, _∙_, subst}
 use mathlib.Core.Logic.{_⊎_, inl, inr}
-use mathlib.Core.Bool.{true, not}
+use mathlib.Core.Bool.{true}
 use mathlib.Core.List.{List, [], _∷_, _++_, map}
 use lib.Dec.{ltb, eqb}
 use lib.ListN.{length, getD, take, length-append}
@@ -20,12 +19,12 @@ use Rattle.trees.specs.Mask.{proper}
 use Rattle.trees.specs.Consensus.{count}
 use Rattle.trees.specs.Held.{newSplits, roomFor, withTree, accepted}
 use Rattle.trees.specs.Whole.{rising, goodTree}
-use Rattle.theorems.specs.ListLaws.{and-left, and-right, Mem, mem-member, keep-most}
+use Rattle.theorems.specs.ListLaws.{and-left, and-right, Mem, mem-member}
 use Rattle.theorems.specs.RisingLaws.{rising-true}
 use Rattle.answers.specs.declared.Progress.{Progress}
 use Rattle.answers.specs.Answers.{progressGiven}
 use Rattle.head.specs.Head.{numbersAt, openingAt}
-use Rattle.layout.specs.Store.{Parts, partsAt, maskIn, masksIn, countIn, treesHeldAt, splitsHeldAt, heldAt}
+use Rattle.layout.specs.Store.{Parts, partsAt, maskIn, countIn, treesHeldAt, splitsHeldAt, heldAt}
 use Rattle.layout.specs.WholeStore.{listedIn, wholeAt}
 use Rattle.layout.specs.WholeFacts.{HeadAt, whole-at-facts}
 use Rattle.layout.specs.Sound.{sound-whole}
@@ -61,10 +60,6 @@ module _ (s t : List ℕ) (w : wholeAt s ≡ true) where
 
     room-enough : splitsHeldAt s + length (newIn (partsAt s) t) ≤ numbersAt s .splitRoom → roomFor (heldAt s) t ≡ gives t
     room-enough h = room ∙ rw (ne-eqb _ _ d, le-ltb _ _ h)
-
-pub new-most : (p : Parts) (n : ℕ) (rs : List ℕ) → length (newIn p (masksOf n rs)) ≤ n
-unfolding newIn lacking
-new-most p n rs = omega (arith, keep-most (λ m. not (member m (masksIn p))) (masksOf n rs), masks-length n rs)
 
 pub refuses : (a : Answer (List ℕ)) (s : List ℕ) (r : Progress) (k : ℕ) → a ≡ refused k → progressGiven r ≡ refused k → Accepts a s r s
 unfolding Accepts

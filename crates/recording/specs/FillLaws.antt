@@ -13,7 +13,7 @@ use mathlib.Core.List.{List, [], _∷_, _++_, append-assoc}
 use lib.ListN.{length, getD, set, length-append, length-set}
 use lib.Seq.{getD-set-same, getD-set-other, getD-at}
 use Rattle.trees.specs.Plain.{member}
-use Rattle.layout.specs.Store.{Parts, partsAt, splitsHeldAt, maskAt, masksAt}
+use Rattle.layout.specs.Store.{Parts, partsAt, splitsHeldAt, masksAt}
 use Rattle.layout.specs.WholeStore.{wholeAt}
 use Rattle.layout.specs.UpToLaws.{less-or-not}
 use Rattle.recording.specs.declared.finding.Found.{Found}
@@ -23,14 +23,12 @@ use Rattle.recording.specs.Rows.{FoundAs}
 use Rattle.recording.specs.NewLaws.{new-none, new-old, new-next, stands-more, row-recorded}
 
 pub record Filled (p : Parts) (rs rows : List ℕ) (j new : ℕ) (r : List ℕ) : Type 0 where
-  pub few : new ≤ j
   pub same-length : length r ≡ length rows
   pub counted : new ≡ length (newIn p (masksOf j rs))
   pub each : (i : ℕ) → i < j → Stands (p .masks ++ newIn p (masksOf j rs)) (getD r i 0) (getD rs (3 * i) 0)
 
 pub filled-none : (p : Parts) (rs rows : List ℕ) → Filled p rs rows 0 0 rows
 filled-none p rs rows = record {
-  few = omega arith;
   same-length = refl;
   counted = sym (ap length (new-none p rs));
   each = λ i h. absurd (omega arith);
@@ -59,7 +57,6 @@ module _ (s : List ℕ) (whole : wholeAt s ≡ true) (rs rows : List ℕ) (j new
       let y : Stands (partsAt s .masks) k (getD rs (3 * j) 0) = rw e at d in
       let z = new-old (partsAt s) rs j (row-recorded s whole k (getD rs (3 * j) 0) (y .0) (y .1)) in
       record {
-        few = omega (arith, f .few);
         same-length = rw q (length-set r j k ∙ f .same-length);
         counted = rw z (c ∙ f .counted);
         each = rw (z, q) (next-each rs r (partsAt s .masks ++ newIn (partsAt s) (masksOf j rs)) j k inside (f .each) (stands-more (partsAt s .masks) (newIn (partsAt s) (masksOf j rs)) k (getD rs (3 * j) 0) y));
@@ -74,7 +71,6 @@ module _ (s : List ℕ) (whole : wholeAt s ≡ true) (rs rows : List ℕ) (j new
       let m = getD rs (3 * j) 0 in
       let i : length (partsAt s .masks ++ ns) ≡ held + new = omega (arith, length-append (partsAt s .masks) ns, f .counted) in
       record {
-        few = omega (arith, f .few);
         same-length = rw q (length-set r j (held + new) ∙ f .same-length);
         counted = rw z (omega (arith, length-append ns (m ∷ []), f .counted));
         each =

@@ -4,27 +4,26 @@
 --   new-none, new-old, new-next     the new ones of the first masks, a mask at a time
 --   new-mem                     each is a mask of the list that is not recorded
 --   new-within                  there are no fewer of more masks
---   stands-more                 a mask still stands in its row where there are more behind
---   stands-old, stands-new      a row stands in the front or behind it
+--   new-most                    and no more than masks
+--   stands-more, stands-new     a mask still stands in its row where there are more behind; a row behind the first is one of those
 --   row-recorded, row-known, row-unknown     a row of whole bytes is that of a recorded mask, a row behind them that of a new one
 use Prim.Native.Nat.{ℕ, zero, suc, _+_, _-_, _*_, _≤_, _<_}
 use native.Mathlib.Numerals.{add-one}
 use native.Mathlib.Omega.{arith}
 use mathlib.Core.Path.{_≡_, refl, sym, ap, _∙_, subst}
-use mathlib.Core.Logic.{_⊎_, inl, inr}
 use mathlib.Core.Bool.{Bool, true, false, not}
 use mathlib.Core.List.{List, [], _∷_, _++_}
 use lib.ListN.{length, getD, length-append, List·getD-append}
 use lib.Seq.{getD-append-add}
 use Rattle.trees.specs.Plain.{if_then_else_, keep, member, lacking}
-use Rattle.theorems.specs.ListLaws.{if-true, if-false, Mem, mem-member, keep-mem}
+use Rattle.theorems.specs.ListLaws.{if-true, if-false, Mem, mem-member, keep-mem, keep-most}
 use Rattle.head.specs.HeadLaws.{upTo-length, upTo-at}
 use Rattle.layout.specs.Columns.{upTo-more}
 use Rattle.layout.specs.Store.{Parts, partsAt, masksIn, splitsHeldAt, maskAt, masksAt}
 use Rattle.layout.specs.StoreLaws.{shaped-at}
 use Rattle.layout.specs.WholeStore.{wholeAt}
 use Rattle.layout.specs.WholeFacts.{whole-at-facts}
-use Rattle.layout.specs.UpToLaws.{less-or-not, mem-getD}
+use Rattle.layout.specs.UpToLaws.{mem-getD}
 use Rattle.layout.specs.OrderLaws.{mem-masks}
 use Rattle.recording.specs.Recording.{masksOf, newIn, Stands, RowsOf}
 
@@ -81,6 +80,10 @@ module _ (p : Parts) (rs : List ℕ) where
   new-within zero j n e = let i : j ≡ n = omega arith in rw i (omega arith)
   new-within (suc d) j n e = omega (arith, new-grows j, new-within d (j + 1) n (omega arith))
 
+  pub new-most : (n : ℕ) → length (newIn p (masksOf n rs)) ≤ n
+  unfolding newIn lacking
+  new-most n = omega (arith, keep-most (λ m. not (member m (masksIn p))) (masksOf n rs), masks-length n rs)
+
 module _ (p : Parts) where
   pub new-mem : (l : List ℕ) (m : ℕ) → Mem m (newIn p l) → Mem m l × (member m (masksIn p) ≡ false)
   unfolding newIn lacking
@@ -96,9 +99,6 @@ module _ (l r : List ℕ) (k m : ℕ) where
   pub stands-more : Stands l k m → Stands (l ++ r) k m
   stands-more h = (omega (arith, h .0, length-append l r), List·getD-append l r 0 k (h .0) ∙ h .1)
 
-  stands-old : Stands (l ++ r) k m → k < length l → getD l k 0 ≡ m
-  stands-old h a = sym (List·getD-append l r 0 k a) ∙ h .1
-
   pub stands-new : Stands (l ++ r) k m → length l ≤ k → Mem m r
   stands-new h a =
       let i = k - length l in
@@ -112,8 +112,7 @@ module _ (s : List ℕ) (whole : wholeAt s ≡ true) where
 
   module _ (n : ℕ) (rs rows : List ℕ) (r : RowsOf (partsAt s) n rs rows) (j : ℕ) (h : j < n) where
     pub row-known : getD rows j 0 < splitsHeldAt s → member (getD rs (3 * j) 0) (masksAt s) ≡ true
-    row-known a =
-        row-recorded (getD rows j 0) (getD rs (3 * j) 0) a (stands-old (partsAt s .masks) (newIn (partsAt s) (masksOf n rs)) (getD rows j 0) (getD rs (3 * j) 0) (r .each j h) a)
+    row-known a = row-recorded (getD rows j 0) (getD rs (3 * j) 0) a (sym (List·getD-append (partsAt s .masks) (newIn (partsAt s) (masksOf n rs)) 0 (getD rows j 0) a) ∙ r .each j h .1)
 
     pub row-unknown : splitsHeldAt s ≤ getD rows j 0 → member (getD rs (3 * j) 0) (masksAt s) ≡ false
     row-unknown a =

@@ -4,8 +4,8 @@
 --   walk-starts                    the walk starts at the start of the mask's place
 --   walk-row, walk-falls           an entry's row is one of the store's, and the next entry is less
 --   walk-next                      a row with another mask is passed
---   walk-here, walk-ends           what the walk answers
-use Prim.Native.Nat.{ℕ, zero, suc, _+_, _*_, _-_, _≤_, _<_}
+--   walk-ends                      at the chain's end the mask is not recorded
+use Prim.Native.Nat.{ℕ, zero, suc, _-_, _≤_, _<_}
 use native.Mathlib.Omega.{arith}
 use mathlib.Core.Path.{_≡_, refl, sym, ap, _∙_}
 use mathlib.Core.Logic.{_⊎_, inl, inr}
@@ -13,18 +13,15 @@ use mathlib.Core.Bool.{true, false}
 use mathlib.Core.List.{List}
 use lib.Dec.{eqb}
 use borrow.Author.Tests.{eqb-true, eqb-false}
+use Rattle.trees.specs.Plain.{member}
 use Rattle.theorems.specs.ListLaws.{by-test, member-not}
-use Rattle.fields.specs.Field.{number}
-use Rattle.head.specs.Head.{numbersAt}
-use Rattle.layout.specs.Store.{masksFrom, linksFrom, placesFrom, Parts, partsAt, maskIn, splitsHeldAt, maskAt, masksAt, linkAt}
-use Rattle.layout.specs.StoreLaws.{shaped-at, mask-is, link-is, start-is}
+use Rattle.layout.specs.Store.{Parts, partsAt, maskIn, splitsHeldAt, maskAt, masksAt, linkAt, startAt}
+use Rattle.layout.specs.StoreLaws.{shaped-at}
 use Rattle.layout.specs.WholeStore.{highestIn, highestBelow, wholeAt, placeIn}
 use Rattle.layout.specs.WholeFacts.{WholeAt, whole-at-facts}
 use Rattle.layout.specs.InsideLaws.{place-below}
 use Rattle.layout.specs.UpToLaws.{less-or-not}
 use Rattle.layout.specs.OrderLaws.{masks-mem}
-use Rattle.recording.specs.declared.finding.Found.the-variants.{Row, Nothing}
-use Rattle.recording.specs.Rows.{FoundAs}
 
 -- ---- the highest row of a place below n, and one more: the rows from it on are of other places, and its own is of this one
 
@@ -57,15 +54,13 @@ module _ (s : List ℕ) (m : ℕ) (whole : wholeAt s ≡ true) where
   facts : WholeAt s
   facts = whole-at-facts s whole
 
-  pub walk-starts : (p at e : ℕ) → p ≡ placeIn s m → at ≡ placesFrom (numbersAt s) → e ≡ number 2 s (at + 2 * p) → Walk s m e
-  walk-starts p at e i a r =
-      let l : placeIn s m < numbersAt s .places = place-below s (facts .head) m in
-      record {
-        below = splitsHeldAt s;
-        inside = omega arith;
-        entry = r ∙ rw (a, i) (sym (start-is s (placeIn s m) l)) ∙ facts .chains .starts (placeIn s m) l;
-        passed = λ k b c d. omega arith;
-      }
+  pub walk-starts : Walk s m (startAt s (placeIn s m))
+  walk-starts = record {
+    below = splitsHeldAt s;
+    inside = omega arith;
+    entry = facts .chains .starts (placeIn s m) (place-below s (facts .head) m);
+    passed = λ k b c d. omega arith;
+  }
 
   module _ (e : ℕ) (walk : Walk s m e) where
     apart : (k : ℕ) → e ≤ k → k < splitsHeldAt s → maskAt s k ≡ m → ⊥
@@ -75,8 +70,7 @@ module _ (s : List ℕ) (m : ℕ) (whole : wholeAt s ≡ true) where
         go (inl l) = highest (placeIn s) (partsAt s) (placeIn s m) (walk .below) .1 k (omega (arith, walk .entry)) l (ap (placeIn s) d)
         go (inr l) = walk .passed k l b d
 
-    pub walk-ends : e ≡ 0 → FoundAs (partsAt s) m Nothing
-    unfolding FoundAs
+    pub walk-ends : e ≡ 0 → member m (masksAt s) ≡ false
     walk-ends z = member-not m (masksAt s) (λ h. let k = masks-mem (partsAt s) (shaped-at s .order) (facts .splits) m h in apart (k .0) (omega arith) (k .1) (sym (k .2)))
 
     module _ (more : e ≡ 0 → ⊥) where
@@ -90,29 +84,17 @@ module _ (s : List ℕ) (m : ℕ) (whole : wholeAt s ≡ true) where
           facts .chains .links (e - 1) walk-row
           ∙ ap (λ (q : ℕ). highestBelow s q (e - 1)) (highest (placeIn s) (partsAt s) (placeIn s m) (walk .below) .2 (e - 1) (sym (walk .entry) ∙ i))
 
-      module _ (at l : ℕ) (a : at ≡ linksFrom (numbersAt s)) (r : l ≡ number 2 s (at + 2 * (e - 1))) where
-        link-read : l ≡ highestBelow s (placeIn s m) (e - 1)
-        link-read = r ∙ rw a (sym (link-is s (e - 1) walk-row)) ∙ next
+      pub walk-falls : linkAt s (e - 1) < e
+      walk-falls = omega (arith, next, highest (placeIn s) (partsAt s) (placeIn s m) (e - 1) .0)
 
-        pub walk-falls : l < e
-        walk-falls = omega (arith, link-read, highest (placeIn s) (partsAt s) (placeIn s m) (e - 1) .0)
-
-      module _ (at x : ℕ) (a : at ≡ masksFrom (numbersAt s)) (r : x ≡ number 8 s (at + 8 * (e - 1))) where
-        mask-read : x ≡ maskAt s (e - 1)
-        mask-read = r ∙ rw a (sym (mask-is s (e - 1) walk-row))
-
-        pub walk-here : x ≡ m → FoundAs (partsAt s) m (Row (e - 1))
-        unfolding FoundAs
-        walk-here d = (walk-row, sym mask-read ∙ d)
-
-        pub walk-next : (x ≡ m → ⊥) → (to l : ℕ) → to ≡ linksFrom (numbersAt s) → l ≡ number 2 s (to + 2 * (e - 1)) → Walk s m l
-        walk-next d to l t q = record {
-          below = e - 1;
-          inside = omega (arith, walk-row);
-          entry = link-read to l t q;
-          passed = λ k b c i. go k c i (less-or-not k e) b;
-        }
-          where
-            go : (k : ℕ) → k < splitsHeldAt s → maskAt s k ≡ m → (k < e) ⊎ (e ≤ k) → e - 1 ≤ k → ⊥
-            go k c i (inl b) z = let j : e - 1 ≡ k = omega arith in d (mask-read ∙ ap (maskAt s) j ∙ i)
-            go k c i (inr b) z = apart k b c i
+      pub walk-next : (maskAt s (e - 1) ≡ m → ⊥) → Walk s m (linkAt s (e - 1))
+      walk-next d = record {
+        below = e - 1;
+        inside = omega (arith, walk-row);
+        entry = next;
+        passed = λ k b c i. go k c i (less-or-not k e) b;
+      }
+        where
+          go : (k : ℕ) → k < splitsHeldAt s → maskAt s k ≡ m → (k < e) ⊎ (e ≤ k) → e - 1 ≤ k → ⊥
+          go k c i (inl b) z = let j : e - 1 ≡ k = omega arith in d (ap (maskAt s) j ∙ i)
+          go k c i (inr b) z = apart k b c i

@@ -21,15 +21,13 @@ pub(crate) fn find_row(s: &[u8], p: u64, m: u64) -> Found
     requires { ⌜ p ≡ placeIn (now s) m ⌝ }
     ensures { λ r. ⌜ FoundAs (partsAt (now (s .entry))) m r ⌝ }
 {
-    let masks = layout::masks_from(s);
-    let links = layout::links_from(s);
-    let mut entry = layout::number16(s, layout::places_from(s) + 2 * p as usize);
+    let mut entry = rows::start_at(s, p as usize);
     while entry != 0 {
         let k = entry - 1;
-        if fields::get64(s, masks + 8 * k) == m {
+        if rows::mask_at(s, k) == m {
             return Found::Row(k);
         }
-        entry = layout::number16(s, links + 2 * k);
+        entry = rows::link_at(s, k);
     }
     Found::Nothing
 }

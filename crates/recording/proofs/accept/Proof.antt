@@ -7,8 +7,9 @@ use Rattle.trees.specs.Held.{accepted}
 use Rattle.answers.specs.Answers.{refusalNumber, progressGiven}
 use Rattle.layout.specs.Store.{partsAt}
 use Rattle.layout.specs.WholeFacts.{whole-at-facts}
+use Rattle.recording.specs.NewLaws.{new-most}
 use Rattle.recording.specs.GrownLaws.{grown-head}
-use Rattle.recording.specs.AcceptLaws.{no-tree-room, no-split-room, new-most, refuses, trees-in, rows-in, records}
+use Rattle.recording.specs.AcceptLaws.{no-tree-room, no-split-room, refuses, trees-in, rows-in, records}
 use Rattle.recording.proofs.accept.Statement.{statement}
 use Rattle.recording.proofs.accept.Tie as tie
 
@@ -22,7 +23,7 @@ find-rows-requires c κs = let d = c .before .before .before .before .before .be
 sum-small : tie.Need-add-if2
 sum-small c =
     let d = c .before .before .before .before .before .before .before .before .before .before .before .before .before .before .before in
-    omega (arith, c .before .before .before .before .before .find-rows .ensures .1, new-most (partsAt (d .args .s .now)) (d .args .n) (d .args .records .now), d .pre .1 .few)
+    omega (arith, c .before .before .before .before .before .find-rows .ensures .1, new-most (partsAt (d .args .s .now)) (d .args .records .now) (d .args .n), d .pre .1 .few)
 
 returns-2 : tie.Need-returns-2
 unfolding progressGiven refusalNumber

@@ -5,6 +5,7 @@ use mathlib.Core.Logic.{⊎-elim}
 use native.Mathlib.Omega.{arith}
 use Rattle.layout.specs.Store.{partsAt}
 use Rattle.layout.specs.WholeFacts.{whole-at-facts}
+use Rattle.recording.specs.NewLaws.{new-most}
 use Rattle.recording.specs.FillLaws.{Filled, filled-none, filled-found, filled-missing, filled-all}
 use Rattle.recording.proofs.finding.find_rows.Statement.{statement}
 use Rattle.recording.proofs.finding.find_rows.Tie as tie
@@ -32,6 +33,18 @@ returns c =
     let f = c .before .loop .inv .1 in
     (filled-all _ _ _ _ _ _ (d .pre .1 .1) (rw e at f), rw e at (f .counted))
 
+few-new : tie.Need-add-rows Inv-loop μ-loop
+few-new c =
+    let d = c .before .before .before .before .before .before .before .before .before .before .before in
+    let l = c .before .before .before .before .before .before .loop in
+    omega (arith, d .pre .1 .0 .few, l .inv .1 .counted, new-most (partsAt (d .args .s .now)) (d .args .records .now) (l .j))
+
+few-more : tie.Need-add-new Inv-loop μ-loop
+few-more c =
+    let d = c .before .before .before .before .before .before .before .before .before .before .before in
+    let l = c .before .before .before .before .before .before .loop in
+    omega (arith, d .pre .1 .0 .few, l .inv .1 .counted, new-most (partsAt (d .args .s .now)) (d .args .records .now) (l .j))
+
 pub find-rows-spec : {M : Type 1} → statement M
 find-rows-spec =
     tie.close
@@ -52,10 +65,10 @@ find-rows-spec =
     (λ c. omega (arith, c .before .before .before .before .before .before .before .before .before .before .before .before .pre .1 .0 .few))
     (λ c. omega arith)
     (λ c. c .match .keys2)
-    (λ c. omega (arith, c .before .before .before .before .before .before .before .before .before .before .before .pre .1 .0 .few, c .before .before .before .before .before .before .loop .inv .1 .few))
+    few-new
     (λ c. omega (arith, c .before .before .before .before .before .before .before .before .before .before .before .pre .1 .0 .few))
     (λ c. omega arith)
-    (λ c. omega (arith, c .before .before .before .before .before .before .before .before .before .before .before .pre .1 .0 .few, c .before .before .before .before .before .before .loop .inv .1 .few))
+    few-more
     (λ c. omega (arith, c .before .before .before .before .before .before .before .before .before .before .pre .1 .0 .few))
     (λ c. omega arith)
     loop-again
