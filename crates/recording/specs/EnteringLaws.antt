@@ -215,7 +215,6 @@ module _ (s rs : List ℕ) (z : Room s) (f : Sound (openingAt s) (partsAt s)) (r
         )
 
     pub entered : ((i : ℕ) → getD s i 0 < 256) → Listed s rs t
-    unfolding numbersAt
     entered bytes =
         let a = opening-kept s t front (λ i a b. before i (omega arith) (omega (arith, z .list))) (omega (arith, z)) size bytes (z .few .0) in
         record { parts = parts; opening = a; size = size; behind = λ i a. behind i (omega (arith, z .links)) }

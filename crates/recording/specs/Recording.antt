@@ -3,21 +3,18 @@
 --   masksOf n rs         the masks of the first n records, of three words each: mask, place, identifier
 --   SplitsOf s n rs      the first n records are those of a tree's splits, with their places and identifiers
 --   newIn p ms           those of the masks ms that are new to the parts p
---   rowOf l m            where m stands in l; behind it, where it does not
---   rowsOf p ms          the rows of the masks ms, those of new ones behind the others
---   withNew o ms p       the parts p with the splits ms, listed by no tree
+--   Stands l k m         the mask m stands in row k of the masks l
+--   RowsOf p n rs rows   the rows of the first n records' masks, those of new ones behind the others
+--   Grown s ms u         the lent bytes u are s with the new splits ms behind the others, listed by no tree
 --   Recorded s t u       the lent bytes u are whole and hold what s holds, and the tree t
---   Grown s ms u         the lent bytes u are s with those of ms that are new, listed by no tree
 --   Accepts a s r t      the verdict a as to room: refused and nothing changed, or the tree recorded
-use Prim.Native.Nat.{ℕ, suc, _+_, _*_, _≤_, _<_}
+use Prim.Native.Nat.{ℕ, _+_, _*_, _≤_, _<_}
 use mathlib.Core.Path.{_≡_}
-use mathlib.Core.Bool.{true, not}
-use mathlib.Core.List.{List, [], _∷_, _++_, map}
-use lib.Dec.{eqb}
+use mathlib.Core.Bool.{true}
+use mathlib.Core.List.{List, _++_}
 use lib.ListN.{length, getD}
-use Rattle.trees.specs.Plain.{if_then_else_, keep, member, Answer, refused, gives}
+use Rattle.trees.specs.Plain.{lacking, Answer, refused, gives}
 use Rattle.trees.specs.Hash.{identifier}
-use Rattle.trees.specs.Opening.{Opening}
 use Rattle.trees.specs.Held.{withTree, accepted}
 use Rattle.trees.specs.Whole.{goodTree}
 use Rattle.answers.specs.Answers.{progressGiven}
@@ -25,7 +22,7 @@ use Rattle.answers.specs.declared.Progress.{Progress}
 use Rattle.head.specs.Head.{upTo, numbersAt, secondAt, openingAt}
 use Rattle.layout.specs.Store.{sizeAt, Parts, partsAt, masksIn, treesHeldAt, heldAt}
 use Rattle.layout.specs.WholeStore.{wholeAt, placeIn}
-use Rattle.recording.specs.Added.{withSplit}
+use Rattle.layout.specs.Sound.{Sound}
 
 unfoldable pub masksOf : ℕ → List ℕ → List ℕ
 unfolding upTo
@@ -39,24 +36,21 @@ pub record SplitsOf (s : List ℕ) (n : ℕ) (rs : List ℕ) : Type 0 where
   pub identified : (j : ℕ) → j < n → getD rs (3 * j + 2) 0 ≡ identifier (secondAt s) (getD rs (3 * j) 0)
 
 unfoldable pub newIn : Parts → List ℕ → List ℕ
-unfolding keep member
-newIn p ms = keep (λ m. not (member m (masksIn p))) ms
+unfolding lacking
+newIn p ms = lacking ms (masksIn p)
 
-unfoldable pub rowOf : List ℕ → ℕ → ℕ
-rowOf [] m = 0
-rowOf (x ∷ l) m = if eqb x m then 0 else suc (rowOf l m)
+abbrev pub Stands : List ℕ → ℕ → ℕ → Type 0
+Stands l k m = (k < length l) × (getD l k 0 ≡ m)
 
-unfoldable pub rowsOf : Parts → List ℕ → List ℕ
-unfolding newIn rowOf
-rowsOf p ms = map (rowOf (p .masks ++ newIn p ms)) ms
-
-unfoldable pub withNew : Opening → List ℕ → Parts → Parts
-unfolding withSplit member
-withNew o [] p = p
-withNew o (m ∷ ms) p = withNew o ms (if member m (masksIn p) then p else withSplit o m p)
+pub record RowsOf (p : Parts) (n : ℕ) (rs rows : List ℕ) : Type 0 where
+  pub reach : n ≤ length rows
+  pub each : (j : ℕ) → j < n → Stands (p .masks ++ newIn p (masksOf n rs)) (getD rows j 0) (getD rs (3 * j) 0)
 
 pub record Grown (s ms u : List ℕ) : Type 0 where
-  pub parts : partsAt u ≡ withNew (openingAt s) ms (partsAt s)
+  pub sound : Sound (openingAt u) (partsAt u)
+  pub masks : partsAt u .masks ≡ partsAt s .masks ++ ms
+  pub lists : partsAt u .lists ≡ partsAt s .lists
+  pub held : heldAt u ≡ heldAt s
   pub opening : openingAt u ≡ openingAt s
   pub size : length u ≡ length s
   pub behind : (i : ℕ) → sizeAt s ≤ i → getD u i 0 ≡ getD s i 0

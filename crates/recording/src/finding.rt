@@ -2,16 +2,15 @@
 // counts and links; the chain of its place leads from row to row.
 ghost use mathlib.Core.Path.{_≡_};
 ghost use mathlib.Core.Bool.{true};
-ghost use mathlib.Core.List.{_++_};
 ghost use Prim.Native.Nat.{_≤_};
-ghost use lib.ListN.{length, drop};
+ghost use lib.ListN.{length};
 ghost use Rattle.layout.specs.Store.{partsAt};
 ghost use Rattle.layout.specs.WholeStore.{wholeAt, placeIn};
-ghost use Rattle.recording.specs.Recording.{masksOf, SplitsOf, newIn, rowsOf};
+ghost use Rattle.recording.specs.Recording.{masksOf, SplitsOf, newIn, RowsOf};
 ghost use Rattle.recording.specs.Rows.{FoundAs};
 
 // The answer of a look for a split.
-pub(crate) enum Found {
+pub enum Found {
     Row(usize),
     Nothing,
 }
@@ -22,15 +21,13 @@ pub(crate) fn find_row(s: &[u8], p: u64, m: u64) -> Found
     requires { ⌜ p ≡ placeIn (now s) m ⌝ }
     ensures { λ r. ⌜ FoundAs (partsAt (now (s .entry))) m r ⌝ }
 {
-    let masks = layout::masks_from(s);
-    let links = layout::links_from(s);
-    let mut entry = layout::number16(s, layout::places_from(s) + 2 * p as usize);
+    let mut entry = rows::start_at(s, p as usize);
     while entry != 0 {
         let k = entry - 1;
-        if fields::get64(s, masks + 8 * k) == m {
+        if rows::mask_at(s, k) == m {
             return Found::Row(k);
         }
-        entry = layout::number16(s, links + 2 * k);
+        entry = rows::link_at(s, k);
     }
     Found::Nothing
 }
@@ -40,7 +37,7 @@ pub(crate) fn find_rows(s: &[u8], n: usize, records: &[u64], rows: &mut [u64]) -
     requires { ⌜ wholeAt (now s) ≡ true ⌝ }
     requires { ⌜ SplitsOf (now s) n (now records) ⌝ }
     requires { ⌜ n ≤ length (now rows) ⌝ }
-    ensures { λ r. ⌜ now (rows .exit) ≡ rowsOf (partsAt (now (s .entry))) (masksOf n (now (records .entry))) ++ drop n (now (rows .entry)) ⌝ }
+    ensures { λ r. ⌜ RowsOf (partsAt (now (s .entry))) n (now (records .entry)) (now (rows .exit)) ⌝ }
     ensures { λ r. ⌜ r ≡ length (newIn (partsAt (now (s .entry))) (masksOf n (now (records .entry)))) ⌝ }
 {
     let held = layout::splits_held(s);

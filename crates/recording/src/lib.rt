@@ -6,12 +6,12 @@
 ghost use mathlib.Core.Path.{_≡_};
 ghost use mathlib.Core.Bool.{true};
 ghost use Prim.Native.Nat.{_+_, _≤_};
-ghost use lib.ListN.{length, take};
+ghost use lib.ListN.{length};
 ghost use Rattle.trees.specs.Held.{roomFor};
 ghost use Rattle.head.specs.Head.{numbersAt};
 ghost use Rattle.layout.specs.Store.{partsAt, splitsHeldAt, heldAt};
 ghost use Rattle.layout.specs.WholeStore.{wholeAt};
-ghost use Rattle.recording.specs.Recording.{masksOf, SplitsOf, newIn, rowsOf, Accepts, Grown};
+ghost use Rattle.recording.specs.Recording.{masksOf, SplitsOf, newIn, RowsOf, Accepts, Grown};
 use answers::Progress;
 use answers::Refusal;
 use answers::Tree;
@@ -44,9 +44,9 @@ pub fn accept(s: &mut [u8], n: usize, records: &[u64]) -> Progress
 fn add_new(s: &mut [u8], n: usize, records: &[u64], rows: &[u64])
     requires { ⌜ wholeAt (now s) ≡ true ⌝ }
     requires { ⌜ SplitsOf (now s) n (now records) ⌝ }
-    requires { ⌜ (n ≤ length (now rows)) × (take n (now rows) ≡ rowsOf (partsAt (now s)) (masksOf n (now records))) ⌝ }
+    requires { ⌜ RowsOf (partsAt (now s)) n (now records) (now rows) ⌝ }
     requires { ⌜ splitsHeldAt (now s) + length (newIn (partsAt (now s)) (masksOf n (now records))) ≤ numbersAt (now s) .splitRoom ⌝ }
-    ensures { λ r. ⌜ Grown (now (s .entry)) (masksOf n (now (records .entry))) (now (s .exit)) ⌝ }
+    ensures { λ r. ⌜ Grown (now (s .entry)) (newIn (partsAt (now (s .entry))) (masksOf n (now (records .entry)))) (now (s .exit)) ⌝ }
 {
     let held = layout::splits_held(s) as u64;
     let mut j = 0;

@@ -1,0 +1,86 @@
+-- `recording::accept` meets its contract: 11, 12, or the tree recorded. Assumes nothing.
+use mathlib.Core.Path.{refl, ap, _∙_}
+use native.Mathlib.Omega.{arith}
+use borrow.Author.Needs.{needs}
+use Rattle.trees.specs.Plain.{gives}
+use Rattle.trees.specs.Held.{accepted}
+use Rattle.answers.specs.Answers.{refusalNumber, progressGiven}
+use Rattle.layout.specs.Store.{partsAt}
+use Rattle.layout.specs.WholeFacts.{whole-at-facts}
+use Rattle.recording.specs.NewLaws.{new-most}
+use Rattle.recording.specs.GrownLaws.{grown-head}
+use Rattle.recording.specs.AcceptLaws.{no-tree-room, no-split-room, refuses, trees-in, rows-in, records}
+use Rattle.recording.proofs.accept.Statement.{statement}
+use Rattle.recording.proofs.accept.Tie as tie
+
+returns : tie.Need-returns
+unfolding progressGiven refusalNumber
+returns c = refuses _ _ _ 11 (no-tree-room _ _ (c .before .before .before .before .before .before .before .pre .0) (omega arith)) refl
+
+find-rows-requires : tie.Need-find-rows-requires
+find-rows-requires c κs = let d = c .before .before .before .before .before .before .before .before .before in (d .pre .0, (d .pre .1, omega (arith, d .pre .1 .few)))
+
+sum-small : tie.Need-add-if2
+sum-small c =
+    let d = c .before .before .before .before .before .before .before .before .before .before .before .before .before .before .before in
+    omega (arith, c .before .before .before .before .before .find-rows .ensures .1, new-most (partsAt (d .args .s .now)) (d .args .records .now) (d .args .n), d .pre .1 .few)
+
+returns-2 : tie.Need-returns-2
+unfolding progressGiven refusalNumber
+returns-2 c =
+    let f = c .before .before .before .before .before .before .find-rows .ensures .1 in
+    refuses _ _ _ 12 (no-split-room _ _ (c .before .before .before .before .before .before .before .before .before .before .before .before .before .before .before .before .pre .0) (λ e. omega (arith, c .before .before .before .before .before .before .before .before .before .if1 .left)) (omega (arith, f))) refl
+
+add-new-requires : tie.Need-add-new-requires
+add-new-requires c κs =
+    let d = c .before .before .before .before .before .before .before .before .before .before .before .before .before .before .before .before .before .before in
+    let f = c .before .before .before .before .before .before .before .before .find-rows .ensures in
+    (d .pre .0, (d .pre .1, (f .0, omega (arith, f .1, c .before .before .if2 .left))))
+
+list-tree-requires : tie.Need-list-tree-requires
+list-tree-requires c κs =
+    let d = c .before .before .before .before .before .before .before .before .before .before .before .before .before .before .before .before .before .before .before .before .before .before .before in
+    let f = c .before .before .before .before .before .before .before .before .before .before .before .before .before .find-rows .ensures in
+    let g = c .before .before .before .before .add-new .ensures in
+    (
+      (grown-head _ (d .pre .0) (d .args .n) _ (omega (arith, f .1, c .before .before .before .before .before .before .before .if2 .left)) (d .args .n) _ g (omega arith), g .sound),
+      (
+        trees-in _ (d .pre .0) _ _ (d .pre .1) (λ e. omega (arith, c .before .before .before .before .before .before .before .before .before .before .before .before .before .before .before .before .if1 .left)) _ (f .0) _ g,
+        ((d .pre .1 .few, f .0 .reach), rows-in _ (d .pre .0) _ _ (d .pre .1) (λ e. omega (arith, c .before .before .before .before .before .before .before .before .before .before .before .before .before .before .before .before .if1 .left)) _ (f .0) _ g),
+      ),
+    )
+
+returns-3 : tie.Need-returns-3
+unfolding progressGiven
+returns-3 c =
+    let d = c .before .before .before .before .before .before .before .before .before .before .before .before .before .before .before .before .before .before .before .before .before .before .before .before .before .before in
+    let w = d .pre .0 in
+    let f = c .before .before .before .before .before .before .before .before .before .before .before .before .before .before .before .before .find-rows .ensures in
+    let g = c .before .before .before .before .before .before .before .add-new .ensures in
+    records _ w _ _ (d .pre .1) (λ e. omega (arith, c .before .before .before .before .before .before .before .before .before .before .before .before .before .before .before .before .before .before .before .if1 .left)) _ (f .0) _ g
+    (omega (arith, f .1, c .before .before .before .before .before .before .before .before .before .before .if2 .left)) (grown-head _ w (d .args .n) _ (omega (arith, f .1, c .before .before .before .before .before .before .before .before .before .before .if2 .left)) (d .args .n) _ g (omega arith))
+    _ (c .before .before .list-tree .ensures) _ (ap (λ k. gives (accepted k)) (c .before .before .before .before .before .before .before .before .before .before .before .before .before .before .before .before .before .before .before .before .before .before .trees-held .ensures))
+
+pub accept-spec : {M : Type 1} → statement M
+accept-spec =
+    tie.close
+    (tie.spec
+    (λ c κs. whole-at-facts _ (c .before .before .before .pre .0) .head .head-there)
+    (λ c κs. whole-at-facts _ (c .before .before .before .before .before .pre .0) .head .head-there)
+    (λ c. search needs)
+    (λ c. search needs)
+    returns
+    (λ c. search needs)
+    find-rows-requires
+    (λ c κs. whole-at-facts _ (c .before .before .before .before .before .before .before .before .before .before .before .before .pre .0) .head .head-there)
+    (λ c. search needs)
+    (λ c κs. whole-at-facts _ (c .before .before .before .before .before .before .before .before .before .before .before .before .before .before .pre .0) .head .head-there)
+    sum-small
+    (λ c. search needs)
+    returns-2
+    (λ c. search needs)
+    add-new-requires
+    (λ c. search needs)
+    list-tree-requires
+    (λ c. c .before .before .list-tree .ensures .size ∙ c .before .before .before .before .before .before .before .add-new .ensures .size)
+    returns-3)

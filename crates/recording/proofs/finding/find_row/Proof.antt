@@ -1,0 +1,57 @@
+-- `recording::finding::find_row` meets its contract. The loop's invariant: the entry leads along the mask's place, and the rows passed
+-- have other masks. The measure is the entry, for links fall. Assumes nothing.
+use native.Mathlib.Omega.{arith}
+use mathlib.Core.Path.{sym, _∙_}
+use Rattle.layout.specs.WholeFacts.{whole-at-facts}
+use Rattle.layout.specs.InsideLaws.{place-below}
+use Rattle.recording.specs.Rows.{FoundAs}
+use Rattle.recording.specs.WalkLaws.{Walk, walk-starts, walk-row, walk-falls, walk-next, walk-ends}
+use Rattle.recording.proofs.finding.find_row.Statement.{statement}
+use Rattle.recording.proofs.finding.find_row.Tie as tie
+
+abbrev Inv-loop : tie.InvT-loop
+Inv-loop s p m entry₀ entry = Walk s m entry
+
+abbrev μ-loop : tie.MeasureT-loop
+μ-loop s p m entry₀ entry = entry
+
+start-asks : tie.Need-start-at-requires Inv-loop μ-loop
+start-asks c κs =
+    let d = c .before in
+    let h = whole-at-facts _ (d .pre .0) .head in
+    (h, omega (arith, d .pre .1, place-below _ h (d .args .m)))
+
+loop-holds : tie.Need-loop-holds Inv-loop μ-loop
+loop-holds c = let d = c .before .before in rw (c .start-at .ensures, d .pre .1) (walk-starts _ _ (d .pre .0))
+
+returns : tie.Need-returns Inv-loop μ-loop
+unfolding FoundAs
+returns c = (walk-row _ _ (c .before .before .before .before .before .before .pre .0) _ (c .before .before .before .loop .inv) (c .before .before .loop-test .taken), sym (c .before .mask-at .ensures) ∙ c .if1 .taken)
+
+loop-less : tie.Need-loop-less Inv-loop μ-loop
+loop-less c = omega (arith, c .link-at .ensures, walk-falls _ _ (c .before .before .before .before .before .before .before .pre .0) _ (c .before .before .before .before .loop .inv) (c .before .before .before .loop-test .taken))
+
+loop-again : tie.Need-loop-again Inv-loop μ-loop
+loop-again c =
+    rw (c .link-at .ensures)
+    (walk-next _ _ (c .before .before .before .before .before .before .before .pre .0) _ (c .before .before .before .before .loop .inv) (c .before .before .before .loop-test .taken) (λ e. c .before .if1 .left (c .before .before .mask-at .ensures ∙ e)))
+
+returns-2 : tie.Need-returns-2 Inv-loop μ-loop
+unfolding FoundAs
+returns-2 c = walk-ends _ _ (c .before .before .before .before .pre .0) _ (c .before .loop .inv) (c .loop-test .left)
+
+pub find-row-spec : {M : Type 1} → statement M
+find-row-spec =
+    tie.close
+    (tie.spec
+    Inv-loop
+    μ-loop
+    start-asks
+    loop-holds
+    (λ c. omega arith)
+    (λ c κs. let w = c .before .before .before .before .pre .0 in (whole-at-facts _ w .head, walk-row _ _ w _ (c .before .loop .inv) (c .loop-test .taken)))
+    returns
+    (λ c κs. let w = c .before .before .before .before .before .before .pre .0 in (whole-at-facts _ w .head, walk-row _ _ w _ (c .before .before .before .loop .inv) (c .before .before .loop-test .taken)))
+    loop-less
+    loop-again
+    returns-2)

@@ -1,0 +1,153 @@
+-- Whether there is room for a tree, and the tree recorded behind its new splits. Assumes nothing.
+--
+--   no-tree-room, no-split-room     11 and 12
+--   refuses                         a refusal that changes nothing
+--   trees-in, rows-in               what listing the tree asks
+--   records                         the tree is recorded
+use Prim.Native.Nat.{ℕ, suc, _+_, _*_, _≤_, _<_}
+use native.Mathlib.Omega.{arith}
+use mathlib.Core.Path.{_≡_, refl, sym, ap, ap₂, _∙_, subst}
+use mathlib.Core.Logic.{_⊎_, inl, inr}
+use mathlib.Core.Bool.{true}
+use mathlib.Core.List.{List, [], _∷_, _++_, map}
+use lib.Dec.{ltb, eqb}
+use lib.ListN.{length, getD, take, length-append}
+use lib.Seq.{length-take-le, getD-take, ext-getD}
+use borrow.Author.Tests.{lt-ltb, le-ltb, eq-eqb, ne-eqb}
+use Rattle.trees.specs.Plain.{if_then_else_, every, member, lacking, Answer, refused, gives}
+use Rattle.trees.specs.Mask.{proper}
+use Rattle.trees.specs.Consensus.{count}
+use Rattle.trees.specs.Held.{newSplits, roomFor, withTree, accepted}
+use Rattle.trees.specs.Whole.{rising, goodTree}
+use Rattle.theorems.specs.ListLaws.{and-left, and-right, Mem, mem-member}
+use Rattle.theorems.specs.RisingLaws.{rising-true}
+use Rattle.answers.specs.declared.Progress.{Progress}
+use Rattle.answers.specs.Answers.{progressGiven}
+use Rattle.head.specs.Head.{numbersAt, openingAt}
+use Rattle.layout.specs.Store.{Parts, partsAt, maskIn, countIn, treesHeldAt, splitsHeldAt, heldAt}
+use Rattle.layout.specs.WholeStore.{listedIn, wholeAt}
+use Rattle.layout.specs.WholeFacts.{HeadAt, whole-at-facts}
+use Rattle.layout.specs.Sound.{sound-whole}
+use Rattle.layout.specs.UpToLaws.{less-or-not, length-map, map-at, mem-getD, mem-at, upTo-mem}
+use Rattle.layout.specs.OrderLaws.{mask-same}
+use Rattle.store.specs.RecordedAtLaws.{trees-length, recorded-at, recorded-length}
+use Rattle.store.specs.HeldWholeLaws.{held-numbers}
+use Rattle.recording.specs.Listed.{oneIf, withList, Rows, Listed}
+use Rattle.recording.specs.ListSoundLaws.{list-counted, list-sound, list-held}
+use Rattle.recording.specs.Recording.{masksOf, SplitsOf, newIn, Stands, RowsOf, Grown, Recorded, Accepts}
+use Rattle.recording.specs.NewLaws.{masks-length, mask-at, new-mem, stands-new}
+use Rattle.recording.specs.GrownLaws.{numbers-same, size-same, head-after}
+
+-- ---- the verdict
+
+module _ (s t : List ℕ) (w : wholeAt s ≡ true) where
+  new-same : newSplits (heldAt s) t ≡ newIn (partsAt s) t
+  unfolding newSplits newIn
+  new-same = ap (lacking t) (recorded-at s w)
+
+  room : roomFor (heldAt s) t
+      ≡ (if eqb (treesHeldAt s) (numbersAt s .treeRoom) then refused 11
+      else if ltb (numbersAt s .splitRoom) (splitsHeldAt s + length (newIn (partsAt s) t)) then refused 12 else gives t)
+  unfolding roomFor
+  room = rw (trees-length s, recorded-length s w, held-numbers s, new-same)
+
+  pub no-tree-room : treesHeldAt s ≡ numbersAt s .treeRoom → roomFor (heldAt s) t ≡ refused 11
+  no-tree-room e = room ∙ rw (eq-eqb _ _ e)
+
+  module _ (d : treesHeldAt s ≡ numbersAt s .treeRoom → ⊥) where
+    pub no-split-room : numbersAt s .splitRoom < splitsHeldAt s + length (newIn (partsAt s) t) → roomFor (heldAt s) t ≡ refused 12
+    no-split-room h = room ∙ rw (ne-eqb _ _ d, lt-ltb _ _ h)
+
+    room-enough : splitsHeldAt s + length (newIn (partsAt s) t) ≤ numbersAt s .splitRoom → roomFor (heldAt s) t ≡ gives t
+    room-enough h = room ∙ rw (ne-eqb _ _ d, le-ltb _ _ h)
+
+pub refuses : (a : Answer (List ℕ)) (s : List ℕ) (r : Progress) (k : ℕ) → a ≡ refused k → progressGiven r ≡ refused k → Accepts a s r s
+unfolding Accepts
+refuses a s r k e q = rw e (q, refl)
+
+-- ---- the tree behind its new splits
+
+module _ (s : List ℕ) (whole : wholeAt s ≡ true) (n : ℕ) (rs : List ℕ) (t : SplitsOf s n rs) (d : treesHeldAt s ≡ numbersAt s .treeRoom → ⊥)
+    (rows : List ℕ) (r : RowsOf (partsAt s) n rs rows) (u : List ℕ) (g : Grown s (newIn (partsAt s) (masksOf n rs)) u) where
+  trees : treesHeldAt u ≡ treesHeldAt s
+  trees = ap length (g .lists)
+
+  pub trees-in : treesHeldAt u < numbersAt u .treeRoom
+  trees-in = rw (numbers-same s u (g .opening)) (omega (arith, d, trees, whole-at-facts s whole .head .trees-fit))
+
+  rows-length : length (take n rows) ≡ n
+  rows-length = length-take-le n rows (r .reach)
+
+  stands : (j : ℕ) → j < n → Stands (partsAt u .masks) (getD (take n rows) j 0) (getD rs (3 * j) 0)
+  stands j h = rw (g .masks, getD-take n rows j 0 h) (r .each j h)
+
+  tree-in : map (maskIn (partsAt u)) (take n rows) ≡ masksOf n rs
+  tree-in =
+      let a = length-map (maskIn (partsAt u)) (take n rows) in
+      ext-getD 0 _ _ (a ∙ rows-length ∙ sym (masks-length n rs)) (λ i h.
+      let c : i < n = omega (arith, rows-length) in
+      map-at (maskIn (partsAt u)) (take n rows) i (omega arith) ∙ stands i c .1 ∙ sym (mask-at n rs i c))
+
+  pub rows-in : Rows (partsAt u) (take n rows)
+  unfolding goodTree
+  rows-in =
+      let b = and-right (every (proper (numbersAt s .taxa)) (masksOf n rs)) _ (t .good) in
+      record {
+        few = omega (arith, rows-length, t .few);
+        below = λ k h. let i = mem-at (take n rows) k h in rw (← i .2) (stands (i .0) (omega (arith, i .1, rows-length)) .0);
+        rises = rw tree-in (rising-true (masksOf n rs) (and-left _ _ b));
+        agrees = rw tree-in (and-right (rising (masksOf n rs)) _ b);
+      }
+
+  -- a split that the store has is listed as often as before; a row behind its rows is one of the tree's
+  old-count : (k : ℕ) → k < splitsHeldAt u → k < splitsHeldAt s → 1 ≤ countIn (partsAt u) k
+  unfolding listedIn
+  old-count k b h =
+      let c = whole-at-facts s whole .counts k h in
+      omega (arith, g .sound .counts k b, ap (λ (l : List (List ℕ)). count (take (length l) l) k) (g .lists), c .some-tree, c .counted)
+
+  new-row : (k : ℕ) → k < splitsHeldAt u → splitsHeldAt s ≤ k → Mem k (take n rows)
+  unfolding masksOf
+  new-row k h b =
+      let f : Stands (partsAt s .masks ++ newIn (partsAt s) (masksOf n rs)) k (maskIn (partsAt u) k) = rw (← g .masks) (h, refl) in
+      let m = new-mem (partsAt s) (masksOf n rs) (maskIn (partsAt u) k) (stands-new (partsAt s .masks) (newIn (partsAt s) (masksOf n rs)) k (maskIn (partsAt u) k) f b) .0 in
+      let j = upTo-mem (λ i. getD rs (3 * i) 0) n (maskIn (partsAt u) k) m in
+      let y = stands (j .0) (j .1) in
+      let e : getD (take n rows) (j .0) 0 ≡ k = mask-same (partsAt u) (g .sound .shaped .order) (g .sound .splits) _ k (y .0) h (y .1 ∙ sym (j .2)) in
+      subst (λ (x : ℕ). Mem x (take n rows)) e (mem-getD (take n rows) (j .0) (omega (arith, j .1, rows-length)))
+
+  one-in : (k : ℕ) → Mem k (take n rows) → oneIf (member k (take n rows)) ≡ 1
+  unfolding oneIf
+  one-in k h = rw (mem-member k (take n rows) h)
+
+  module _ (room-in : splitsHeldAt s + length (newIn (partsAt s) (masksOf n rs)) ≤ numbersAt s .splitRoom) (h : HeadAt u) (v : List ℕ) (l : Listed u (take n rows) v) where
+    splits-after : splitsHeldAt v ≡ splitsHeldAt u
+    unfolding withList
+    splits-after = ap (λ (p : Parts). length (p .masks)) (l .parts)
+
+    trees-after : treesHeldAt v ≡ suc (treesHeldAt u)
+    unfolding withList
+    trees-after = ap (λ (p : Parts). length (p .lists)) (l .parts) ∙ omega (arith, length-append (partsAt u .lists) (take n rows ∷ []))
+
+    -- each split is listed by a tree: an old one was, and a new one is now
+    some-tree : (k : ℕ) → k < splitsHeldAt v → (k < splitsHeldAt s) ⊎ (splitsHeldAt s ≤ k) → 1 ≤ countIn (partsAt v) k
+    some-tree k b (inl a) =
+        let c : k < splitsHeldAt u = omega (arith, splits-after) in
+        omega (arith, ap (λ (p : Parts). countIn p k) (l .parts), list-counted (take n rows) (partsAt u) k c, old-count k c a)
+    some-tree k b (inr a) =
+        let c : k < splitsHeldAt u = omega (arith, splits-after) in
+        omega (arith, ap (λ (p : Parts). countIn p k) (l .parts), list-counted (take n rows) (partsAt u) k c, one-in k (new-row k c a))
+
+    recorded : Recorded s (masksOf n rs) v
+    recorded = record {
+      whole =
+          sound-whole v (head-after u v (l .opening) h (l .size) (omega (arith, trees-after, trees-in)) (omega (arith, splits-after, h .splits-fit)))
+          (rw (l .opening, l .parts) (list-sound (openingAt u) (take n rows) (partsAt u) (g .sound) rows-in)) (λ k b. some-tree k b (less-or-not k (splitsHeldAt s)));
+      held = rw (l .opening, l .parts) (list-held (openingAt u) (take n rows) (partsAt u)) ∙ ap₂ withTree (g .held) tree-in;
+      size = l .size ∙ g .size;
+      behind = λ i b. l .behind i (omega (arith, size-same s u (g .opening))) ∙ g .behind i b;
+    }
+
+    pub records : (a : Progress) → progressGiven a ≡ gives (accepted (treesHeldAt s)) → Accepts (roomFor (heldAt s) (masksOf n rs)) s a v
+    unfolding Accepts
+    records a q = rw (room-enough s (masksOf n rs) whole d room-in) (q, recorded)

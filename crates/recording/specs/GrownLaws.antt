@@ -1,0 +1,154 @@
+-- How a store grows by the new splits of a tree, a split at a time. Assumes nothing.
+--
+--   numbers-same, size-same, head-after     the opening says the numbers and the size, and with the rooms that the head is in order
+--   grown-none                  at first nothing has grown
+--   grown-head                  the head stays in order
+--   grown-old                   a split that the store has changes nothing
+--   next-asks                   what adding a new split asks
+--   grown-new                   a new split stands in its row
+use Prim.Native.Nat.{ℕ, _+_, _-_, _*_, _≤_, _<_}
+use native.Mathlib.Omega.{arith}
+use mathlib.Core.Path.{_≡_, refl, sym, ap, _∙_, subst}
+use mathlib.Core.Logic.{_⊎_, inl, inr}
+use mathlib.Core.Bool.{true, false, true≢false}
+use mathlib.Core.List.{List, [], _∷_, _++_, append-assoc, append-nil}
+use lib.ListN.{length, getD, length-append}
+use Rattle.trees.specs.Plain.{every, member}
+use Rattle.trees.specs.Mask.{proper}
+use Rattle.trees.specs.Hash.{place, identifier}
+use Rattle.trees.specs.Opening.{Numbers, Opening, storeSize}
+use Rattle.trees.specs.Whole.{goodOpening, goodTree}
+use Rattle.theorems.specs.ListLaws.{and-left, and-right, Mem, mem-cases, member-not, every-at}
+use Rattle.theorems.specs.OpeningLaws.{good-opening}
+use Rattle.theorems.specs.RisingLaws.{rising-true}
+use Rattle.head.specs.Head.{upTo, numbersAt, secondAt, openingAt}
+use Rattle.layout.specs.Store.{sizeAt, Parts, partsAt, treesHeldAt, splitsHeldAt, masksAt}
+use Rattle.layout.specs.WholeStore.{wholeAt, placeIn}
+use Rattle.layout.specs.WholeFacts.{HeadAt, whole-at-facts}
+use Rattle.layout.specs.Sound.{Sound, whole-sound}
+use Rattle.layout.specs.UpToLaws.{upTo-mem, mem-upTo, upTo-rises, mem-at, mem-getD}
+use Rattle.layout.specs.OrderLaws.{masks-mem}
+use Rattle.recording.specs.Added.{Added, withSplit}
+use Rattle.recording.specs.SplitSoundLaws.{split-sound, split-held}
+use Rattle.recording.specs.Recording.{masksOf, SplitsOf, newIn, RowsOf, Grown}
+use Rattle.recording.specs.NewLaws.{new-none, new-old, new-next, new-mem, new-within, row-recorded, row-known, row-unknown}
+
+-- ---- what the opening says
+
+module _ (s u : List ℕ) (e : openingAt u ≡ openingAt s) where
+  pub numbers-same : numbersAt u ≡ numbersAt s
+  unfolding openingAt
+  numbers-same = ap (λ (o : Opening). o .numbers) e
+
+  pub size-same : sizeAt u ≡ sizeAt s
+  unfolding sizeAt
+  size-same = ap storeSize numbers-same
+
+  place-same : (m : ℕ) → placeIn u m ≡ placeIn s m
+  unfolding openingAt
+  place-same m = ap (λ (o : Opening). place (o .first) (o .numbers .places) m) e
+
+  identifier-same : (m : ℕ) → identifier (secondAt u) m ≡ identifier (secondAt s) m
+  unfolding openingAt
+  identifier-same m = ap (λ (o : Opening). identifier (o .second) m) e
+
+  pub head-after : HeadAt s → length u ≡ length s → treesHeldAt u ≤ numbersAt s .treeRoom → splitsHeldAt u ≤ numbersAt s .splitRoom → HeadAt u
+  head-after h l a b = record {
+    head-there = omega (arith, h .head-there);
+    opening-good = ap goodOpening e ∙ h .opening-good;
+    reached = omega (arith, h .reached, size-same);
+    trees-fit = rw numbers-same a;
+    splits-fit = rw numbers-same b;
+  }
+
+-- ---- behind the first j splits
+
+module _ (s : List ℕ) (whole : wholeAt s ≡ true) (n : ℕ) (rs : List ℕ) where
+  abbrev new : ℕ → List ℕ
+  new j = newIn (partsAt s) (masksOf j rs)
+
+  pub grown-none : Grown s (newIn (partsAt s) (masksOf 0 rs)) s
+  grown-none = record {
+    sound = whole-sound s whole;
+    masks = rw (new-none (partsAt s) rs) (sym (append-nil (partsAt s .masks)));
+    lists = refl;
+    held = refl;
+    opening = refl;
+    size = refl;
+    behind = λ i h. refl;
+  }
+
+  module _ (room : splitsHeldAt s + length (newIn (partsAt s) (masksOf n rs)) ≤ numbersAt s .splitRoom) (j : ℕ) (u : List ℕ) (g : Grown s (newIn (partsAt s) (masksOf j rs)) u) where
+    pub grown-number : splitsHeldAt u ≡ splitsHeldAt s + length (newIn (partsAt s) (masksOf j rs))
+    grown-number = ap length (g .masks) ∙ length-append (partsAt s .masks) (new j)
+
+    pub grown-head : j ≤ n → HeadAt u
+    grown-head b =
+        let h = whole-at-facts s whole .head in
+        head-after s u (g .opening) h (g .size) (omega (arith, ap length (g .lists), h .trees-fit)) (omega (arith, grown-number, room, new-within (partsAt s) rs (n - j) j n (omega arith)))
+
+    module _ (t : SplitsOf s n rs) (rows : List ℕ) (r : RowsOf (partsAt s) n rs rows) (h : j < n) where
+      abbrev next : ℕ
+      next = getD rs (3 * j) 0
+
+      pub grown-old : getD rows j 0 < splitsHeldAt s → Grown s (newIn (partsAt s) (masksOf (j + 1) rs)) u
+      grown-old b = rw (new-old (partsAt s) rs j (row-known s whole n rs rows r j h b)) g
+
+      module _ (b : splitsHeldAt s ≤ getD rows j 0) where
+        more : newIn (partsAt s) (masksOf (j + 1) rs) ≡ new j ++ next ∷ []
+        more = new-next (partsAt s) rs j (row-unknown s whole n rs rows r j h b)
+
+        next-proper : proper (numbersAt u .taxa) next ≡ true
+        unfolding goodTree masksOf
+        next-proper =
+            ap (λ (x : Numbers). proper (x .taxa) next) (numbers-same s u (g .opening))
+            ∙ every-at (proper (numbersAt s .taxa)) (masksOf n rs) (and-left _ _ (t .good)) next (mem-upTo (λ i. getD rs (3 * i) 0) n j h)
+
+        -- it is none of the splits before it, for a tree's masks rise
+        not-before : Mem next (new j) → ⊥
+        unfolding goodTree masksOf
+        not-before q =
+            let i = upTo-mem (λ k. getD rs (3 * k) 0) j next (new-mem (partsAt s) (masksOf j rs) next q .0) in
+            let rise = rising-true (masksOf n rs) (and-left _ _ (and-right (every (proper (numbersAt s .taxa)) (masksOf n rs)) _ (t .good))) in
+            omega (arith, upTo-rises (λ k. getD rs (3 * k) 0) n rise (i .0) j (i .1) h, i .2)
+
+        next-new : member next (masksAt u) ≡ false
+        next-new =
+            member-not next (masksAt u) (λ q.
+            let k = masks-mem (partsAt u) (g .sound .shaped .order) (g .sound .splits) next q in
+            go (mem-cases next (partsAt s .masks) (new j) (subst (Mem next) (g .masks) (rw (k .2) (mem-getD (partsAt u .masks) (k .0) (k .1))))))
+          where
+            go : Mem next (partsAt s .masks) ⊎ Mem next (new j) → ⊥
+            go (inl q) =
+                let i = mem-at (partsAt s .masks) next q in
+                true≢false (sym (row-recorded s whole (i .0) next (i .1) (i .2)) ∙ row-unknown s whole n rs rows r j h b)
+            go (inr q) = not-before q
+
+        pub next-asks : (HeadAt u × Sound (openingAt u) (partsAt u))
+            × ((splitsHeldAt u < numbersAt u .splitRoom)
+            × ((proper (numbersAt u .taxa) (getD rs (3 * j) 0) ≡ true)
+            × ((member (getD rs (3 * j) 0) (masksAt u) ≡ false)
+            × ((getD rs (3 * j + 1) 0 ≡ placeIn u (getD rs (3 * j) 0)) × (getD rs (3 * j + 2) 0 ≡ identifier (secondAt u) (getD rs (3 * j) 0))))))
+        next-asks =
+            let a = new-within (partsAt s) rs (n - (j + 1)) (j + 1) n (omega arith) in
+            let c = ap length more ∙ length-append (new j) (next ∷ []) in (
+              (grown-head (omega arith), g .sound),
+              (
+                rw (numbers-same s u (g .opening)) (omega (arith, grown-number, room, a, c)),
+                (next-proper, (next-new, (t .placed j h ∙ sym (place-same s u (g .opening) next), t .identified j h ∙ sym (identifier-same s u (g .opening) next)))),
+              ),
+            )
+
+        pub grown-new : (v : List ℕ) → Added u (getD rs (3 * j) 0) v → Grown s (newIn (partsAt s) (masksOf (j + 1) rs)) v
+        unfolding withSplit
+        grown-new v a =
+            let places = good-opening (openingAt u) (grown-head (omega arith) .opening-good) .ranges .least-places in
+            record {
+              sound = rw (a .opening, a .parts) (split-sound (openingAt u) next (partsAt u) (g .sound) (unfold openingAt in next-proper) next-new places);
+              masks = ap (λ (p : Parts). p .masks) (a .parts) ∙ rw (g .masks, more) (append-assoc (partsAt s .masks) (new j) (next ∷ []));
+              lists = ap (λ (p : Parts). p .lists) (a .parts) ∙ g .lists;
+              held = rw (a .opening, a .parts) (split-held (openingAt u) next (partsAt u) (g .sound)) ∙ g .held;
+              opening = a .opening ∙ g .opening;
+              size = a .size ∙ g .size;
+              behind = λ i q. a .behind i (omega (arith, size-same s u (g .opening))) ∙ g .behind i q;
+            }
