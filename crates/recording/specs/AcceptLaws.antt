@@ -19,7 +19,7 @@ use Rattle.trees.specs.Mask.{proper}
 use Rattle.trees.specs.Consensus.{count}
 use Rattle.trees.specs.Held.{newSplits, roomFor, withTree, accepted}
 use Rattle.trees.specs.Whole.{rising, goodTree}
-use Rattle.theorems.specs.ListLaws.{and-left, and-right, Mem, mem-member}
+use Rattle.theorems.specs.ListLaws.{and-left, and-right, Mem, mem-member, less-or-not, mem-getD}
 use Rattle.theorems.specs.RisingLaws.{rising-true}
 use Rattle.answers.specs.declared.Progress.{Progress}
 use Rattle.answers.specs.Answers.{progressGiven}
@@ -28,7 +28,7 @@ use Rattle.layout.specs.Store.{Parts, partsAt, maskIn, countIn, treesHeldAt, sp
 use Rattle.layout.specs.WholeStore.{listedIn, wholeAt}
 use Rattle.layout.specs.WholeFacts.{HeadAt, whole-at-facts}
 use Rattle.layout.specs.Sound.{sound-whole}
-use Rattle.layout.specs.UpToLaws.{less-or-not, length-map, map-at, mem-getD, mem-at, upTo-mem}
+use Rattle.layout.specs.UpToLaws.{length-map, map-at, mem-at, upTo-mem}
 use Rattle.layout.specs.OrderLaws.{mask-same}
 use Rattle.store.specs.RecordedAtLaws.{trees-length, recorded-at, recorded-length}
 use Rattle.store.specs.HeldWholeLaws.{held-numbers}

@@ -12,10 +12,10 @@ use mathlib.Core.Bool.{true, false}
 use mathlib.Core.List.{List, [], _∷_, _++_, append-assoc}
 use lib.ListN.{length, getD, set, length-append, length-set}
 use lib.Seq.{getD-set-same, getD-set-other, getD-at}
+use Rattle.theorems.specs.ListLaws.{less-or-not}
 use Rattle.trees.specs.Plain.{member}
 use Rattle.layout.specs.Store.{Parts, partsAt, splitsHeldAt, masksAt}
 use Rattle.layout.specs.WholeStore.{wholeAt}
-use Rattle.layout.specs.UpToLaws.{less-or-not}
 use Rattle.recording.specs.declared.finding.Found.{Found}
 use Rattle.recording.specs.declared.finding.Found.the-variants.{Row, Nothing}
 use Rattle.recording.specs.Recording.{masksOf, newIn, Stands, RowsOf}

@@ -18,7 +18,7 @@ use Rattle.trees.specs.Mask.{proper}
 use Rattle.trees.specs.Hash.{place, identifier}
 use Rattle.trees.specs.Opening.{Numbers, Opening, storeSize}
 use Rattle.trees.specs.Whole.{goodOpening, goodTree}
-use Rattle.theorems.specs.ListLaws.{and-left, and-right, Mem, mem-cases, member-not, every-at}
+use Rattle.theorems.specs.ListLaws.{and-left, and-right, Mem, mem-cases, member-not, every-at, mem-getD}
 use Rattle.theorems.specs.OpeningLaws.{good-opening}
 use Rattle.theorems.specs.RisingLaws.{rising-true}
 use Rattle.head.specs.Head.{upTo, numbersAt, secondAt, openingAt}
@@ -26,7 +26,7 @@ use Rattle.layout.specs.Store.{sizeAt, Parts, partsAt, treesHeldAt, splitsHeldA
 use Rattle.layout.specs.WholeStore.{wholeAt, placeIn}
 use Rattle.layout.specs.WholeFacts.{HeadAt, whole-at-facts}
 use Rattle.layout.specs.Sound.{Sound, whole-sound}
-use Rattle.layout.specs.UpToLaws.{upTo-mem, mem-upTo, upTo-rises, mem-at, mem-getD}
+use Rattle.layout.specs.UpToLaws.{upTo-mem, mem-upTo, upTo-rises, mem-at}
 use Rattle.layout.specs.OrderLaws.{masks-mem}
 use Rattle.recording.specs.Added.{Added, withSplit}
 use Rattle.recording.specs.SplitSoundLaws.{split-sound, split-held}

@@ -16,14 +16,13 @@ use mathlib.Core.List.{List, [], _∷_, _++_}
 use lib.ListN.{length, getD, length-append, List·getD-append}
 use lib.Seq.{getD-append-add}
 use Rattle.trees.specs.Plain.{if_then_else_, keep, member, lacking}
-use Rattle.theorems.specs.ListLaws.{if-true, if-false, Mem, mem-member, keep-mem, keep-most}
+use Rattle.theorems.specs.ListLaws.{if-true, if-false, Mem, mem-member, keep-mem, keep-most, mem-getD}
 use Rattle.head.specs.HeadLaws.{upTo-length, upTo-at}
 use Rattle.layout.specs.Columns.{upTo-more}
 use Rattle.layout.specs.Store.{Parts, partsAt, masksIn, splitsHeldAt, maskAt, masksAt}
 use Rattle.layout.specs.StoreLaws.{shaped-at}
 use Rattle.layout.specs.WholeStore.{wholeAt}
 use Rattle.layout.specs.WholeFacts.{whole-at-facts}
-use Rattle.layout.specs.UpToLaws.{mem-getD}
 use Rattle.layout.specs.OrderLaws.{mem-masks}
 use Rattle.recording.specs.Recording.{masksOf, newIn, Stands, RowsOf}
 

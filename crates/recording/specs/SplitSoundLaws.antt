@@ -21,14 +21,14 @@ use Rattle.trees.specs.Mask.{proper}
 use Rattle.trees.specs.Hash.{place, identifier}
 use Rattle.trees.specs.Opening.{Opening}
 use Rattle.trees.specs.Splits.{insert}
-use Rattle.theorems.specs.ListLaws.{if-false, Mem, member-not, not-member, every-at, every-intro}
+use Rattle.theorems.specs.ListLaws.{if-false, Mem, member-not, not-member, every-at, every-intro, less-or-not, mem-getD}
 use Rattle.theorems.specs.RisingLaws.{rising-true, true-rising, insert-mem, insert-rising}
 use Rattle.layout.specs.Store.{Parts, splitsIn, treesIn, maskIn, identifierIn, countIn, linkIn, startIn, orderIn, masksIn, listIn, treeIn, heldIn}
 use Rattle.layout.specs.StoreLaws.{Shaped}
 use Rattle.layout.specs.WholeStore.{listedIn, highestIn}
 use Rattle.layout.specs.WholeFacts.{SplitsIn, ListIn, ChainsIn}
 use Rattle.layout.specs.Sound.{Sound}
-use Rattle.layout.specs.UpToLaws.{less-or-not, mem-getD, mem-at, listed-nil, listed-next}
+use Rattle.layout.specs.UpToLaws.{mem-at, listed-nil, listed-next}
 use Rattle.recording.specs.Added.{insertRow, withSplit}
 use Rattle.recording.specs.RowLaws.{map-same, row-mem, row-length, row-masks}
 

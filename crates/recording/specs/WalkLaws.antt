@@ -14,13 +14,12 @@ use mathlib.Core.List.{List}
 use lib.Dec.{eqb}
 use borrow.Author.Tests.{eqb-true, eqb-false}
 use Rattle.trees.specs.Plain.{member}
-use Rattle.theorems.specs.ListLaws.{by-test, member-not}
+use Rattle.theorems.specs.ListLaws.{by-test, member-not, less-or-not}
 use Rattle.layout.specs.Store.{Parts, partsAt, maskIn, splitsHeldAt, maskAt, masksAt, linkAt, startAt}
 use Rattle.layout.specs.StoreLaws.{shaped-at}
 use Rattle.layout.specs.WholeStore.{highestIn, highestBelow, wholeAt, placeIn}
 use Rattle.layout.specs.WholeFacts.{WholeAt, whole-at-facts}
 use Rattle.layout.specs.InsideLaws.{place-below}
-use Rattle.layout.specs.UpToLaws.{less-or-not}
 use Rattle.layout.specs.OrderLaws.{masks-mem}
 
 -- ---- the highest row of a place below n, and one more: the rows from it on are of other places, and its own is of this one
