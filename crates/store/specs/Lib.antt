@@ -3,7 +3,6 @@ pub mod RecordedAtLaws
 pub mod HeldWholeLaws
 pub mod Chain
 pub mod ChainLaws
-pub mod HeadKeptLaws
 pub mod Sums
 pub mod SumLaws
 pub mod GoodHeadLaws

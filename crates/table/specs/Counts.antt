@@ -8,9 +8,8 @@ use Rattle.head.specs.Head.{upTo}
 use Rattle.layout.specs.Store.{splitsHeldAt, countAt, orderAt}
 
 unfoldable pub splitCount : List ℕ → ℕ → ℕ
-unfolding countAt orderAt
 splitCount s k = countAt s (orderAt s k)
 
 unfoldable pub countsAt : List ℕ → List ℕ
-unfolding upTo splitCount splitsHeldAt
+unfolding upTo splitCount
 countsAt s = upTo (splitCount s) (splitsHeldAt s)

@@ -24,7 +24,7 @@ use Rattle.fields.specs.Run.{cleared}
 use Rattle.fields.specs.RunLaws.{cleared-length, cleared-outside, number-cleared-inside, number-cleared-outside}
 use Rattle.head.specs.Head.{numbersAt, openingAt, upTo, fromTo}
 use Rattle.head.specs.HeadLaws.{numbers-same, head-same, upTo-length, upTo-at}
-use Rattle.layout.specs.Store.{treesHeldAt, splitsHeldAt, laneFrom, masksFrom, placesFrom, sizeAt, laneAt, startAt, masksAt, heldAt}
+use Rattle.layout.specs.Store.{treesHeldAt, splitsHeldAt, laneFrom, masksFrom, placesFrom, sizeAt, laneAt, startAt, masksAt, heldAt, heldIn}
 use Rattle.layout.specs.StoreLaws.{lane-from, masks-from, places-from, size-is, start-is, lane-is}
 use Rattle.layout.specs.WholeStore.{wholeAt}
 use Rattle.layout.specs.WholeFacts.{SplitsAt, ListAt, CountAt, ChainsAt, facts-whole-at}
@@ -124,7 +124,7 @@ module _ (s t : List ℕ) (p : LanesEmptied s (numbersAt s .lanes) t) where
 -- ---- no splits and no trees
 
 no-masks : (t : List ℕ) → splitsHeldAt t ≡ 0 → masksAt t ≡ []
-unfolding masksAt upTo fromTo
+unfolding upTo fromTo
 no-masks t e = rw e
 
 pub no-splits : (t : List ℕ) → splitsHeldAt t ≡ 0 → SplitsAt t
@@ -192,11 +192,11 @@ module _ (s t : List ℕ) (p : Emptied s t) (long : 4096 ≤ length s) (good : g
   lane-empty l h = lane-is t l ∙ rw (lane-zero l h)
 
   emptied-trees : heldAt t .trees ≡ []
-  unfolding heldAt upTo fromTo
+  unfolding heldIn upTo fromTo
   emptied-trees = rw trees-none
 
   emptied-texts : heldAt t .texts ≡ replicate (openingAt s .numbers .lanes) (holding [])
-  unfolding heldAt openingAt
+  unfolding heldIn openingAt
   emptied-texts =
       let n = same-lanes in
       let a = upTo-length (laneAt t) (numbersAt t .lanes) in
@@ -206,7 +206,7 @@ module _ (s t : List ℕ) (p : Emptied s t) (long : 4096 ≤ length s) (good : g
       upTo-at (laneAt t) (numbersAt t .lanes) i (holding []) k ∙ lane-empty i k ∙ sym (getD-replicate (numbersAt s .lanes) i (holding []) (holding []) (omega arith)))
 
   emptied-opening : heldAt t .opening ≡ openingAt s
-  unfolding heldAt
+  unfolding heldIn
   emptied-opening = sym same-opening
 
   pub emptied-held : heldAt t ≡ opened (openingAt s)

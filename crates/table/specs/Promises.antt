@@ -15,12 +15,12 @@ use Rattle.trees.specs.Opening.{Opening, storeSize}
 use Rattle.trees.specs.Held.{Held, opened}
 use Rattle.answers.specs.declared.Finish.{Finish}
 use Rattle.answers.specs.Answers.{finishGiven}
-use Rattle.layout.specs.Store.{heldAt}
+use Rattle.layout.specs.Store.{heldAt, heldIn}
 use Rattle.layout.specs.WholeStore.{wholeAt}
 
 -- 1: "the lent collection is not whole"; every call on a collection checks it first
 unfoldable pub ifWhole : {A : Type 0} → List ℕ → (Held → Answer A) → Answer A
-unfolding wholeAt heldAt
+unfolding wholeAt heldIn
 ifWhole s f = if wholeAt s then f (heldAt s) else refused 1
 
 -- "Lent bytes past that size keep their values"
