@@ -21,7 +21,7 @@ use Rattle.trees.specs.Plain.{member}
 use Rattle.theorems.specs.ListLaws.{Mem, member-not, mem-getD, equal-or-not}
 use Rattle.theorems.specs.RisingLaws.{Rising}
 use Rattle.layout.specs.Store.{partsAt, treesHeldAt, splitsHeldAt, maskAt, countAt, listAt, treeAt}
-use Rattle.layout.specs.WholeStore.{listed, goodCount, countGood, listedIn}
+use Rattle.layout.specs.WholeStore.{listed, goodCount, countGood}
 use Rattle.layout.specs.UpToLaws.{mem-map, oneIf, one-most, listed-nil, listed-step, listed-most}
 use Rattle.store.specs.ListTests.{CountedPart, Counted}
 

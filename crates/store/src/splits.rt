@@ -11,10 +11,10 @@ ghost use Rattle.layout.specs.WholeStore.{allBelow, goodIdentifier, goodSplits,
 ghost use Rattle.layout.specs.WholeFacts.{HeadAt};
 ghost use Rattle.store.specs.Splits.{goodMask, Highest};
 ghost use Rattle.store.specs.Sums.{constantsAt, Sums};
-use answers::Split;
 use crate::lists::wide16;
 use crate::sums::fill_sums;
 use crate::sums::sum_over;
+use answers::Split;
 
 // Whether the recorded masks are proper and rise, and the stored identifiers are right.
 pub(crate) fn splits_good(s: &[u8]) -> bool

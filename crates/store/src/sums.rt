@@ -3,7 +3,6 @@
 //
 // Its contracts cite `specs/Sums.antt`.
 ghost use mathlib.Core.Path.{_≡_};
-ghost use mathlib.Core.Bool.{true};
 ghost use Prim.Native.Nat.{_+_, _*_, _≤_, _<_};
 ghost use lib.ListN.{length, getD};
 ghost use Rattle.layout.specs.WholeFacts.{HeadAt};

@@ -66,7 +66,7 @@ loop-again c =
     let r = c .before .row-in .ensures in
     let k = row-in-list s i (l .j) h (p .1 .1 .0) in
     let e : c .get64 .result ≡ getD (treeAt s i) (l .j) 0 =
-        c .get64 .ensures ∙ rw (c .before .before .before .before .before .masks-from .ensures .0, r) (sym (tree-entry s i (l .j) h ∙ mask-is s _ k)) in
+    c .get64 .ensures ∙ rw (c .before .before .before .before .before .masks-from .ensures .0, r) (sym (tree-entry s i (l .j) h ∙ mask-is s _ k)) in
     (omega arith, l .inv .1, copied-more _ _ _ (l .j) (l .inv .2) _ (omega (arith, tree-length s i)) (omega (arith, p .1 .1 .1)) e)
 
 same-length : tie.Need-same-length Inv-loop μ-loop

@@ -27,7 +27,7 @@ loop-holds : tie.Need-loop-holds Inv-loop μ-loop
 loop-holds c =
     let p = c .before .before .before .pre in
     let n : c .number16 .result ≡ length (listAt (c .before .before .before .args .s .now) (c .before .before .before .args .i)) =
-        c .number16 .ensures .0 ∙ rw (c .before .tree-from .ensures .0) (sym (list-length _ _ (p .1 .0))) in
+    c .number16 .ensures .0 ∙ rw (c .before .tree-from .ensures .0) (sym (list-length _ _ (p .1 .0))) in
     (omega arith, n, omega (arith, n, list-rows _ _ (p .1 .1 .0) .few), part-none _ _ (p .1 .0) _ (p .1 .1 .1))
 
 -- the row that is read is a split's, of which there are at most 4,096
