@@ -23,12 +23,12 @@ use Rattle.head.specs.Head.{upTo, numbersAt, openingAt}
 use Rattle.head.specs.HeadLaws.{numbers-same, head-same, upTo-same}
 use Rattle.layout.specs.Columns.{columnAt, column-same, upTo-set}
 use Rattle.layout.specs.Store.{laneFrom, treeFrom, masksFrom, identifiersFrom, countsFrom, linksFrom, orderFrom, placesFrom, Parts, listFrom, textFrom, partsAt, maskIn, heldIn, heldAt}
-use Rattle.layout.specs.StoreLaws.{lane-from, tree-from, masks-from, identifiers-from, counts-from, links-from, order-from, places-from, size-is, Shaped, shaped-at}
+use Rattle.layout.specs.StoreLaws.{lane-from, tree-from, masks-from, identifiers-from, counts-from, links-from, order-from, places-from, Shaped, shaped-at}
 use Rattle.layout.specs.KeptLaws.{Kept, number-kept, list-kept, text-kept}
 use Rattle.layout.specs.WholeStore.{highestIn, listedIn, wholeAt}
-use Rattle.layout.specs.WholeFacts.{HeadAt, WholeAt, whole-at-facts}
+use Rattle.layout.specs.WholeFacts.{WholeAt, whole-at-facts}
 use Rattle.layout.specs.InsideLaws.{ranges}
-use Rattle.layout.specs.Sound.{Sound, whole-sound, sound-whole}
+use Rattle.layout.specs.Sound.{Sound, whole-sound, parts-whole}
 use Rattle.lanes.specs.Lanes.{LaneIs}
 use Rattle.lanes.specs.LaneLaws.{lane-end, lane-fits}
 
@@ -144,29 +144,19 @@ module _ (s : List ℕ) (w : wholeAt s ≡ true) (l : ℕ) (m : l < numbersAt s 
     parts-are : partsAt t ≡ withText l n x (partsAt s)
     parts-are = rw (← e, ← f) parts-with
 
-    head-at : HeadAt t
-    head-at =
-        let h = facts .head in
-        record {
-          head-there = rw size (h .head-there);
-          opening-good = rw opening-kept (h .opening-good);
-          reached = rw (size, size-is t, numbers-kept, ← size-is s) (h .reached);
-          trees-fit = rw (parts-are, numbers-kept) (h .trees-fit);
-          splits-fit = rw (parts-are, numbers-kept) (h .splits-fit);
-        }
-
-    sound-at : Sound (openingAt t) (partsAt t)
-    unfolding openingAt
-    sound-at = rw (parts-are, opening-kept) (sound-with (openingAt s) (partsAt s) l n x (whole-sound s w) (rw (parts-are, numbers-kept) at (shaped-at t)) m fits)
-
     held-with : heldAt t ≡ withLane (heldAt s) l x
     unfolding heldIn withLane
     held-with = rw (parts-are, opening-kept)
 
+    sound-now : Sound (openingAt s) (withText l n x (partsAt s))
+    unfolding openingAt
+    sound-now = sound-with (openingAt s) (partsAt s) l n x (whole-sound s w) (rw (parts-are, numbers-kept) at (shaped-at t)) m fits
+
     pub lane-changed : LaneIs s l x t
     lane-changed =
+        let h = facts .head in
         record {
-          whole = sound-whole t head-at sound-at (rw parts-are (λ k h. facts .counts k h .some-tree));
+          whole = parts-whole s t _ h size opening-kept parts-are sound-now (h .trees-fit) (h .splits-fit) (λ k q. facts .counts k q .some-tree);
           held = held-with;
           size = size;
           outside = outside;

@@ -13,7 +13,7 @@ use mathlib.Core.List.{List, [], _++_}
 use lib.ListN.{length, getD, take, drop, length-drop, length-append}
 use lib.Seq.{length-take-le, take-length, take-add, drop-drop}
 use borrow.Author.Tests.{lt-ltb, le-ltb}
-use Rattle.trees.specs.Held.{Lane, holding, overrun, laneOf, longer, mostText}
+use Rattle.trees.specs.Held.{Lane, holding, laneOf, longer, mostText}
 use Rattle.fields.specs.Field.{number, put}
 use Rattle.fields.specs.FieldLaws.{put-length, put-outside, number-put}
 use Rattle.fields.specs.Run.{copied}

@@ -2,15 +2,17 @@
 --
 --   Sound o p                   whole under the opening o, but for counts of 0
 --   whole-sound, sound-whole    the parts of whole bytes are sound, and where they are, without counts of 0, the bytes are whole
+--   parts-whole                 so are bytes with such parts, and with the opening and the length of bytes whose head is in order
 use Prim.Native.Nat.{ℕ, _≤_, _<_}
-use mathlib.Core.Path.{_≡_}
+use mathlib.Core.Path.{_≡_, ap}
 use mathlib.Core.Bool.{true}
 use mathlib.Core.List.{List}
+use lib.ListN.{length}
 use Rattle.trees.specs.Opening.{Opening}
 use Rattle.trees.specs.Hash.{place}
-use Rattle.head.specs.Head.{openingAt}
+use Rattle.head.specs.Head.{numbersAt, openingAt}
 use Rattle.layout.specs.Store.{Parts, partsAt, splitsIn, treesIn, countIn, lengthIn}
-use Rattle.layout.specs.StoreLaws.{Shaped, shaped-at}
+use Rattle.layout.specs.StoreLaws.{size-is, Shaped, shaped-at}
 use Rattle.layout.specs.WholeStore.{listedIn, wholeAt}
 use Rattle.layout.specs.WholeFacts.{HeadAt, SplitsIn, ListIn, ChainsIn, whole-at-facts, facts-whole-at}
 
@@ -47,3 +49,23 @@ sound-whole s h f g =
       chains = f .chains;
       lanes = f .lanes;
     }
+
+-- ---- bytes with the opening of others
+
+numbers-of : (s t : List ℕ) → openingAt t ≡ openingAt s → numbersAt t ≡ numbersAt s
+unfolding openingAt
+numbers-of s t o = ap (λ (x : Opening). x .numbers) o
+
+pub parts-whole : (s t : List ℕ) (q : Parts) → HeadAt s → length t ≡ length s → openingAt t ≡ openingAt s → partsAt t ≡ q → Sound (openingAt s) q
+    → treesIn q ≤ numbersAt s .treeRoom → splitsIn q ≤ numbersAt s .splitRoom → ((k : ℕ) → k < splitsIn q → 1 ≤ countIn q k) → wholeAt t ≡ true
+parts-whole s t q h size o e f a b g =
+    let n = numbers-of s t o in
+    sound-whole t
+    record {
+      head-there = rw size (h .head-there);
+      opening-good = rw o (h .opening-good);
+      reached = rw (size, size-is t, n, ← size-is s) (h .reached);
+      trees-fit = rw (e, n) a;
+      splits-fit = rw (e, n) b;
+    }
+    (rw (o, e) f) (rw e g)

@@ -7,7 +7,7 @@
 --   emptied-whole, emptied-held      where that head is good they are whole, and hold what was opened
 use Prim.Native.Nat.{ℕ, _+_, _*_, _≤_, _<_}
 use native.Mathlib.Omega.{arith}
-use mathlib.Core.Path.{_≡_, refl, sym, ap, _∙_}
+use mathlib.Core.Path.{_≡_, refl, sym, _∙_}
 use mathlib.Core.Logic.{_⊎_, inl, inr}
 use mathlib.Core.Bool.{true}
 use mathlib.Core.List.{List, []}
@@ -15,10 +15,9 @@ use lib.ListN.{length, getD, replicate, length-replicate, getD-replicate}
 use lib.Seq.{ext-getD}
 use Rattle.theorems.specs.ListLaws.{less-or-not}
 use Rattle.trees.specs.Plain.{every}
-use Rattle.trees.specs.Opening.{Numbers, Opening}
+use Rattle.trees.specs.Opening.{Opening}
 use Rattle.trees.specs.Held.{holding, opened}
-use Rattle.trees.specs.Whole.{rising, goodOpening}
-use Rattle.theorems.specs.OpeningLaws.{good-opening}
+use Rattle.trees.specs.Whole.{rising}
 use Rattle.fields.specs.Field.{number, put}
 use Rattle.fields.specs.FieldLaws.{put-length, put-outside, number-put, number-put-outside}
 use Rattle.fields.specs.Run.{cleared}
@@ -32,7 +31,8 @@ use Rattle.table.specs.Emptied.{LanesEmptied, Emptied, emptyParts}
 use Rattle.layout.specs.Columns.{columnAt}
 use Rattle.layout.specs.KeptLaws.{number-kept}
 use Rattle.layout.specs.WholeFacts.{HeadAt}
-use Rattle.layout.specs.Sound.{Sound, sound-whole}
+use Rattle.layout.specs.Sound.{Sound, parts-whole}
+use Rattle.layout.specs.InsideLaws.{ranges}
 
 -- ---- lanes emptied one after another
 
@@ -115,11 +115,9 @@ upTo-replicate f n x h =
     let b : i < n = omega (arith, upTo-length f n) in
     upTo-at f n i x b ∙ h i b ∙ sym (getD-replicate n i x x b))
 
-module _ (s t : List ℕ) (p : Emptied s t) (long : 4096 ≤ length s) (good : goodOpening (openingAt s) ≡ true) (reach : sizeAt s ≤ length s)
-    (trees : number 2 s 10 ≡ 0) (splits : number 2 s 12 ≡ 0) (bytes : (i : ℕ) → getD s i 0 < 256) where
+module _ (s t : List ℕ) (p : Emptied s t) (h : HeadAt s) (trees : number 2 s 10 ≡ 0) (splits : number 2 s 12 ≡ 0) (bytes : (i : ℕ) → getD s i 0 < 256) where
   same-opening : openingAt t ≡ openingAt s
-  unfolding openingAt
-  same-opening = sym (head-same s t (p .head) long (omega (arith, p .size)) bytes (good-opening (openingAt s) good .ranges .most-taxa))
+  same-opening = sym (head-same s t (p .head) (h .head-there) (omega (arith, h .head-there, p .size)) bytes (ranges s h .most-taxa))
 
   same-numbers : numbersAt t ≡ numbersAt s
   same-numbers = sym (numbers-same s t (p .head))
@@ -162,22 +160,11 @@ module _ (s t : List ℕ) (p : Emptied s t) (long : 4096 ≤ length s) (good : g
         texts = no-texts i;
       }
 
-  head-at : HeadAt t
-  head-at =
-      record {
-        head-there = rw (p .size) long;
-        opening-good = rw same-opening good;
-        reached = rw (p .size, size-is t, same-numbers, ← size-is s) reach;
-        trees-fit = rw emptied-parts (omega arith);
-        splits-fit = rw emptied-parts (omega arith);
-      }
-
-  emptied-sound : Sound (openingAt t) (partsAt t)
-  unfolding openingAt
-  emptied-sound = rw (emptied-parts, same-opening) (empty-sound (openingAt s) (rw (emptied-parts, same-numbers) at (shaped-at t)))
-
   pub emptied-whole : wholeAt t ≡ true
-  emptied-whole = sound-whole t head-at emptied-sound (rw emptied-parts (λ k h. absurd (omega arith)))
+  unfolding openingAt
+  emptied-whole =
+      let a = empty-sound (openingAt s) (rw (emptied-parts, same-numbers) at (shaped-at t)) in
+      parts-whole s t (emptyParts (numbersAt s)) h (p .size) same-opening emptied-parts a (omega arith) (omega arith) (λ k q. absurd (omega arith))
 
   pub emptied-held : heldAt t ≡ opened (openingAt s)
   unfolding heldIn opened openingAt

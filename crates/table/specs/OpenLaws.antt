@@ -32,6 +32,8 @@ use Rattle.opening.specs.GivenLaws.{size-least}
 use Rattle.layout.specs.Store.{sizeAt}
 use Rattle.store.specs.Lent.{Holds}
 use Rattle.table.specs.Promises.{OpenedAs}
+use Rattle.layout.specs.StoreLaws.{trees-held-is, splits-held-is}
+use Rattle.layout.specs.WholeFacts.{HeadAt}
 use Rattle.table.specs.Emptied.{Emptied}
 use Rattle.table.specs.EmptiedLaws.{emptied-whole, emptied-held}
 
@@ -99,6 +101,16 @@ module _ (s t : List ℕ) (o : Opening) (e : openingAt t ≡ o) (n : length t �
   pub lent-rest : sizeAt t ≤ length t
   lent-rest = omega (arith, head-size)
 
+  head-good : goodOpening o ≡ true → number 2 t 10 ≡ 0 → number 2 t 12 ≡ 0 → HeadAt t
+  head-good g a b =
+      record {
+        head-there = omega (arith, size-least (o .numbers));
+        opening-good = rw e g;
+        reached = lent-rest;
+        trees-fit = omega (arith, trees-held-is t);
+        splits-fit = omega (arith, splits-held-is t);
+      }
+
   module _ (z : drop 4096 t ≡ drop 4096 s) where
     past-head : (i : ℕ) → 4096 ≤ i → getD t i 0 ≡ getD s i 0
     past-head i h =
@@ -109,11 +121,10 @@ module _ (s t : List ℕ) (o : Opening) (e : openingAt t ≡ o) (n : length t �
     unfolding opened
     head-then-rest u g a b c p =
         let l = size-least (o .numbers) in
-        let w = lent-head (o .numbers) (length t) (omega arith) in
-        let v : goodOpening (openingAt t) ≡ true = rw e g in
+        let h = head-good g a b in
         record {
-          whole = emptied-whole t u p w v lent-rest a b c;
-          held = emptied-held t u p w v lent-rest a b c ∙ ap opened e;
+          whole = emptied-whole t u p h a b c;
+          held = emptied-held t u p h a b c ∙ ap opened e;
           size = p .size ∙ n;
           behind = λ i h. p .behind i (omega (arith, head-size)) ∙ past-head i (omega arith);
         }
