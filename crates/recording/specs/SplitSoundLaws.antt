@@ -38,7 +38,8 @@ one-more : (l : List ℕ) (x : ℕ) → length (l ++ x ∷ []) ≡ suc (length l
 one-more l x = length-append l (x ∷ []) ∙ add-one (length l)
 
 -- what holds of each row and its value, and of row n and the new value, holds of all
-each-row : (l : List ℕ) (x n : ℕ) → length l ≡ n → (P : ℕ → ℕ → Type 0) → ((j : ℕ) → j < n → P j (getD l j 0)) → P n x → (j : ℕ) → j < suc n → P j (getD (l ++ x ∷ []) j 0)
+each-row : (l : List ℕ) (x n : ℕ) → length l ≡ n → (P : ℕ → ℕ → Type 0) → ((j : ℕ) → j < n → P j (getD l j 0)) → P n x
+    → (j : ℕ) → j < suc n → P j (getD (l ++ x ∷ []) j 0)
 each-row l x n e P f g j h = go (less-or-not j n)
   where
     go : (j < n) ⊎ (n ≤ j) → P j (getD (l ++ x ∷ []) j 0)
