@@ -5,11 +5,11 @@
 ghost use mathlib.Core.Path.{_≡_};
 ghost use mathlib.Core.Bool.{true};
 ghost use mathlib.Core.List.{_++_};
-ghost use Prim.Native.Nat.{_≤_, _<_};
+ghost use Prim.Native.Nat.{_≤_};
 ghost use lib.ListN.{length, drop};
 ghost use Rattle.answers.specs.Answers.{numberGiven, splitGiven};
 ghost use Rattle.answers.specs.Filled.{lengthGiven, front};
-ghost use Rattle.layout.specs.Store.{treesHeldAt, splitsHeldAt, masksAt, treeAt};
+ghost use Rattle.layout.specs.Store.{splitsHeldAt, masksAt};
 ghost use Rattle.layout.specs.WholeStore.{wholeAt};
 ghost use Rattle.store.specs.Counts.{countsAt};
 ghost use Rattle.table.specs.Asked.{treesAsked, splitsAsked, splitAsked, splitListAsked, treeAsked, masksOf, countsOf};
@@ -90,7 +90,7 @@ pub fn tree_splits(s: &[u8], i: Tree, masks: &mut [u64]) -> Number
     if masks.len() < n {
         return Number::Refused(Refusal::TooShort);
     }
-    copy_tree(s, i.0, masks);
+    rows::copy_tree(s, Tree(i.0), masks);
     Number::Gives(n)
 }
 
@@ -109,21 +109,5 @@ fn copy_splits(s: &[u8], masks: &mut [u64], counts: &mut [u32])
         masks[k] = rows::mask_at(s, row);
         counts[k] = rows::count_at(s, row) as u32;
         k += 1;
-    }
-}
-
-// Copies the splits of tree i to the front of the buffer.
-fn copy_tree(s: &[u8], i: usize, masks: &mut [u64])
-    requires { ⌜ wholeAt (now s) ≡ true ⌝ }
-    requires { ⌜ i < treesHeldAt (now s) ⌝ }
-    requires { ⌜ length (treeAt (now s) i) ≤ length (now masks) ⌝ }
-    ensures { λ r. ⌜ now (masks .exit) ≡ treeAt (now (s .entry)) i ++ drop (length (treeAt (now (s .entry)) i)) (now (masks .entry)) ⌝ }
-{
-    let n = rows::splits_in(s, Tree(i));
-    let mut j = 0;
-    while j < n {
-        let row = rows::row_in(s, Tree(i), j);
-        masks[j] = rows::mask_at(s, row);
-        j += 1;
     }
 }
