@@ -13,7 +13,6 @@ use Rattle.trees.specs.Questions.{ifRoom, tree, treesHeld, splitsHeld, splitNum
 use Rattle.answers.specs.declared.Refusal.the-variants as why
 use Rattle.answers.specs.Answers.{refusalNumber, refusing}
 use Rattle.layout.specs.Store.{treesHeldAt, splitsHeldAt, maskAt, countAt, orderAt, splitAt, treeAt}
-use Rattle.layout.specs.StoreLaws.{split-is}
 use Rattle.layout.specs.WholeStore.{wholeAt}
 use Rattle.store.specs.RecordedAtLaws.{trees-length, tree-at, recorded-length, recorded-mask}
 use Rattle.store.specs.LentLaws.{when-whole, asked-missing, asked-there}
@@ -37,7 +36,7 @@ module _ (s : List ℕ) (w : wholeAt s ≡ true) where
   pub split-found : (k row m c : ℕ) → k < splitsHeldAt s → row ≡ orderAt s k → m ≡ maskAt s row → c ≡ countAt s row → splitAsked s k ≡ gives (m, c)
   unfolding splitNumber
   split-found k row m c h r p q =
-      let x : splitAt s k ≡ m = split-is s k ∙ sym (p ∙ ap (maskAt s) r) in
+      let x : splitAt s k ≡ m = sym (p ∙ ap (maskAt s) r) in
       when-whole s (λ z. splitNumber z k) w
       ∙ rw (recorded-length s w, lt-ltb k (splitsHeldAt s) h, recorded-mask s w k h, split-count s w k h, x, ← row-count s k row c r q)
 

@@ -20,7 +20,8 @@ use Rattle.answers.specs.declared.Number.{Number}
 use Rattle.answers.specs.declared.Number.the-variants as number
 use Rattle.answers.specs.Answers.{refusalNumber, refusing, numberGiven}
 use Rattle.answers.specs.Filled.{lengthGiven, front}
-use Rattle.layout.specs.Store.{splitsHeldAt, masksAt}
+use Rattle.layout.specs.Store.{partsAt, splitsHeldAt, masksAt}
+use Rattle.layout.specs.StoreLaws.{shaped-at}
 use Rattle.layout.specs.WholeStore.{wholeAt}
 use Rattle.layout.specs.OrderLaws.{masks-length}
 use Rattle.store.specs.RecordedAtLaws.{recorded-at, recorded-length}
@@ -61,4 +62,4 @@ module _ (s masks counts : List ℕ) (w : wholeAt s ≡ true) where
       → ListedAs asked (number.Gives n) masks counts m c
   unfolding numberGiven lengthGiven masksOf countsOf front
   list-given n m c e a b p q =
-      rw (list-found, ← e, le-ltb (length masks) n a, le-ltb (length counts) n b, masks-length s, counts-length s, ← e) (refl, (rw e p, rw e q))
+      rw (list-found, ← e, le-ltb (length masks) n a, le-ltb (length counts) n b, masks-length (partsAt s) (shaped-at s .order), counts-length s, ← e) (refl, (rw e p, rw e q))

@@ -1,7 +1,7 @@
 // The questions that a collection answers of itself: its trees and splits, how many there are, and
 // the lists of them. None of them writes into the store.
 //
-// `specs/Asked.antt` says what each answers; crate rows, `specs/Counts.antt`, has the list of the counts.
+// `specs/Asked.antt` says what each answers; crate store, `specs/Counts.antt`, has the list of the counts.
 ghost use mathlib.Core.Path.{_≡_};
 ghost use mathlib.Core.Bool.{true};
 ghost use mathlib.Core.List.{_++_};

@@ -39,7 +39,7 @@ returns-4 c =
     let w = passed _ _ (d .before .before .before .before .before .is-whole .ensures) (d .before .before .before .before .if1 .left) in
     let a = c .before .before .before .before .before .before .before .before .before .before .before .before .before .args in
     let n = tree-length (a .s .now) (a .i .0) in
-    filled-given _ _ _ (tree-found _ w _ _ (omega arith)) _ _ (d .splits-in .ensures ∙ sym n) (omega arith) (rw n (c .before .before .copy-tree .ensures))
+    filled-given _ (a .masks .now) _ (tree-found (a .s .now) w (a .i .0) _ (omega arith)) (d .splits-in .result) _ (d .splits-in .ensures ∙ sym n) (omega arith) (rw n (c .before .before .copy-tree .ensures))
 
 pub tree-splits-spec : {M : Type 1} → statement M
 tree-splits-spec =
