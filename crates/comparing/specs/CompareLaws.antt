@@ -28,7 +28,8 @@ use Rattle.layout.specs.WholeStore.{wholeAt}
 use Rattle.store.specs.RecordedAtLaws.{trees-length, tree-at, recorded-at}
 use Rattle.store.specs.Lent.{ifWhole}
 use Rattle.store.specs.LentLaws.{when-whole, tree-missing, tree-there, asked-missing, asked-there}
-use Rattle.distances.specs.WholeTreeLaws.{trees-few}
+use Rattle.layout.specs.WholeFacts.{whole-at-facts}
+use Rattle.layout.specs.InsideLaws.{trees-few}
 use Rattle.distances.specs.EntryLaws.{square-few}
 use Rattle.comparing.specs.Asked.{oneSidedAsked, doubledAsked, matrixAsked, collisionsAsked}
 
@@ -69,7 +70,7 @@ pub square-of : (n m : ℕ) → n ≡ m → n * n ≡ m * m
 square-of n m e = ap (λ (x : ℕ). x * x) e
 
 pub entries-few : (s : List ℕ) → wholeAt s ≡ true → treesHeldAt s * treesHeldAt s ≤ 1048576
-entries-few s w = square-few (treesHeldAt s) (trees-few s w)
+entries-few s w = square-few (treesHeldAt s) (trees-few s (whole-at-facts s w .head))
 
 module _ (s out : List ℕ) (w : wholeAt s ≡ true) where
   entries : length (matrix (heldAt s .trees)) ≡ treesHeldAt s * treesHeldAt s
