@@ -6,8 +6,8 @@
 // `specs/LaneLaws.antt` and `specs/ClosingLaws.antt`.
 use answers::Finish;
 use answers::Lane;
-use layout::lane_from;
 use answers::Refusal;
+use layout::lane_from;
 ghost use mathlib.Core.Path.{_≡_};
 ghost use mathlib.Core.Bool.{true};
 ghost use mathlib.Core.List.{[]};

@@ -52,18 +52,20 @@ blankTests b = if ltb b 64 then inSet 4294977024 b else false
 
 pub blank-tests : (t : Bool) (b : ℕ) → b < 256 → blankTests b ≡ t → (t ≡ isBlank b) × (t ≡ isKind 0 b)
 unfolding kind isBlank
-blank-tests t b h e =
-    (sym e ∙ same-true (blankTests b) (isBlank b) (at (λ k. same (blankTests k) (isBlank k)) 256 refl b h),
-     sym e ∙ same-true (blankTests b) (isKind 0 b) (at (λ k. same (blankTests k) (isKind 0 k)) 256 refl b h))
+blank-tests t b h e = (
+  sym e ∙ same-true (blankTests b) (isBlank b) (at (λ k. same (blankTests k) (isBlank k)) 256 refl b h),
+  sym e ∙ same-true (blankTests b) (isKind 0 b) (at (λ k. same (blankTests k) (isKind 0 k)) 256 refl b h),
+)
 
 abbrev labelTests : ℕ → Bool
 labelTests b = if ltb b 64 then inSet 17582031496187740160 b else if ltb b 128 then inSet 9223372036183687167 (b - 64) else false
 
 pub label-tests : (t : Bool) (b : ℕ) → b < 256 → labelTests b ≡ t → (t ≡ isLabelByte b) × (t ≡ isKind 1 b)
 unfolding kind isLabelByte
-label-tests t b h e =
-    (sym e ∙ same-true (labelTests b) (isLabelByte b) (at (λ k. same (labelTests k) (isLabelByte k)) 256 refl b h),
-     sym e ∙ same-true (labelTests b) (isKind 1 b) (at (λ k. same (labelTests k) (isKind 1 k)) 256 refl b h))
+label-tests t b h e = (
+  sym e ∙ same-true (labelTests b) (isLabelByte b) (at (λ k. same (labelTests k) (isLabelByte k)) 256 refl b h),
+  sym e ∙ same-true (labelTests b) (isKind 1 b) (at (λ k. same (labelTests k) (isKind 1 k)) 256 refl b h),
+)
 
 abbrev kindTests : ℕ → ℕ
 kindTests b =
