@@ -4,12 +4,15 @@
 --   consensusBy g                        the question for the tree of the splits that g chooses
 --   strict-by, majority-by               both consensus trees are such questions
 --   no-consensus, consensus-given        their returns: 14, or what is given of the tree of those splits
+--   tree-copied, copied-there            a tree's masks at the front of a list, as many as the tree lists
 --   accepted-missing, accepted-given     an accepted tree: 13, or what is given of the tree of its splits
 use Prim.Native.Nat.{ℕ, _≤_, _<_}
 use mathlib.Core.Path.{_≡_, refl, _∙_}
 use mathlib.Core.Bool.{true}
-use mathlib.Core.List.{List}
-use lib.ListN.{length}
+use mathlib.Core.List.{List, _++_}
+use native.Mathlib.Omega.{arith}
+use lib.ListN.{length, take, drop, length-append}
+use lib.Seq.{take-append-seam}
 use Rattle.trees.specs.Plain.{Answer}
 use Rattle.trees.specs.Held.{Held}
 use Rattle.trees.specs.Consensus.{strict, majority}
@@ -22,8 +25,9 @@ use Rattle.answers.specs.Answers.{refusing}
 use Rattle.answers.specs.Filled.{FilledAs}
 use Rattle.answers.specs.AnswerLaws.{filled-refused, filled-short, filled-given, filled-as}
 use Rattle.head.specs.Head.{namesAt, openingAt}
-use Rattle.layout.specs.Store.{treesHeldAt, treeAt, heldAt, heldIn}
+use Rattle.layout.specs.Store.{treesHeldAt, listAt, treeAt, heldAt, heldIn}
 use Rattle.layout.specs.WholeStore.{wholeAt}
+use Rattle.rows.specs.ReadLaws.{tree-length}
 use Rattle.store.specs.RecordedAtLaws.{tree-at}
 use Rattle.store.specs.Lent.{ifWhole}
 use Rattle.store.specs.LentLaws.{asked-missing, asked-there, asked-none, asked-some}
@@ -74,6 +78,13 @@ module _ (g : List (List ℕ) → List ℕ) (s out : List ℕ) (w : wholeAt s �
   consensus-given z l e r m f = filled-as x out _ (is ∙ asked-some s w text z ∙ text-held s _ _) r m (rw (← e) f)
 
 -- ---- an accepted tree
+
+module _ (s : List ℕ) (i n : ℕ) (l before : List ℕ) (e : n ≡ length (listAt s i)) (q : l ≡ treeAt s i ++ drop (length (listAt s i)) before) where
+  pub tree-copied : take n l ≡ treeAt s i
+  tree-copied = rw (q, e, ← tree-length s i) (take-append-seam (treeAt s i) _)
+
+  pub copied-there : n ≤ length l
+  copied-there = rw q (omega (arith, e, tree-length s i, length-append (treeAt s i) (drop (length (listAt s i)) before)))
 
 module _ (s out : List ℕ) (w : wholeAt s ≡ true) (i : ℕ) where
   abbrev one : Held → Answer (List ℕ)

@@ -1,5 +1,6 @@
 -- Laws of the loop that chooses splits, a split at a time. Assumes nothing.
 --
+--   read-below                        the row of a split is one of the rows
 --   choose-start, choose-end          before the first split, and behind the last
 --   choose-takes, choose-leaves       split k is in enough trees, or not
 --   choose-room                       and where it is, the list has a place for it
@@ -14,10 +15,11 @@ use lib.Seq.{length-take-le, take-suc-set, append-snoc, drop-cons}
 use borrow.Author.Tests.{le-leb, lt-leb}
 use Rattle.trees.specs.Plain.{keep}
 use Rattle.trees.specs.Consensus.{count}
-use Rattle.layout.specs.Store.{splitsHeldAt, maskAt, masksAt, heldAt}
-use Rattle.layout.specs.StoreLaws.{split-is}
+use Rattle.layout.specs.Store.{partsAt, splitsHeldAt, maskAt, orderAt, masksAt, heldAt}
+use Rattle.layout.specs.StoreLaws.{shaped-at}
 use Rattle.layout.specs.WholeStore.{wholeAt}
 use Rattle.layout.specs.OrderLaws.{masks-length, number-mask}
+use Rattle.rows.specs.ReadLaws.{row-below}
 use Rattle.store.specs.RecordedAtLaws.{count-at, recorded-at}
 use Rattle.consensus.specs.Chosen.{inEnough, chosen, chosenFrom, Chose, ReadSplit}
 
@@ -42,23 +44,26 @@ module _ (p : ℕ → Bool) (l : List ℕ) (k : ℕ) (h : k < length l) where
   keep-leaves e = rw (add-one k, drop-cons l k 0 h, e)
 
 module _ (s : List ℕ) (w : wholeAt s ≡ true) where
+  pub read-below : {k row : ℕ} → k < splitsHeldAt s → row ≡ orderAt s k → row < splitsHeldAt s
+  read-below {k} h e = rw e (row-below s w k h)
+
   from-start : (least : ℕ) → chosenFrom least s 0 ≡ chosen least (heldAt s .trees)
   unfolding chosen chosenFrom
   from-start least = sym (ap (keep (inEnough least (heldAt s .trees))) (recorded-at s w))
 
   from-end : (least k : ℕ) → splitsHeldAt s ≤ k → chosenFrom least s k ≡ []
   unfolding chosenFrom keep
-  from-end least k h = rw (drop-of-length-le (masksAt s) {i = k} (omega (arith, masks-length s)))
+  from-end least k h = rw (drop-of-length-le (masksAt s) {i = k} (omega (arith, masks-length (partsAt s) (shaped-at s .order))))
 
   module _ {k row c : ℕ} (r : ReadSplit s k row c) where
     at-k : k < length (masksAt s)
-    at-k = omega (arith, masks-length s, r .held)
+    at-k = omega (arith, masks-length (partsAt s) (shaped-at s .order), r .held)
 
     mask-is : getD (masksAt s) k 0 ≡ maskAt s row
-    mask-is = number-mask s k (r .held) ∙ split-is s k ∙ ap (maskAt s) (sym (r .row-is))
+    mask-is = number-mask (partsAt s) (shaped-at s .order) k (r .held) ∙ ap (maskAt s) (sym (r .row-is))
 
     in-trees : count (heldAt s .trees) (getD (masksAt s) k 0) ≡ c
-    in-trees = rw mask-is (count-at s w row (r .row-below)) ∙ sym (r .count-is)
+    in-trees = rw mask-is (count-at s w row (read-below (r .held) (r .row-is))) ∙ sym (r .count-is)
 
     from-takes : (least : ℕ) → least ≤ c → chosenFrom least s k ≡ maskAt s row ∷ chosenFrom least s (k + 1)
     unfolding chosenFrom inEnough

@@ -33,5 +33,4 @@ pub record Chose (least : ℕ) (s l : List ℕ) (n k : ℕ) : Type 0 where
 pub record ReadSplit (s : List ℕ) (k row c : ℕ) : Type 0 where
   pub held : k < splitsHeldAt s
   pub row-is : row ≡ orderAt s k
-  pub row-below : row < splitsHeldAt s
   pub count-is : c ≡ countAt s row

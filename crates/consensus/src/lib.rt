@@ -64,7 +64,8 @@ pub fn write_accepted(s: &[u8], i: Tree, out: &mut [u8]) -> Number
         return Number::Refused(Refusal::NoSuchNumber);
     }
     let mut list = [0; 64];
-    let n = lists::copy_tree(s, i.0, &mut list);
+    rows::copy_tree(s, Tree(i.0), &mut list);
+    let n = rows::splits_in(s, Tree(i.0));
     write_list(s, &list, n, out)
 }
 

@@ -4,9 +4,10 @@ use mathlib.Core.Path.{_≡_, _∙_}
 use mathlib.Core.Logic.{⊎-elim}
 use native.Mathlib.Omega.{arith}
 use lib.ListN.{length, length-set}
+use Rattle.layout.specs.WholeFacts.{whole-at-facts}
 use Rattle.rows.specs.ReadLaws.{long}
 use Rattle.consensus.specs.Chosen.{Chose, ReadSplit}
-use Rattle.consensus.specs.ChooseLaws.{choose-start, choose-end, choose-takes, choose-leaves, choose-room}
+use Rattle.consensus.specs.ChooseLaws.{read-below, choose-start, choose-end, choose-takes, choose-leaves, choose-room}
 use Rattle.consensus.proofs.lists.choose.Statement.{statement}
 use Rattle.consensus.proofs.lists.choose.Tie as tie
 
@@ -19,13 +20,18 @@ abbrev μ-loop : tie.MeasureT-loop
 loop-holds : tie.Need-loop-holds Inv-loop μ-loop
 loop-holds c = let p = c .before .before .pre in (omega arith, omega arith, p .1 .0, choose-start _ (p .0) _ _)
 
+mask-at-requires : tie.Need-mask-at-requires Inv-loop μ-loop
+mask-at-requires c κs =
+    let w = c .before .before .before .before .before .before .before .pre .0 in
+    (whole-at-facts _ w .head, read-below _ w (omega arith) (c .before .before .row-of .ensures))
+
 place-left : tie.Need-element-write-list Inv-loop μ-loop
 place-left c =
     let b = c .before .before .before .before .before .before .before .before in
     let l = c .before .before .before .before .before .loop in
     let o = c .before .before .before .row-of .ensures in
     let r : ReadSplit (b .args .s .now) (l .k) _ _ =
-    record { held = omega arith; row-is = o .0; row-below = o .1; count-is = c .before .before .count-at .ensures } in
+    record { held = omega arith; row-is = o; count-is = c .before .before .count-at .ensures } in
     omega (arith, choose-room _ (b .pre .0) (l .inv .3) r (omega (arith, c .before .if1 .taken)) (omega arith) (omega arith))
 
 loop-again : tie.Need-loop-again Inv-loop μ-loop
@@ -34,7 +40,7 @@ loop-again c =
     let l = c .before .before .before .before .loop in
     let o = c .before .before .row-of .ensures in
     let r : ReadSplit (b .args .s .now) (l .k) _ _ =
-    record { held = omega arith; row-is = o .0; row-below = o .1; count-is = c .before .count-at .ensures } in
+    record { held = omega arith; row-is = o; count-is = c .before .count-at .ensures } in
     ⊎-elim
     (λ w.
     let e : b .args .least ≤ c .before .count-at .result = omega (arith, w .0 .taken) in
@@ -55,9 +61,9 @@ choose-spec =
     μ-loop
     (λ c κs. long _ (c .before .pre .0))
     loop-holds
-    (λ c κs. (c .before .before .before .before .pre .0, omega arith))
-    (λ c κs. (c .before .before .before .before .before .pre .0, c .row-of .ensures .1))
-    (λ c κs. (c .before .before .before .before .before .before .before .pre .0, c .before .before .row-of .ensures .1))
+    (λ c κs. (whole-at-facts _ (c .before .before .before .before .pre .0) .head, omega arith))
+    (λ c κs. let w = c .before .before .before .before .before .pre .0 in (whole-at-facts _ w .head, read-below _ w (omega arith) (c .row-of .ensures)))
+    mask-at-requires
     (λ c. omega arith)
     place-left
     (λ c. omega arith)
