@@ -40,10 +40,9 @@ use Rattle.answers.specs.Filled.{lengthGiven, front}
 use Rattle.head.specs.Head.{fromTo, upTo, numbersAt, namesAt, openingAt}
 use Rattle.head.specs.HeadLaws.{upTo-length}
 use Rattle.layout.specs.Store.{treesHeldAt, splitsHeldAt, maskAt, countAt, orderAt, splitAt, treeAt, heldAt, heldIn}
-use Rattle.layout.specs.StoreLaws.{split-is}
 use Rattle.layout.specs.WholeStore.{wholeAt}
 use Rattle.layout.specs.WholeFacts.{whole-at-facts}
-use Rattle.layout.specs.UpToLaws.{upTo-more}
+use Rattle.layout.specs.Columns.{upTo-more}
 use Rattle.store.specs.RecordedAtLaws.{held-trees, trees-length, recorded-length}
 use Rattle.store.specs.HeldWholeLaws.{held-numbers, opening-facts}
 use Rattle.store.specs.LentLaws.{when-whole}
@@ -104,7 +103,7 @@ module _ (s : List ℕ) (w : wholeAt s ≡ true) where
       → {l i j after : List ℕ} {a b z : ℕ} → Put l 0 (digitsOf mask) i a → Put i a (32 ∷ digitsOf n) j b → Put j b (10 ∷ []) after z
       → Put l 0 (splitLine (heldAt s) (splitAt s k)) after z
   split-put k row mask n h e f g p q t =
-      let m : mask ≡ splitAt s k = f ∙ ap (maskAt s) e ∙ sym (split-is s k) in
+      let m : mask ≡ splitAt s k = f ∙ ap (maskAt s) e in
       let c : n ≡ count (heldAt s .trees) (splitAt s k) = row-count s k row n e g ∙ sym (split-count s w k h) in
       put-as (split-text (digitsOf mask) (digitsOf n) ∙ rw (m, c) (split-is-line (heldAt s) (splitAt s k))) (put-then p (put-then q t))
 

@@ -32,10 +32,10 @@ use Rattle.head.specs.Head.{numbersAt, namesAt, openingAt}
 use Rattle.layout.specs.Store.{heldAt, heldIn}
 use Rattle.layout.specs.WholeStore.{wholeAt}
 use Rattle.layout.specs.WholeFacts.{whole-at-facts}
+use Rattle.layout.specs.InsideLaws.{trees-few}
 use Rattle.store.specs.RecordedAtLaws.{trees-length, recorded-length}
 use Rattle.store.specs.HeldWholeLaws.{held-numbers, opening-facts}
 use Rattle.distances.specs.LackLaws.{oneSided-most}
-use Rattle.distances.specs.WholeTreeLaws.{trees-few}
 use Rattle.consensus.specs.FewLaws.{tree-few, trees-good}
 use Rattle.sheet.specs.Sheet.{digitsFrom, digitsOf, spaced, fields, lineOf, countsLine, splitLine, rowLine, treeLine, majorityLine, strictLine, sheetLines}
 
@@ -108,7 +108,7 @@ module _ (s : List ℕ) (w : wholeAt s ≡ true) where
   taxa-most = rw (held-numbers s) taxa-few
 
   trees-most : length (h .trees) ≤ 1024
-  trees-most = omega (arith, trees-length s, trees-few s w)
+  trees-most = omega (arith, trees-length s, trees-few s (whole-at-facts s w .head))
 
   splits-most : length (recorded (h .trees)) ≤ 4096
   unfolding openingAt

@@ -5,9 +5,10 @@ use lib.ListN.{replicate, length-replicate}
 use borrow.Author.Needs.{needs}
 use Rattle.answers.specs.AnswerLaws.{filled-refused}
 use Rattle.opening.specs.GivenLaws.{failed, passed}
+use Rattle.layout.specs.WholeFacts.{whole-at-facts}
+use Rattle.layout.specs.InsideLaws.{trees-few}
 use Rattle.store.specs.LentLaws.{not-whole}
 use Rattle.rows.specs.ReadLaws.{long}
-use Rattle.distances.specs.WholeTreeLaws.{trees-few}
 use Rattle.sheet.specs.AskedLaws.{put-taken, line-missing, line-given}
 use Rattle.sheet.proofs.line.Statement.{statement}
 use Rattle.sheet.proofs.line.Tie as tie
@@ -15,12 +16,12 @@ use Rattle.sheet.proofs.line.Tie as tie
 add-lines : tie.Need-add-lines
 add-lines c =
     let w = passed _ _ (c .before .before .before .is-whole .ensures) (c .before .before .if1 .left) in
-    omega (arith, c .before .splits-held .ensures .1, c .trees-held .ensures, trees-few _ w)
+    omega (arith, c .before .splits-held .ensures .1, c .trees-held .ensures, trees-few _ (whole-at-facts _ w .head))
 
 add-lines-2 : tie.Need-add-lines-2
 add-lines-2 c =
     let w = passed _ _ (c .before .before .before .is-whole .ensures) (c .before .before .if1 .left) in
-    omega (arith, c .before .splits-held .ensures .1, c .trees-held .ensures, trees-few _ w)
+    omega (arith, c .before .splits-held .ensures .1, c .trees-held .ensures, trees-few _ (whole-at-facts _ w .head))
 
 returns-2 : tie.Need-returns-2
 returns-2 c =

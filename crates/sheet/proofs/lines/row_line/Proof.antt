@@ -5,8 +5,9 @@ use native.Mathlib.Omega.{arith}
 use lib.ListN.{length}
 use borrow.Author.Needs.{needs}
 use Rattle.layout.specs.Store.{treesHeldAt}
+use Rattle.layout.specs.WholeFacts.{whole-at-facts}
+use Rattle.layout.specs.InsideLaws.{trees-few}
 use Rattle.rows.specs.ReadLaws.{long}
-use Rattle.distances.specs.WholeTreeLaws.{trees-few}
 use Rattle.writer.specs.Branch.{Put}
 use Rattle.sheet.specs.LineLaws.{cell, rest, row-none, row-more, row-put}
 use Rattle.sheet.proofs.lines.row_line.Statement.{statement}
@@ -29,13 +30,13 @@ put-counted-requires : tie.Need-put-counted-requires Inv-loop μ-loop
 put-counted-requires c κs =
     let l = c .before .before .before .before .loop in
     let w = c .before .before .before .before .before .before .before .before .before .before .before .before .before .pre in
-    omega (arith, l .inv .2, l .inv .3, l .inv .4, trees-few _ (w .0))
+    omega (arith, l .inv .2, l .inv .3, l .inv .4, trees-few _ (whole-at-facts _ (w .0) .head))
 
 put-end-requires : tie.Need-put-end-requires Inv-loop μ-loop
 put-end-requires c κs =
     let l = c .before .before .loop in
     let w = c .before .before .before .before .before .before .before .before .before .before .before .pre in
-    omega (arith, l .inv .2, l .inv .3, l .inv .4, trees-few _ (w .0))
+    omega (arith, l .inv .2, l .inv .3, l .inv .4, trees-few _ (whole-at-facts _ (w .0) .head))
 
 loop-again : tie.Need-loop-again Inv-loop μ-loop
 loop-again c =
@@ -52,7 +53,7 @@ returns c =
     let p = c .before .before .before .before .before .before .before .before .put-number .ensures in
     let w = c .before .before .before .before .before .before .before .before .before .before .before .before .before .before .pre in
     let n : l .j ≡ treesHeldAt (c .before .before .before .before .before .before .before .before .before .before .before .before .before .before .args .s .now) = omega (arith, l .inv .2, l .inv .3) in
-    (row-put _ _ _ _ n (l .inv .1) (c .before .before .before .before .before .before .before .before .before .before .doubled .ensures) (p .0) (l .inv .5) e, omega (arith, n, trees-few _ (w .0), l .inv .4, e .ends))
+    (row-put _ _ _ _ n (l .inv .1) (c .before .before .before .before .before .before .before .before .before .before .doubled .ensures) (p .0) (l .inv .5) e, omega (arith, n, trees-few _ (whole-at-facts _ (w .0) .head), l .inv .4, e .ends))
 
 pub row-line-spec : {M : Type 1} → statement M
 row-line-spec =

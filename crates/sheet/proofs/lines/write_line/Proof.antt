@@ -1,8 +1,9 @@
 -- `sheet::lines::write_line` meets its contract: each line has its number. Assumes nothing.
 use native.Mathlib.Omega.{arith}
 use borrow.Author.Needs.{needs}
+use Rattle.layout.specs.WholeFacts.{whole-at-facts}
+use Rattle.layout.specs.InsideLaws.{trees-few}
 use Rattle.rows.specs.ReadLaws.{long}
-use Rattle.distances.specs.WholeTreeLaws.{trees-few}
 use Rattle.sheet.specs.LineLaws.{put-as}
 use Rattle.sheet.specs.SheetLaws.{line-counts, line-split, line-row, line-majority, line-strict}
 use Rattle.sheet.proofs.lines.write_line.Statement.{statement}
@@ -19,7 +20,7 @@ returns-2 c =
     (put-as (line-split _ (c .before .before .before .before .before .before .before .before .before .before .pre .0) _ _ (c .before .before .before .before .before .if1 .left) (omega (arith, c .before .before .before .before .before .before .before .splits-held .ensures .0))) (p .0), p .1)
 
 add-if3 : tie.Need-add-if3
-add-if3 c = omega (arith, c .before .before .before .splits-held .ensures .1, c .before .before .trees-held .ensures, trees-few _ (c .before .before .before .before .before .before .pre .0))
+add-if3 c = omega (arith, c .before .before .before .splits-held .ensures .1, c .before .before .trees-held .ensures, trees-few _ (whole-at-facts _ (c .before .before .before .before .before .before .pre .0) .head))
 
 returns-3 : tie.Need-returns-3
 returns-3 c =
