@@ -24,6 +24,7 @@ use Rattle.trees.specs.Plain.{if_then_else_, keep, Answer, refused, gives}
 use Rattle.trees.specs.Opening.{Numbers}
 use Rattle.trees.specs.Held.{Held}
 use Rattle.trees.specs.Batch.{semicolons, Batched, batching, batch}
+use Rattle.theorems.specs.ListLaws.{keep-append}
 use Rattle.answers.specs.declared.Number.{Number}
 use Rattle.answers.specs.declared.Number.the-variants as number
 use Rattle.answers.specs.declared.Refusal.{Refusal}
@@ -36,8 +37,8 @@ use Rattle.store.specs.Lent.{Holds}
 use Rattle.store.specs.LentLaws.{not-whole, when-whole}
 use Rattle.feeding.specs.Feeding.{batchOf, isRefusal, BatchedAs}
 use Rattle.feeding.specs.BatchLaws.{none-front, none-back}
-use Rattle.feeding.specs.SeamLaws.{keep-append}
-use Rattle.feeding.specs.CutLaws.{LaneThere, joined, semicolons-append, batching-opening, batching-append}
+use Rattle.feeding.specs.EndLaws.{semicolons-append}
+use Rattle.feeding.specs.CutLaws.{LaneThere, joined, batching-opening, batching-append}
 use Rattle.summary.specs.Summary.{refusedIn}
 use Rattle.summary.specs.Texts.{capped, textsFed, textsCount, TextsAs}
 use Rattle.summary.specs.TextsLaws.{capped-more}
@@ -136,7 +137,7 @@ module _ (s p : List ℕ) (room : ℕ) (e : room ≡ 4096) (few : length p ≤ 4
 
 pub refused-append : (v w : List ℕ) → refusedIn (v ++ w) ≡ refusedIn v + refusedIn w
 unfolding refusedIn
-refused-append v w = keep-append isRefusal v w
+refused-append v w = ap length (keep-append isRefusal v w) ∙ length-append (keep isRefusal v) (keep isRefusal w)
 
 pub fed-more : (h : Held) → LaneThere h 0 → (p q : List ℕ) → textsFed h (p ++ q) ≡ joined (textsFed h p) (textsFed (textsFed h p .after) q)
 fed-more h here p q =
