@@ -21,7 +21,7 @@ use Rattle.trees.specs.Mask.{proper}
 use Rattle.trees.specs.Hash.{place, identifier}
 use Rattle.trees.specs.Opening.{Opening}
 use Rattle.trees.specs.Splits.{insert}
-use Rattle.theorems.specs.ListLaws.{if-false, Mem, member-not, not-member, every-at, every-intro, less-or-not, mem-getD}
+use Rattle.theorems.specs.ListLaws.{if-false, Mem, member-not, not-member, every-at, every-intro, less-or-not, mem-getD, map-same}
 use Rattle.theorems.specs.RisingLaws.{rising-true, true-rising, insert-mem, insert-rising}
 use Rattle.layout.specs.Store.{Parts, splitsIn, treesIn, maskIn, identifierIn, countIn, linkIn, startIn, orderIn, masksIn, listIn, treeIn, heldIn}
 use Rattle.layout.specs.StoreLaws.{Shaped}
@@ -30,7 +30,7 @@ use Rattle.layout.specs.WholeFacts.{SplitsIn, ListIn, ChainsIn}
 use Rattle.layout.specs.Sound.{Sound}
 use Rattle.layout.specs.UpToLaws.{mem-at, listed-nil, listed-next}
 use Rattle.recording.specs.Added.{insertRow, withSplit}
-use Rattle.recording.specs.RowLaws.{map-same, row-mem, row-length, row-masks}
+use Rattle.recording.specs.RowLaws.{row-mem, row-length, row-masks}
 
 -- ---- a column with one more
 
