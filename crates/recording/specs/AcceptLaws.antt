@@ -28,11 +28,11 @@ use Rattle.layout.specs.Store.{Parts, partsAt, maskIn, countIn, treesHeldAt, sp
 use Rattle.layout.specs.WholeStore.{listedIn, wholeAt}
 use Rattle.layout.specs.WholeFacts.{HeadAt, whole-at-facts}
 use Rattle.layout.specs.Sound.{sound-whole}
-use Rattle.layout.specs.UpToLaws.{length-map, map-at, mem-at, upTo-mem}
+use Rattle.layout.specs.UpToLaws.{length-map, map-at, mem-at, upTo-mem, oneIf}
 use Rattle.layout.specs.OrderLaws.{mask-same}
 use Rattle.store.specs.RecordedAtLaws.{trees-length, recorded-at, recorded-length}
 use Rattle.store.specs.HeldWholeLaws.{held-numbers}
-use Rattle.recording.specs.Listed.{oneIf, withList, Rows, Listed}
+use Rattle.recording.specs.Listed.{withList, Rows, Listed}
 use Rattle.recording.specs.ListSoundLaws.{list-counted, list-sound, list-held}
 use Rattle.recording.specs.Recording.{masksOf, SplitsOf, newIn, Stands, RowsOf, Grown, Recorded, Accepts}
 use Rattle.recording.specs.NewLaws.{masks-length, mask-at, new-mem, stands-new}

@@ -4,7 +4,6 @@ pub mod Listed
 pub mod ListSoundLaws
 pub mod EnteringLaws
 pub mod Recording
-pub mod Steps
 pub mod RowLaws
 pub mod NumberLaws
 pub mod AddedLaws
