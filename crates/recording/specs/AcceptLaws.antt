@@ -17,25 +17,29 @@ use borrow.Author.Tests.{lt-ltb, le-ltb, eq-eqb, ne-eqb}
 use Rattle.trees.specs.Plain.{if_then_else_, every, member, lacking, Answer, refused, gives}
 use Rattle.trees.specs.Mask.{proper}
 use Rattle.trees.specs.Consensus.{count}
+use Rattle.trees.specs.Opening.{storeSize}
 use Rattle.trees.specs.Held.{newSplits, roomFor, withTree, accepted}
 use Rattle.trees.specs.Whole.{rising, goodTree}
 use Rattle.theorems.specs.ListLaws.{and-left, and-right, Mem, mem-member, less-or-not, mem-getD}
 use Rattle.theorems.specs.RisingLaws.{rising-true}
 use Rattle.answers.specs.declared.Progress.{Progress}
 use Rattle.answers.specs.Answers.{progressGiven}
+use Rattle.records.specs.Records.{masksOf}
+use Rattle.records.specs.RecordLaws.{masks-length, masks-at}
 use Rattle.head.specs.Head.{numbersAt, openingAt}
-use Rattle.layout.specs.Store.{Parts, partsAt, maskIn, countIn, treesHeldAt, splitsHeldAt, heldAt}
+use Rattle.layout.specs.Store.{sizeAt, Parts, partsAt, maskIn, countIn, treesHeldAt, splitsHeldAt, heldAt}
 use Rattle.layout.specs.WholeStore.{listedIn, wholeAt}
 use Rattle.layout.specs.WholeFacts.{HeadAt, whole-at-facts}
 use Rattle.layout.specs.Sound.{sound-whole}
-use Rattle.layout.specs.UpToLaws.{length-map, map-at, mem-at, upTo-mem, oneIf}
+use Rattle.layout.specs.UpToLaws.{length-map, map-at, mem-at, oneIf}
 use Rattle.layout.specs.OrderLaws.{mask-same}
 use Rattle.store.specs.RecordedAtLaws.{trees-length, recorded-at, recorded-length}
 use Rattle.store.specs.HeldWholeLaws.{held-numbers}
+use Rattle.store.specs.Lent.{Holds}
 use Rattle.recording.specs.Listed.{withList, Rows, Listed}
 use Rattle.recording.specs.ListSoundLaws.{list-counted, list-sound, list-held}
-use Rattle.recording.specs.Recording.{masksOf, SplitsOf, newIn, Stands, RowsOf, Grown, Recorded, Accepts}
-use Rattle.recording.specs.NewLaws.{masks-length, mask-at, new-mem, stands-new}
+use Rattle.recording.specs.Recording.{SplitsOf, newIn, Stands, RowsOf, Grown, Accepts}
+use Rattle.recording.specs.NewLaws.{mem-mask, new-mem, stands-new}
 use Rattle.recording.specs.GrownLaws.{numbers-same, size-same, head-after}
 
 -- ---- the verdict
@@ -86,7 +90,7 @@ module _ (s : List ℕ) (whole : wholeAt s ≡ true) (n : ℕ) (rs : List ℕ) (
       let a = length-map (maskIn (partsAt u)) (take n rows) in
       ext-getD 0 _ _ (a ∙ rows-length ∙ sym (masks-length n rs)) (λ i h.
       let c : i < n = omega (arith, rows-length) in
-      map-at (maskIn (partsAt u)) (take n rows) i (omega arith) ∙ stands i c .1 ∙ sym (mask-at n rs i c))
+      map-at (maskIn (partsAt u)) (take n rows) i (omega arith) ∙ stands i c .1 ∙ sym (masks-at n rs i c))
 
   pub rows-in : Rows (partsAt u) (take n rows)
   unfolding goodTree
@@ -107,11 +111,10 @@ module _ (s : List ℕ) (whole : wholeAt s ≡ true) (n : ℕ) (rs : List ℕ) (
       omega (arith, g .sound .counts k b, ap (λ (l : List (List ℕ)). count (take (length l) l) k) (g .lists), c .some-tree, c .counted)
 
   new-row : (k : ℕ) → k < splitsHeldAt u → splitsHeldAt s ≤ k → Mem k (take n rows)
-  unfolding masksOf
   new-row k h b =
       let f : Stands (partsAt s .masks ++ newIn (partsAt s) (masksOf n rs)) k (maskIn (partsAt u) k) = rw (← g .masks) (h, refl) in
       let m = new-mem (partsAt s) (masksOf n rs) (maskIn (partsAt u) k) (stands-new (partsAt s .masks) (newIn (partsAt s) (masksOf n rs)) k (maskIn (partsAt u) k) f b) .0 in
-      let j = upTo-mem (λ i. getD rs (3 * i) 0) n (maskIn (partsAt u) k) m in
+      let j = mem-mask n rs (maskIn (partsAt u) k) m in
       let y = stands (j .0) (j .1) in
       let e : getD (take n rows) (j .0) 0 ≡ k = mask-same (partsAt u) (g .sound .shaped .order) (g .sound .splits) _ k (y .0) h (y .1 ∙ sym (j .2)) in
       subst (λ (x : ℕ). Mem x (take n rows)) e (mem-getD (take n rows) (j .0) (omega (arith, j .1, rows-length)))
@@ -138,14 +141,19 @@ module _ (s : List ℕ) (whole : wholeAt s ≡ true) (n : ℕ) (rs : List ℕ) (
         let c : k < splitsHeldAt u = omega (arith, splits-after) in
         omega (arith, ap (λ (p : Parts). countIn p k) (l .parts), list-counted (take n rows) (partsAt u) k c, one-in k (new-row k c a))
 
-    recorded : Recorded s (masksOf n rs) v
+    size-held : storeSize (heldAt s .opening .numbers) ≡ sizeAt s
+    unfolding sizeAt
+    size-held = ap storeSize (held-numbers s)
+
+    recorded : Holds (withTree (heldAt s) (masksOf n rs)) s v
+    unfolding withTree
     recorded = record {
       whole =
           sound-whole v (head-after u v (l .opening) h (l .size) (omega (arith, trees-after, trees-in)) (omega (arith, splits-after, h .splits-fit)))
           (rw (l .opening, l .parts) (list-sound (openingAt u) (take n rows) (partsAt u) (g .sound) rows-in)) (λ k b. some-tree k b (less-or-not k (splitsHeldAt s)));
       held = rw (l .opening, l .parts) (list-held (openingAt u) (take n rows) (partsAt u)) ∙ ap₂ withTree (g .held) tree-in;
       size = l .size ∙ g .size;
-      behind = λ i b. l .behind i (omega (arith, size-same s u (g .opening))) ∙ g .behind i b;
+      behind = λ i b. let c = size-held in l .behind i (omega (arith, size-same s u (g .opening))) ∙ g .behind i (omega arith);
     }
 
     pub records : (a : Progress) → progressGiven a ≡ gives (accepted (treesHeldAt s)) → Accepts (roomFor (heldAt s) (masksOf n rs)) s a v

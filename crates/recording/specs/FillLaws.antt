@@ -14,11 +14,12 @@ use lib.ListN.{length, getD, set, length-append, length-set}
 use lib.Seq.{getD-set-same, getD-set-other, getD-at}
 use Rattle.theorems.specs.ListLaws.{less-or-not}
 use Rattle.trees.specs.Plain.{member}
+use Rattle.records.specs.Records.{masksOf}
 use Rattle.layout.specs.Store.{Parts, partsAt, splitsHeldAt, masksAt}
 use Rattle.layout.specs.WholeStore.{wholeAt}
 use Rattle.recording.specs.declared.finding.Found.{Found}
 use Rattle.recording.specs.declared.finding.Found.the-variants.{Row, Nothing}
-use Rattle.recording.specs.Recording.{masksOf, newIn, Stands, RowsOf}
+use Rattle.recording.specs.Recording.{newIn, Stands, RowsOf}
 use Rattle.recording.specs.Rows.{FoundAs}
 use Rattle.recording.specs.NewLaws.{new-none, new-old, new-next, stands-more, row-recorded}
 

@@ -21,17 +21,19 @@ use Rattle.trees.specs.Whole.{goodOpening, goodTree}
 use Rattle.theorems.specs.ListLaws.{and-left, and-right, Mem, mem-cases, member-not, every-at, mem-getD}
 use Rattle.theorems.specs.OpeningLaws.{good-opening}
 use Rattle.theorems.specs.RisingLaws.{rising-true}
-use Rattle.head.specs.Head.{upTo, numbersAt, secondAt, openingAt}
+use Rattle.records.specs.Records.{masksOf}
+use Rattle.records.specs.RecordLaws.{masks-length, masks-at}
+use Rattle.head.specs.Head.{numbersAt, secondAt, openingAt}
 use Rattle.layout.specs.Store.{sizeAt, Parts, partsAt, treesHeldAt, splitsHeldAt, masksAt}
 use Rattle.layout.specs.WholeStore.{wholeAt, placeIn}
 use Rattle.layout.specs.WholeFacts.{HeadAt, whole-at-facts}
 use Rattle.layout.specs.Sound.{Sound, whole-sound}
-use Rattle.layout.specs.UpToLaws.{upTo-mem, mem-upTo, upTo-rises, mem-at}
+use Rattle.layout.specs.UpToLaws.{mem-at, rising-at}
 use Rattle.layout.specs.OrderLaws.{masks-mem}
 use Rattle.recording.specs.Added.{Added, withSplit}
 use Rattle.recording.specs.SplitSoundLaws.{split-sound, split-held}
-use Rattle.recording.specs.Recording.{masksOf, SplitsOf, newIn, RowsOf, Grown}
-use Rattle.recording.specs.NewLaws.{new-none, new-old, new-next, new-mem, new-within, row-recorded, row-known, row-unknown}
+use Rattle.recording.specs.Recording.{SplitsOf, newIn, RowsOf, Grown}
+use Rattle.recording.specs.NewLaws.{mask-mem, mem-mask, new-none, new-old, new-next, new-mem, new-within, row-recorded, row-known, row-unknown}
 
 -- ---- what the opening says
 
@@ -99,18 +101,19 @@ module _ (s : List ℕ) (whole : wholeAt s ≡ true) (n : ℕ) (rs : List ℕ) w
         more = new-next (partsAt s) rs j (row-unknown s whole n rs rows r j h b)
 
         next-proper : proper (numbersAt u .taxa) next ≡ true
-        unfolding goodTree masksOf
+        unfolding goodTree
         next-proper =
             ap (λ (x : Numbers). proper (x .taxa) next) (numbers-same s u (g .opening))
-            ∙ every-at (proper (numbersAt s .taxa)) (masksOf n rs) (and-left _ _ (t .good)) next (mem-upTo (λ i. getD rs (3 * i) 0) n j h)
+            ∙ every-at (proper (numbersAt s .taxa)) (masksOf n rs) (and-left _ _ (t .good)) next (mask-mem n rs j h)
 
         -- it is none of the splits before it, for a tree's masks rise
         not-before : Mem next (new j) → ⊥
-        unfolding goodTree masksOf
+        unfolding goodTree
         not-before q =
-            let i = upTo-mem (λ k. getD rs (3 * k) 0) j next (new-mem (partsAt s) (masksOf j rs) next q .0) in
+            let i = mem-mask j rs next (new-mem (partsAt s) (masksOf j rs) next q .0) in
+            let b : i .0 < n = omega (arith, i .1, h) in
             let rise = rising-true (masksOf n rs) (and-left _ _ (and-right (every (proper (numbersAt s .taxa)) (masksOf n rs)) _ (t .good))) in
-            omega (arith, upTo-rises (λ k. getD rs (3 * k) 0) n rise (i .0) j (i .1) h, i .2)
+            omega (arith, rising-at (masksOf n rs) rise (i .0) j (i .1) (omega (arith, masks-length n rs)), masks-at n rs (i .0) b, masks-at n rs j h, i .2)
 
         next-new : member next (masksAt u) ≡ false
         next-new =

@@ -1,6 +1,6 @@
 -- Which of a tree's splits are new to a store, and the rows of masks. Assumes nothing.
 --
---   masks-length, mask-at       how many masks the records have, and the j-th
+--   mask-mem, mem-mask          the masks of the records
 --   new-none, new-old, new-next     the new ones of the first masks, a mask at a time
 --   new-mem                     each is a mask of the list that is not recorded
 --   new-within                  there are no fewer of more masks
@@ -17,23 +17,25 @@ use lib.ListN.{length, getD, length-append, List·getD-append}
 use lib.Seq.{getD-append-add}
 use Rattle.trees.specs.Plain.{if_then_else_, keep, member, lacking}
 use Rattle.theorems.specs.ListLaws.{if-true, if-false, Mem, mem-member, keep-mem, keep-most, mem-getD}
-use Rattle.head.specs.HeadLaws.{upTo-length, upTo-at}
-use Rattle.layout.specs.Columns.{upTo-more}
+use Rattle.records.specs.Records.{masksOf}
+use Rattle.records.specs.RecordLaws.{masks-length, masks-at, masks-more}
 use Rattle.layout.specs.Store.{Parts, partsAt, masksIn, splitsHeldAt, maskAt, masksAt}
 use Rattle.layout.specs.StoreLaws.{shaped-at}
 use Rattle.layout.specs.WholeStore.{wholeAt}
 use Rattle.layout.specs.WholeFacts.{whole-at-facts}
+use Rattle.layout.specs.UpToLaws.{mem-at}
 use Rattle.layout.specs.OrderLaws.{mem-masks}
-use Rattle.recording.specs.Recording.{masksOf, newIn, Stands, RowsOf}
+use Rattle.recording.specs.Recording.{newIn, Stands, RowsOf}
 
 module _ (n : ℕ) (rs : List ℕ) where
-  pub masks-length : length (masksOf n rs) ≡ n
-  unfolding masksOf
-  masks-length = upTo-length (λ j. getD rs (3 * j) 0) n
+  pub mask-mem : (j : ℕ) → j < n → Mem (getD rs (3 * j) 0) (masksOf n rs)
+  mask-mem j h = subst (λ (x : ℕ). Mem x (masksOf n rs)) (masks-at n rs j h) (mem-getD (masksOf n rs) j (omega (arith, masks-length n rs)))
 
-  pub mask-at : (j : ℕ) → j < n → getD (masksOf n rs) j 0 ≡ getD rs (3 * j) 0
-  unfolding masksOf
-  mask-at j h = upTo-at (λ i. getD rs (3 * i) 0) n j 0 h
+  pub mem-mask : (m : ℕ) → Mem m (masksOf n rs) → (j : ℕ) × (j < n) × (m ≡ getD rs (3 * j) 0)
+  mem-mask m h =
+      let j = mem-at (masksOf n rs) m h in
+      let b : j .0 < n = omega (arith, j .1, masks-length n rs) in
+      (j .0, b, sym (j .2) ∙ masks-at n rs (j .0) b)
 
 -- ---- the new ones
 
@@ -56,10 +58,10 @@ module _ (p : Parts) (rs : List ℕ) where
 
   module _ (j : ℕ) where
     new-more : newIn p (masksOf (j + 1) rs) ≡ (if not (member (getD rs (3 * j) 0) (masksIn p)) then newIn p (masksOf j rs) ++ getD rs (3 * j) 0 ∷ [] else newIn p (masksOf j rs))
-    unfolding newIn lacking masksOf
+    unfolding newIn lacking
     new-more =
         ap (λ (k : ℕ). newIn p (masksOf k rs)) (add-one j)
-        ∙ ap (newIn p) (upTo-more (λ i. getD rs (3 * i) 0) j)
+        ∙ ap (newIn p) (masks-more j rs)
         ∙ keep-last (λ m. not (member m (masksIn p))) (masksOf j rs) (getD rs (3 * j) 0)
 
     pub new-old : member (getD rs (3 * j) 0) (masksIn p) ≡ true → newIn p (masksOf (j + 1) rs) ≡ newIn p (masksOf j rs)

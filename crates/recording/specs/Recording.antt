@@ -1,12 +1,10 @@
 -- What recording a tree asks and gives.
 --
---   masksOf n rs         the masks of the first n records, of three words each: mask, place, identifier
 --   SplitsOf s n rs      the first n records are those of a tree's splits, with their places and identifiers
 --   newIn p ms           those of the masks ms that are new to the parts p
 --   Stands l k m         the mask m stands in row k of the masks l
 --   RowsOf p n rs rows   the rows of the first n records' masks, those of new ones behind the others
 --   Grown s ms u         the lent bytes u are s with the new splits ms behind the others, listed by no tree
---   Recorded s t u       the lent bytes u are whole and hold what s holds, and the tree t
 --   Accepts a s r t      the verdict a as to room: refused and nothing changed, or the tree recorded
 use Prim.Native.Nat.{ℕ, _+_, _*_, _≤_, _<_}
 use mathlib.Core.Path.{_≡_}
@@ -19,14 +17,12 @@ use Rattle.trees.specs.Held.{withTree, accepted}
 use Rattle.trees.specs.Whole.{goodTree}
 use Rattle.answers.specs.Answers.{progressGiven}
 use Rattle.answers.specs.declared.Progress.{Progress}
-use Rattle.head.specs.Head.{upTo, numbersAt, secondAt, openingAt}
-use Rattle.layout.specs.Store.{sizeAt, Parts, partsAt, masksIn, treesHeldAt, heldAt}
-use Rattle.layout.specs.WholeStore.{wholeAt, placeIn}
+use Rattle.records.specs.Records.{masksOf}
+use Rattle.head.specs.Head.{numbersAt, secondAt, openingAt}
+use Rattle.layout.specs.Store.{sizeAt, Parts, partsAt, masksIn, treesHeldAt, heldAt, heldIn}
+use Rattle.layout.specs.WholeStore.{placeIn}
 use Rattle.layout.specs.Sound.{Sound}
-
-unfoldable pub masksOf : ℕ → List ℕ → List ℕ
-unfolding upTo
-masksOf n rs = upTo (λ j. getD rs (3 * j) 0) n
+use Rattle.store.specs.Lent.{Holds}
 
 pub record SplitsOf (s : List ℕ) (n : ℕ) (rs : List ℕ) : Type 0 where
   pub few : n ≤ 62
@@ -55,13 +51,7 @@ pub record Grown (s ms u : List ℕ) : Type 0 where
   pub size : length u ≡ length s
   pub behind : (i : ℕ) → sizeAt s ≤ i → getD u i 0 ≡ getD s i 0
 
-pub record Recorded (s t u : List ℕ) : Type 0 where
-  pub whole : wholeAt u ≡ true
-  pub held : heldAt u ≡ withTree (heldAt s) t
-  pub size : length u ≡ length s
-  pub behind : (i : ℕ) → sizeAt s ≤ i → getD u i 0 ≡ getD s i 0
-
 unfoldable pub Accepts : Answer (List ℕ) → List ℕ → Progress → List ℕ → Type 0
-unfolding progressGiven
+unfolding progressGiven heldIn withTree
 Accepts (refused k) s r t = (progressGiven r ≡ refused k) × (t ≡ s)
-Accepts (gives x) s r t = (progressGiven r ≡ gives (accepted (treesHeldAt s))) × Recorded s x t
+Accepts (gives x) s r t = (progressGiven r ≡ gives (accepted (treesHeldAt s))) × Holds (withTree (heldAt s) x) s t

@@ -4,9 +4,10 @@ ghost use mathlib.Core.Path.{_≡_};
 ghost use mathlib.Core.Bool.{true};
 ghost use Prim.Native.Nat.{_≤_};
 ghost use lib.ListN.{length};
+ghost use Rattle.records.specs.Records.{masksOf};
 ghost use Rattle.layout.specs.Store.{partsAt};
 ghost use Rattle.layout.specs.WholeStore.{wholeAt, placeIn};
-ghost use Rattle.recording.specs.Recording.{masksOf, SplitsOf, newIn, RowsOf};
+ghost use Rattle.recording.specs.Recording.{SplitsOf, newIn, RowsOf};
 ghost use Rattle.recording.specs.Rows.{FoundAs};
 
 // The answer of a look for a split.

@@ -5,7 +5,8 @@ use mathlib.Core.Logic.{⊎-elim}
 use native.Mathlib.Omega.{arith}
 use Rattle.layout.specs.Store.{partsAt}
 use Rattle.layout.specs.WholeFacts.{whole-at-facts}
-use Rattle.recording.specs.Recording.{masksOf, newIn, Grown}
+use Rattle.records.specs.Records.{masksOf}
+use Rattle.recording.specs.Recording.{newIn, Grown}
 use Rattle.recording.specs.GrownLaws.{grown-none, grown-old, grown-new, next-asks}
 use Rattle.recording.proofs.add_new.Statement.{statement}
 use Rattle.recording.proofs.add_new.Tie as tie
