@@ -8,7 +8,6 @@ pub mod RowLaws
 pub mod NumberLaws
 pub mod AddedLaws
 pub mod SplitSoundLaws
-pub mod Rows
 pub mod WalkLaws
 pub mod NewLaws
 pub mod FillLaws
