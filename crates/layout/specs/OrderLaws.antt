@@ -2,7 +2,8 @@
 --
 --   masks-length, number-mask, masks-numbered     the recorded masks, by the splits' numbers
 -- where the splits are in order:
---   splits-rise                   the masks rise with the splits' numbers
+--   row-below                     the rows in the order are rows of the splits
+--   splits-rise, splits-up        the masks rise with the splits' numbers
 --   row-numbered                  every row is that of one number
 --   masks-mem, mem-masks          the recorded masks are those of the rows
 --   mask-same                     "all different"
@@ -46,6 +47,13 @@ module _ (p : Parts) (long : length (p .order) ≡ splitsIn p) where
     splits-rise i j a b =
         omega (arith, rising-at (masksIn p) masks-rise i j a (omega (arith, masks-length)), number-mask i (omega arith), number-mask j b)
 
+    pub splits-up : (i j : ℕ) → i ≤ j → j < splitsIn p → splitIn p i ≤ splitIn p j
+    splits-up i j a b = go (less-or-not i j)
+      where
+        go : (i < j) ⊎ (j ≤ i) → splitIn p i ≤ splitIn p j
+        go (inl l) = omega (arith, splits-rise i j l b)
+        go (inr l) = let e : i ≡ j = omega arith in rw e (omega arith)
+
     split-same : (i j : ℕ) → i < splitsIn p → j < splitsIn p → splitIn p i ≡ splitIn p j → i ≡ j
     split-same i j a b e = go (less-or-not i j) (less-or-not j i)
       where
@@ -57,11 +65,11 @@ module _ (p : Parts) (long : length (p .order) ≡ splitsIn p) where
     pub row-numbered : (k : ℕ) → k < splitsIn p → (i : ℕ) × (i < splitsIn p) × (orderIn p i ≡ k)
     row-numbered = each-stands (splitsIn p) (orderIn p) (f .rows-below) (λ i j a b e. split-same i j a b (ap (maskIn p) e))
 
+    pub row-below : (k : ℕ) → Mem k (p .order) → k < splitsIn p
+    row-below k h = let i = mem-at (p .order) k h in subst (λ (r : ℕ). r < splitsIn p) (i .2) (f .rows-below (i .0) (omega (arith, i .1, long)))
+
     pub masks-mem : (m : ℕ) → Mem m (masksIn p) → (k : ℕ) × (k < splitsIn p) × (m ≡ maskIn p k)
-    masks-mem m h =
-        let r = map-mem (maskIn p) (p .order) m h in
-        let i = mem-at (p .order) (r .0) (r .1) in
-        (r .0, subst (λ (k : ℕ). k < splitsIn p) (i .2) (f .rows-below (i .0) (omega (arith, i .1, long))), r .2)
+    masks-mem m h = let r = map-mem (maskIn p) (p .order) m h in (r .0, row-below (r .0) (r .1), r .2)
 
     pub mem-masks : (k : ℕ) → k < splitsIn p → Mem (maskIn p k) (masksIn p)
     mem-masks k h =

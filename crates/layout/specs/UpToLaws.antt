@@ -4,19 +4,21 @@
 --   upTo-rises                    where such a list rises, the function does
 --   length-map, map-at, map-mem, mem-map     a list with a function on each
 --   mem-at                        each member stands somewhere
+--   one-more, each-more           a list with one more at its end: how long it is, and what holds of each
 --   rising-at                     what stands earlier in a rising list is less
 --   count-append                  the count behind one more tree
---   oneIf b, one-most             1 where the test b passes, 0 where it fails
+--   oneIf b, one-if, one-most     1 where the test b passes, 0 where it fails
 --   listed-nil, listed-next, listed-step     how many of no trees list a split, and of one tree more
 --   listed-most                   never more than there are trees
 use Prim.Native.Nat.{ℕ, zero, suc, _+_, _≤_, _<_}
+use native.Mathlib.Numerals.{add-one}
 use native.Mathlib.Omega.{arith}
 use mathlib.Core.Path.{_≡_, refl, sym, ap, _∙_}
 use mathlib.Core.Logic.{_⊎_, inl, inr}
 use mathlib.Core.Bool.{Bool, true, false}
 use mathlib.Core.List.{List, [], _∷_, _++_, map}
-use lib.ListN.{length, getD, take}
-use lib.Seq.{take-suc}
+use lib.ListN.{length, getD, take, length-append, List·getD-append}
+use lib.Seq.{take-suc, getD-at}
 use Rattle.trees.specs.Plain.{if_then_else_, member}
 use Rattle.trees.specs.Consensus.{count}
 use Rattle.theorems.specs.ListLaws.{less-or-not, Mem, mem-getD}
@@ -31,6 +33,21 @@ use Rattle.layout.specs.WholeStore.{listedIn}
 pub mem-at : (l : List ℕ) (k : ℕ) → Mem k l → (i : ℕ) × (i < length l) × (getD l i 0 ≡ k)
 mem-at (x ∷ l) k (inl e) = (0, omega arith, sym e)
 mem-at (x ∷ l) k (inr h) = let r = mem-at l k h in (suc (r .0), omega (arith, r .1), r .2)
+
+-- ---- one more at the end
+
+module _ {A : Type 0} (l : List A) (x : A) where
+  pub one-more : length (l ++ x ∷ []) ≡ suc (length l)
+  one-more = length-append l (x ∷ []) ∙ add-one (length l)
+
+  -- what holds of each place and its member, and of the next place and the new one, holds of all
+  pub each-more : (d : A) (n : ℕ) → length l ≡ n → (P : ℕ → A → Type 0) → ((j : ℕ) → j < n → P j (getD l j d)) → P n x
+      → (j : ℕ) → j < suc n → P j (getD (l ++ x ∷ []) j d)
+  each-more d n e P f g j h = go (less-or-not j n)
+    where
+      go : (j < n) ⊎ (n ≤ j) → P j (getD (l ++ x ∷ []) j d)
+      go (inl b) = rw (List·getD-append l (x ∷ []) d j (omega arith)) (f j b)
+      go (inr b) = let i : j ≡ n = omega arith in rw (i, getD-at l x [] d n e) g
 
 -- ---- the members of a list made by a function
 
@@ -124,18 +141,18 @@ listed-next p k t h = ap (λ (ls : List (List ℕ)). count ls k) (take-suc (p .l
 unfoldable pub oneIf : Bool → ℕ
 oneIf b = if b then 1 else 0
 
+pub one-if : (b : Bool) (n : ℕ) → (if b then suc n else n) ≡ n + oneIf b
+unfolding oneIf
+one-if true n = omega arith
+one-if false n = omega arith
+
 pub one-most : (b : Bool) → oneIf b ≤ 1
 unfolding oneIf
 one-most true = omega arith
 one-most false = omega arith
 
 pub listed-step : (p : Parts) (k t : ℕ) → t < treesIn p → listedIn p k (suc t) ≡ listedIn p k t + oneIf (member k (listIn p t))
-unfolding oneIf
-listed-step p k t h = listed-next p k t h ∙ go (member k (listIn p t))
-  where
-    go : (b : Bool) → (if b then suc (listedIn p k t) else listedIn p k t) ≡ listedIn p k t + (if b then 1 else 0)
-    go true = omega arith
-    go false = omega arith
+listed-step p k t h = listed-next p k t h ∙ one-if (member k (listIn p t)) (listedIn p k t)
 
 pub listed-most : (p : Parts) (k t : ℕ) → t ≤ treesIn p → listedIn p k t ≤ t
 listed-most p k zero h = omega (arith, listed-nil p k)

@@ -4,14 +4,14 @@
 --   refuses                         a refusal that changes nothing
 --   trees-in, rows-in               what listing the tree asks
 --   records                         the tree is recorded
-use Prim.Native.Nat.{ℕ, suc, _+_, _*_, _≤_, _<_}
+use Prim.Native.Nat.{ℕ, _+_, _*_, _≤_, _<_}
 use native.Mathlib.Omega.{arith}
 use mathlib.Core.Path.{_≡_, refl, sym, ap, ap₂, _∙_, subst}
 use mathlib.Core.Logic.{_⊎_, inl, inr}
 use mathlib.Core.Bool.{true}
 use mathlib.Core.List.{List, [], _∷_, _++_, map}
 use lib.Dec.{ltb, eqb}
-use lib.ListN.{length, getD, take, length-append}
+use lib.ListN.{length, getD, take}
 use lib.Seq.{length-take-le, getD-take, ext-getD}
 use borrow.Author.Tests.{lt-ltb, le-ltb, eq-eqb, ne-eqb}
 use Rattle.trees.specs.Plain.{if_then_else_, every, member, lacking, Answer, refused, gives}
@@ -21,32 +21,33 @@ use Rattle.trees.specs.Opening.{storeSize}
 use Rattle.trees.specs.Held.{newSplits, roomFor, withTree, accepted}
 use Rattle.trees.specs.Whole.{rising, goodTree}
 use Rattle.theorems.specs.ListLaws.{and-left, and-right, Mem, mem-member, less-or-not, mem-getD}
+use Rattle.theorems.specs.LackingLaws.{lacking-mem}
 use Rattle.theorems.specs.RisingLaws.{rising-true}
 use Rattle.answers.specs.declared.Progress.{Progress}
 use Rattle.answers.specs.Answers.{progressGiven}
 use Rattle.records.specs.Records.{masksOf}
 use Rattle.records.specs.RecordLaws.{masks-length, masks-at}
 use Rattle.head.specs.Head.{numbersAt, openingAt}
-use Rattle.layout.specs.Store.{sizeAt, Parts, partsAt, maskIn, countIn, treesHeldAt, splitsHeldAt, heldAt}
+use Rattle.layout.specs.Store.{sizeAt, Parts, partsAt, maskIn, countIn, treesHeldAt, splitsHeldAt, masksAt, heldAt}
 use Rattle.layout.specs.WholeStore.{listedIn, wholeAt}
 use Rattle.layout.specs.WholeFacts.{HeadAt, whole-at-facts}
-use Rattle.layout.specs.Sound.{sound-whole}
-use Rattle.layout.specs.UpToLaws.{length-map, map-at, mem-at}
+use Rattle.layout.specs.Sound.{parts-whole}
+use Rattle.layout.specs.UpToLaws.{length-map, map-at, mem-at, one-more, oneIf}
 use Rattle.layout.specs.OrderLaws.{mask-same}
+use Rattle.layout.specs.OpeningKeptLaws.{numbers-held, size-held}
 use Rattle.store.specs.RecordedAtLaws.{trees-length, recorded-at, recorded-length}
 use Rattle.store.specs.HeldWholeLaws.{held-numbers}
 use Rattle.store.specs.Lent.{Holds}
-use Rattle.recording.specs.Listed.{oneIf, withList, Rows, Listed}
+use Rattle.recording.specs.Listed.{withList, Rows, Listed}
 use Rattle.recording.specs.ListSoundLaws.{list-counted, list-sound, list-held}
 use Rattle.recording.specs.Recording.{SplitsOf, newIn, Stands, RowsOf, Grown, Accepts}
-use Rattle.recording.specs.NewLaws.{mem-mask, new-mem, stands-new}
-use Rattle.recording.specs.GrownLaws.{numbers-same, size-same, head-after}
+use Rattle.recording.specs.NewLaws.{mem-mask, stands-new}
 
 -- ---- the verdict
 
 module _ (s t : List ℕ) (w : wholeAt s ≡ true) where
   new-same : newSplits (heldAt s) t ≡ newIn (partsAt s) t
-  unfolding newSplits newIn
+  unfolding newSplits
   new-same = ap (lacking t) (recorded-at s w)
 
   room : roomFor (heldAt s) t
@@ -77,7 +78,7 @@ module _ (s : List ℕ) (whole : wholeAt s ≡ true) (n : ℕ) (rs : List ℕ) (
   trees = ap length (g .lists)
 
   pub trees-in : treesHeldAt u < numbersAt u .treeRoom
-  trees-in = rw (numbers-same s u (g .opening)) (omega (arith, d, trees, whole-at-facts s whole .head .trees-fit))
+  trees-in = rw (numbers-held s u (g .opening)) (omega (arith, d, trees, whole-at-facts s whole .head .trees-fit))
 
   rows-length : length (take n rows) ≡ n
   rows-length = length-take-le n rows (r .reach)
@@ -113,48 +114,33 @@ module _ (s : List ℕ) (whole : wholeAt s ≡ true) (n : ℕ) (rs : List ℕ) (
   new-row : (k : ℕ) → k < splitsHeldAt u → splitsHeldAt s ≤ k → Mem k (take n rows)
   new-row k h b =
       let f : Stands (partsAt s .masks ++ newIn (partsAt s) (masksOf n rs)) k (maskIn (partsAt u) k) = rw (← g .masks) (h, refl) in
-      let m = new-mem (partsAt s) (masksOf n rs) (maskIn (partsAt u) k) (stands-new (partsAt s .masks) (newIn (partsAt s) (masksOf n rs)) k (maskIn (partsAt u) k) f b) .0 in
+      let m = lacking-mem (masksAt s) (masksOf n rs) (maskIn (partsAt u) k) (stands-new (partsAt s .masks) (newIn (partsAt s) (masksOf n rs)) k (maskIn (partsAt u) k) f b) .0 in
       let j = mem-mask n rs (maskIn (partsAt u) k) m in
       let y = stands (j .0) (j .1) in
       let e : getD (take n rows) (j .0) 0 ≡ k = mask-same (partsAt u) (g .sound .shaped .order) (g .sound .splits) _ k (y .0) h (y .1 ∙ sym (j .2)) in
       subst (λ (x : ℕ). Mem x (take n rows)) e (mem-getD (take n rows) (j .0) (omega (arith, j .1, rows-length)))
 
-  one-in : (k : ℕ) → Mem k (take n rows) → oneIf (member k (take n rows)) ≡ 1
-  unfolding oneIf
-  one-in k h = rw (mem-member k (take n rows) h)
-
   module _ (room-in : splitsHeldAt s + length (newIn (partsAt s) (masksOf n rs)) ≤ numbersAt s .splitRoom) (h : HeadAt u) (v : List ℕ) (l : Listed u (take n rows) v) where
-    splits-after : splitsHeldAt v ≡ splitsHeldAt u
-    unfolding withList
-    splits-after = ap (λ (p : Parts). length (p .masks)) (l .parts)
-
-    trees-after : treesHeldAt v ≡ suc (treesHeldAt u)
-    unfolding withList
-    trees-after = ap (λ (p : Parts). length (p .lists)) (l .parts) ∙ omega (arith, length-append (partsAt u .lists) (take n rows ∷ []))
-
     -- each split is listed by a tree: an old one was, and a new one is now
-    some-tree : (k : ℕ) → k < splitsHeldAt v → (k < splitsHeldAt s) ⊎ (splitsHeldAt s ≤ k) → 1 ≤ countIn (partsAt v) k
-    some-tree k b (inl a) =
-        let c : k < splitsHeldAt u = omega (arith, splits-after) in
-        omega (arith, ap (λ (p : Parts). countIn p k) (l .parts), list-counted (take n rows) (partsAt u) k c, old-count k c a)
-    some-tree k b (inr a) =
-        let c : k < splitsHeldAt u = omega (arith, splits-after) in
-        omega (arith, ap (λ (p : Parts). countIn p k) (l .parts), list-counted (take n rows) (partsAt u) k c, one-in k (new-row k c a))
-
-    size-held : storeSize (heldAt s .opening .numbers) ≡ sizeAt s
-    unfolding sizeAt
-    size-held = ap storeSize (held-numbers s)
+    some-tree : (k : ℕ) → k < splitsHeldAt u → (k < splitsHeldAt s) ⊎ (splitsHeldAt s ≤ k) → 1 ≤ countIn (withList (take n rows) (partsAt u)) k
+    unfolding oneIf
+    some-tree k b (inl a) = omega (arith, list-counted (take n rows) (partsAt u) k b, old-count k b a)
+    some-tree k b (inr a) = omega (arith, rw (mem-member k (take n rows) (new-row k b a)) at (list-counted (take n rows) (partsAt u) k b))
 
     recorded : Holds (withTree (heldAt s) (masksOf n rs)) s v
-    unfolding withTree
-    recorded = record {
-      whole =
-          sound-whole v (head-after u v (l .opening) h (l .size) (omega (arith, trees-after, trees-in)) (omega (arith, splits-after, h .splits-fit)))
-          (rw (l .opening, l .parts) (list-sound (openingAt u) (take n rows) (partsAt u) (g .sound) rows-in)) (λ k b. some-tree k b (less-or-not k (splitsHeldAt s)));
-      held = rw (l .opening, l .parts) (list-held (openingAt u) (take n rows) (partsAt u)) ∙ ap₂ withTree (g .held) tree-in;
-      size = l .size ∙ g .size;
-      behind = λ i b. let c = size-held in l .behind i (omega (arith, size-same s u (g .opening))) ∙ g .behind i (omega arith);
-    }
+    unfolding withTree withList sizeAt
+    recorded =
+        let p = withList (take n rows) (partsAt u) in
+        let sound = list-sound (openingAt u) (take n rows) (partsAt u) (g .sound) rows-in in
+        let size : storeSize (heldAt s .opening .numbers) ≡ sizeAt s = ap storeSize (held-numbers s) in
+        record {
+          whole =
+              parts-whole u v p h (l .size) (l .opening) (l .parts) sound (omega (arith, one-more (partsAt u .lists) (take n rows), trees-in)) (h .splits-fit)
+              (λ k b. some-tree k b (less-or-not k (splitsHeldAt s)));
+          held = rw (l .opening, l .parts) (list-held (openingAt u) (take n rows) (partsAt u)) ∙ ap₂ withTree (g .held) tree-in;
+          size = l .size ∙ g .size;
+          behind = λ i b. l .behind i (omega (arith, size, size-held s u (g .opening))) ∙ g .behind i (omega (arith, size));
+        }
 
     pub records : (a : Progress) → progressGiven a ≡ gives (accepted (treesHeldAt s)) → Accepts (roomFor (heldAt s) (masksOf n rs)) s a v
     unfolding Accepts

@@ -30,10 +30,10 @@ use Rattle.layout.specs.Store.{treeFrom, masksFrom, identifiersFrom, countsFrom
 use Rattle.layout.specs.StoreLaws.{tree-from, masks-from, identifiers-from, counts-from, links-from, order-from, places-from, size-is, trees-held-is, splits-held-is, count-is, list-length, length-is}
 use Rattle.layout.specs.WholeFacts.{HeadAt}
 use Rattle.layout.specs.Sound.{Sound}
-use Rattle.layout.specs.UpToLaws.{mem-map, listed-most}
+use Rattle.layout.specs.UpToLaws.{mem-map, oneIf, listed-most}
 use Rattle.layout.specs.InsideLaws.{ranges}
 use Rattle.layout.specs.KeptLaws.{Kept, number-kept, lists-kept, lengths-kept, texts-kept, numbers-kept, opening-kept}
-use Rattle.recording.specs.Listed.{oneIf, withList, Rows, Listed}
+use Rattle.recording.specs.Listed.{withList, Rows, Listed}
 
 -- ---- where things lie
 

@@ -19,8 +19,7 @@ use Rattle.layout.specs.Store.{Parts, partsAt, splitsHeldAt, masksAt}
 use Rattle.layout.specs.WholeStore.{wholeAt}
 use Rattle.recording.specs.declared.finding.Found.{Found}
 use Rattle.recording.specs.declared.finding.Found.the-variants.{Row, Nothing}
-use Rattle.recording.specs.Recording.{newIn, Stands, RowsOf}
-use Rattle.recording.specs.Rows.{FoundAs}
+use Rattle.recording.specs.Recording.{newIn, Stands, FoundAs, RowsOf}
 use Rattle.recording.specs.NewLaws.{new-none, new-old, new-next, stands-more, row-recorded}
 
 pub record Filled (p : Parts) (rs rows : List ℕ) (j new : ℕ) (r : List ℕ) : Type 0 where

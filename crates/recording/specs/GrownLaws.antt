@@ -1,6 +1,5 @@
 -- How a store grows by the new splits of a tree, a split at a time. Assumes nothing.
 --
---   numbers-same, size-same, head-after     the opening says the numbers and the size, and with the rooms that the head is in order
 --   grown-none                  at first nothing has grown
 --   grown-head                  the head stays in order
 --   grown-old                   a split that the store has changes nothing
@@ -15,55 +14,26 @@ use mathlib.Core.List.{List, [], _∷_, _++_, append-assoc, append-nil}
 use lib.ListN.{length, getD, length-append}
 use Rattle.trees.specs.Plain.{every, member}
 use Rattle.trees.specs.Mask.{proper}
-use Rattle.trees.specs.Hash.{place, identifier}
-use Rattle.trees.specs.Opening.{Numbers, Opening, storeSize}
-use Rattle.trees.specs.Whole.{goodOpening, goodTree}
+use Rattle.trees.specs.Hash.{identifier}
+use Rattle.trees.specs.Whole.{goodTree}
 use Rattle.theorems.specs.ListLaws.{and-left, and-right, Mem, mem-cases, member-not, every-at, mem-getD}
+use Rattle.theorems.specs.LackingLaws.{lacking-mem}
 use Rattle.theorems.specs.OpeningLaws.{good-opening}
 use Rattle.theorems.specs.RisingLaws.{rising-true}
 use Rattle.records.specs.Records.{masksOf}
 use Rattle.records.specs.RecordLaws.{masks-length, masks-at}
 use Rattle.head.specs.Head.{numbersAt, secondAt, openingAt}
-use Rattle.layout.specs.Store.{sizeAt, Parts, partsAt, treesHeldAt, splitsHeldAt, masksAt}
+use Rattle.layout.specs.Store.{Parts, partsAt, splitsHeldAt, masksAt}
 use Rattle.layout.specs.WholeStore.{wholeAt, placeIn}
 use Rattle.layout.specs.WholeFacts.{HeadAt, whole-at-facts}
 use Rattle.layout.specs.Sound.{Sound, whole-sound}
 use Rattle.layout.specs.UpToLaws.{mem-at, rising-at}
 use Rattle.layout.specs.OrderLaws.{masks-mem}
+use Rattle.layout.specs.OpeningKeptLaws.{numbers-held, first-held, second-held, size-held, head-held}
 use Rattle.recording.specs.Added.{Added, withSplit}
 use Rattle.recording.specs.SplitSoundLaws.{split-sound, split-held}
 use Rattle.recording.specs.Recording.{SplitsOf, newIn, RowsOf, Grown}
-use Rattle.recording.specs.NewLaws.{mask-mem, mem-mask, new-none, new-old, new-next, new-mem, new-within, row-recorded, row-known, row-unknown}
-
--- ---- what the opening says
-
-module _ (s u : List ℕ) (e : openingAt u ≡ openingAt s) where
-  pub numbers-same : numbersAt u ≡ numbersAt s
-  unfolding openingAt
-  numbers-same = ap (λ (o : Opening). o .numbers) e
-
-  pub size-same : sizeAt u ≡ sizeAt s
-  unfolding sizeAt
-  size-same = ap storeSize numbers-same
-
-  place-same : (m : ℕ) → placeIn u m ≡ placeIn s m
-  unfolding openingAt
-  place-same m = ap (λ (o : Opening). place (o .first) (o .numbers .places) m) e
-
-  identifier-same : (m : ℕ) → identifier (secondAt u) m ≡ identifier (secondAt s) m
-  unfolding openingAt
-  identifier-same m = ap (λ (o : Opening). identifier (o .second) m) e
-
-  pub head-after : HeadAt s → length u ≡ length s → treesHeldAt u ≤ numbersAt s .treeRoom → splitsHeldAt u ≤ numbersAt s .splitRoom → HeadAt u
-  head-after h l a b = record {
-    head-there = omega (arith, h .head-there);
-    opening-good = ap goodOpening e ∙ h .opening-good;
-    reached = omega (arith, h .reached, size-same);
-    trees-fit = rw numbers-same a;
-    splits-fit = rw numbers-same b;
-  }
-
--- ---- behind the first j splits
+use Rattle.recording.specs.NewLaws.{mask-mem, mem-mask, new-none, new-old, new-next, new-within, row-recorded, row-known, row-unknown}
 
 module _ (s : List ℕ) (whole : wholeAt s ≡ true) (n : ℕ) (rs : List ℕ) where
   abbrev new : ℕ → List ℕ
@@ -87,7 +57,7 @@ module _ (s : List ℕ) (whole : wholeAt s ≡ true) (n : ℕ) (rs : List ℕ) w
     pub grown-head : j ≤ n → HeadAt u
     grown-head b =
         let h = whole-at-facts s whole .head in
-        head-after s u (g .opening) h (g .size) (omega (arith, ap length (g .lists), h .trees-fit)) (omega (arith, grown-number, room, new-within (partsAt s) rs (n - j) j n (omega arith)))
+        head-held s u (g .opening) h (g .size) (omega (arith, ap length (g .lists), h .trees-fit)) (omega (arith, grown-number, room, new-within (partsAt s) rs (n - j) j n (omega arith)))
 
     module _ (t : SplitsOf s n rs) (rows : List ℕ) (r : RowsOf (partsAt s) n rs rows) (h : j < n) where
       abbrev next : ℕ
@@ -103,14 +73,13 @@ module _ (s : List ℕ) (whole : wholeAt s ≡ true) (n : ℕ) (rs : List ℕ) w
         next-proper : proper (numbersAt u .taxa) next ≡ true
         unfolding goodTree
         next-proper =
-            ap (λ (x : Numbers). proper (x .taxa) next) (numbers-same s u (g .opening))
-            ∙ every-at (proper (numbersAt s .taxa)) (masksOf n rs) (and-left _ _ (t .good)) next (mask-mem n rs j h)
+            rw (numbers-held s u (g .opening)) (every-at (proper (numbersAt s .taxa)) (masksOf n rs) (and-left _ _ (t .good)) next (mask-mem n rs j h))
 
         -- it is none of the splits before it, for a tree's masks rise
         not-before : Mem next (new j) → ⊥
         unfolding goodTree
         not-before q =
-            let i = mem-mask j rs next (new-mem (partsAt s) (masksOf j rs) next q .0) in
+            let i = mem-mask j rs next (lacking-mem (masksAt s) (masksOf j rs) next q .0) in
             let b : i .0 < n = omega (arith, i .1, h) in
             let rise = rising-true (masksOf n rs) (and-left _ _ (and-right (every (proper (numbersAt s .taxa)) (masksOf n rs)) _ (t .good))) in
             omega (arith, rising-at (masksOf n rs) rise (i .0) j (i .1) (omega (arith, masks-length n rs)), masks-at n rs (i .0) b, masks-at n rs j h, i .2)
@@ -137,8 +106,8 @@ module _ (s : List ℕ) (whole : wholeAt s ≡ true) (n : ℕ) (rs : List ℕ) w
             let c = ap length more ∙ length-append (new j) (next ∷ []) in (
               (grown-head (omega arith), g .sound),
               (
-                rw (numbers-same s u (g .opening)) (omega (arith, grown-number, room, a, c)),
-                (next-proper, (next-new, (t .placed j h ∙ sym (place-same s u (g .opening) next), t .identified j h ∙ sym (identifier-same s u (g .opening) next)))),
+                rw (numbers-held s u (g .opening)) (omega (arith, grown-number, room, a, c)),
+                (next-proper, (next-new, (rw (first-held s u (g .opening), numbers-held s u (g .opening)) (t .placed j h), rw (second-held s u (g .opening)) (t .identified j h)))),
               ),
             )
 
@@ -153,5 +122,5 @@ module _ (s : List ℕ) (whole : wholeAt s ≡ true) (n : ℕ) (rs : List ℕ) w
               held = rw (a .opening, a .parts) (split-held (openingAt u) next (partsAt u) (g .sound)) ∙ g .held;
               opening = a .opening ∙ g .opening;
               size = a .size ∙ g .size;
-              behind = λ i q. a .behind i (omega (arith, size-same s u (g .opening))) ∙ g .behind i q;
+              behind = λ i q. a .behind i (omega (arith, size-held s u (g .opening))) ∙ g .behind i q;
             }

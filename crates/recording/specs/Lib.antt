@@ -4,12 +4,10 @@ pub mod Listed
 pub mod ListSoundLaws
 pub mod EnteringLaws
 pub mod Recording
-pub mod Steps
 pub mod RowLaws
 pub mod NumberLaws
 pub mod AddedLaws
 pub mod SplitSoundLaws
-pub mod Rows
 pub mod WalkLaws
 pub mod NewLaws
 pub mod FillLaws

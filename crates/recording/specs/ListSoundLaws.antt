@@ -3,28 +3,23 @@
 --   list-held        what they hold has the tree behind the others
 --   list-counted     each split of the tree counts one more
 --   list-sound       sound parts stay sound
-use Prim.Native.Nat.{ℕ, suc, _+_, _<_, _≤_}
-use native.Mathlib.Omega.{arith}
+use Prim.Native.Nat.{ℕ, _+_, _<_}
 use mathlib.Core.Path.{_≡_, refl, sym, ap, _∙_}
-use mathlib.Core.Logic.{_⊎_, inl, inr}
-use mathlib.Core.Bool.{Bool, true, false}
 use mathlib.Core.List.{List, [], _∷_, _++_, map}
-use lib.ListN.{length-append, List·getD-append}
-use lib.Seq.{take-length, getD-at}
-use Rattle.trees.specs.Plain.{if_then_else_, member}
+use lib.Seq.{take-length}
+use Rattle.trees.specs.Plain.{member}
 use Rattle.trees.specs.Consensus.{count}
 use Rattle.trees.specs.Opening.{Opening}
 use Rattle.trees.specs.Held.{withTree}
-use Rattle.theorems.specs.ListLaws.{less-or-not}
-use Rattle.theorems.specs.RisingLaws.{true-rising}
+use Rattle.theorems.specs.RisingLaws.{rising-true, true-rising}
 use Rattle.head.specs.HeadLaws.{upTo-length, upTo-at}
-use Rattle.layout.specs.Store.{Parts, splitsIn, treesIn, maskIn, countIn, heldIn}
+use Rattle.layout.specs.Store.{Parts, splitsIn, treesIn, maskIn, countIn, listIn, heldIn}
 use Rattle.layout.specs.WholeStore.{listedIn}
 use Rattle.layout.specs.WholeFacts.{ListIn}
 use Rattle.layout.specs.Sound.{Sound}
-use Rattle.layout.specs.UpToLaws.{count-append}
+use Rattle.layout.specs.UpToLaws.{one-more, each-more, count-append, oneIf, one-if}
 use Rattle.layout.specs.HighestLaws.{highest-same}
-use Rattle.recording.specs.Listed.{oneIf, withList, Rows}
+use Rattle.recording.specs.Listed.{withList, Rows}
 
 module _ (rs : List ℕ) (p : Parts) where
   pub list-counted : (k : ℕ) → k < splitsIn p → countIn (withList rs p) k ≡ countIn p k + oneIf (member k rs)
@@ -32,25 +27,16 @@ module _ (rs : List ℕ) (p : Parts) where
   list-counted k h = upTo-at (λ i. countIn p i + oneIf (member i rs)) (splitsIn p) k 0 h
 
   listed-more : (k : ℕ) → listedIn (withList rs p) k (treesIn (withList rs p)) ≡ listedIn p k (treesIn p) + oneIf (member k rs)
-  unfolding listedIn withList oneIf
-  listed-more k = rw (take-length (p .lists ++ rs ∷ []), take-length (p .lists), count-append (p .lists) rs k) (one (member k rs) (count (p .lists) k))
-    where
-      one : (b : Bool) (n : ℕ) → (if b then suc n else n) ≡ n + (if b then 1 else 0)
-      one true n = omega arith
-      one false n = omega arith
+  unfolding listedIn withList
+  listed-more k = rw (take-length (p .lists ++ rs ∷ []), take-length (p .lists), count-append (p .lists) rs k) (one-if (member k rs) (count (p .lists) k))
 
   each-list : Rows p rs → ((i : ℕ) → i < treesIn p → ListIn p i) → (i : ℕ) → i < treesIn (withList rs p) → ListIn (withList rs p) i
   unfolding withList
-  each-list r f i h = go (less-or-not i (treesIn p))
-    where
-      go : (i < treesIn p) ⊎ (treesIn p ≤ i) → ListIn (withList rs p) i
-      go (inl l) =
-          let e = List·getD-append (p .lists) (rs ∷ []) [] i l in
-          let g = f i l in
-          record { few = rw e (g .few); numbers-below = λ k m. g .numbers-below k (rw e at m); tree-rising = rw e (g .tree-rising); agreeing = rw e (g .agreeing) }
-      go (inr l) =
-          let e = getD-at (p .lists) rs [] [] i (omega (arith, length-append (p .lists) (rs ∷ []))) in
-          record { few = rw e (r .few); numbers-below = λ k m. r .below k (rw e at m); tree-rising = rw e (true-rising _ (r .rises)); agreeing = rw e (r .agrees) }
+  each-list r f i h =
+      let old : (j : ℕ) → j < treesIn p → Rows p (listIn p j) =
+      λ j l. let g = f j l in record { few = g .few; below = g .numbers-below; rises = rising-true _ (g .tree-rising); agrees = g .agreeing } in
+      let a = each-more (p .lists) rs [] (treesIn p) refl (λ (j : ℕ) (l : List ℕ). Rows p l) old r i (rw (← one-more (p .lists) rs) h) in
+      record { few = a .few; numbers-below = a .below; tree-rising = true-rising _ (a .rises); agreeing = a .agrees }
 
 module _ (o : Opening) (rs : List ℕ) (p : Parts) where
   pub list-held : heldIn o (withList rs p) ≡ withTree (heldIn o p) (map (maskIn p) rs)

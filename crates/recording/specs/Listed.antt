@@ -1,23 +1,20 @@
 -- A store with one tree more.
 --
---   oneIf b           1 where the test b passes, 0 where it fails
 --   withList rs p     the parts p with one tree more, whose splits stand in the rows rs; each of them counts one more
 --   Rows p rs         rs can be the rows of a tree's splits
 --   Listed s rs t     the lent bytes t are s with that tree
 use Prim.Native.Nat.{ℕ, _+_, _≤_, _<_}
 use mathlib.Core.Path.{_≡_}
-use mathlib.Core.Bool.{Bool, true}
+use mathlib.Core.Bool.{true}
 use mathlib.Core.List.{List, [], _∷_, _++_, map}
 use lib.ListN.{length, getD}
-use Rattle.trees.specs.Plain.{if_then_else_, member}
+use Rattle.trees.specs.Plain.{member}
 use Rattle.trees.specs.Whole.{agreeInPairs}
 use Rattle.theorems.specs.ListLaws.{Mem}
 use Rattle.theorems.specs.RisingLaws.{Rising}
 use Rattle.head.specs.Head.{upTo, openingAt}
 use Rattle.layout.specs.Store.{sizeAt, Parts, partsAt, splitsIn, maskIn, countIn}
-
-unfoldable pub oneIf : Bool → ℕ
-oneIf b = if b then 1 else 0
+use Rattle.layout.specs.UpToLaws.{oneIf}
 
 unfoldable pub withList : List ℕ → Parts → Parts
 withList rs p = record {

@@ -2,7 +2,6 @@
 --
 --   mask-mem, mem-mask          the masks of the records
 --   new-none, new-old, new-next     the new ones of the first masks, a mask at a time
---   new-mem                     each is a mask of the list that is not recorded
 --   new-within                  there are no fewer of more masks
 --   new-most                    and no more than masks
 --   stands-more, stands-new     a mask still stands in its row where there are more behind; a row behind the first is one of those
@@ -10,13 +9,14 @@
 use Prim.Native.Nat.{ℕ, zero, suc, _+_, _-_, _*_, _≤_, _<_}
 use native.Mathlib.Numerals.{add-one}
 use native.Mathlib.Omega.{arith}
-use mathlib.Core.Path.{_≡_, refl, sym, ap, _∙_, subst}
-use mathlib.Core.Bool.{Bool, true, false, not}
+use mathlib.Core.Path.{_≡_, sym, ap, _∙_, subst}
+use mathlib.Core.Bool.{true, false, not}
 use mathlib.Core.List.{List, [], _∷_, _++_}
 use lib.ListN.{length, getD, length-append, List·getD-append}
 use lib.Seq.{getD-append-add}
-use Rattle.trees.specs.Plain.{if_then_else_, keep, member, lacking}
-use Rattle.theorems.specs.ListLaws.{if-true, if-false, Mem, mem-member, keep-mem, keep-most, mem-getD}
+use Rattle.trees.specs.Plain.{member, lacking}
+use Rattle.theorems.specs.ListLaws.{Mem, mem-member, keep-most, mem-getD}
+use Rattle.theorems.specs.LackingLaws.{lacking-append, lacking-none, lacking-old, lacking-new, lacking-mem}
 use Rattle.records.specs.Records.{masksOf}
 use Rattle.records.specs.RecordLaws.{masks-length, masks-at, masks-more}
 use Rattle.layout.specs.Store.{Parts, partsAt, masksIn, splitsHeldAt, maskAt, masksAt}
@@ -39,60 +39,30 @@ module _ (n : ℕ) (rs : List ℕ) where
 
 -- ---- the new ones
 
-keep-last : (t : ℕ → Bool) (l : List ℕ) (x : ℕ) → keep t (l ++ x ∷ []) ≡ (if t x then keep t l ++ x ∷ [] else keep t l)
-unfolding keep
-keep-last t [] x = refl
-keep-last t (y ∷ l) x = go (t y) (t x) (keep-last t l x)
-  where
-    go : (b c : Bool) → keep t (l ++ x ∷ []) ≡ (if c then keep t l ++ x ∷ [] else keep t l)
-        → (if b then y ∷ keep t (l ++ x ∷ []) else keep t (l ++ x ∷ [])) ≡ (if c then (if b then y ∷ keep t l else keep t l) ++ x ∷ [] else if b then y ∷ keep t l else keep t l)
-    go true true e = ap (λ (k : List ℕ). y ∷ k) e
-    go true false e = ap (λ (k : List ℕ). y ∷ k) e
-    go false true e = e
-    go false false e = e
-
 module _ (p : Parts) (rs : List ℕ) where
   pub new-none : newIn p (masksOf 0 rs) ≡ []
-  unfolding newIn lacking keep masksOf
-  new-none = refl
+  unfolding masksOf
+  new-none = lacking-none (masksIn p)
 
-  module _ (j : ℕ) where
-    new-more : newIn p (masksOf (j + 1) rs) ≡ (if not (member (getD rs (3 * j) 0) (masksIn p)) then newIn p (masksOf j rs) ++ getD rs (3 * j) 0 ∷ [] else newIn p (masksOf j rs))
-    unfolding newIn lacking
-    new-more =
-        ap (λ (k : ℕ). newIn p (masksOf k rs)) (add-one j)
-        ∙ ap (newIn p) (masks-more j rs)
-        ∙ keep-last (λ m. not (member m (masksIn p))) (masksOf j rs) (getD rs (3 * j) 0)
+  masks-next : (j : ℕ) → masksOf (j + 1) rs ≡ masksOf j rs ++ getD rs (3 * j) 0 ∷ []
+  masks-next j = rw (add-one j) (masks-more j rs)
 
-    pub new-old : member (getD rs (3 * j) 0) (masksIn p) ≡ true → newIn p (masksOf (j + 1) rs) ≡ newIn p (masksOf j rs)
-    new-old e = new-more ∙ if-false _ _ (ap not e)
+  pub new-old : (j : ℕ) → member (getD rs (3 * j) 0) (masksIn p) ≡ true → newIn p (masksOf (j + 1) rs) ≡ newIn p (masksOf j rs)
+  new-old j e = rw (masks-next j) (lacking-old (masksIn p) (masksOf j rs) (getD rs (3 * j) 0) e)
 
-    pub new-next : member (getD rs (3 * j) 0) (masksIn p) ≡ false → newIn p (masksOf (j + 1) rs) ≡ newIn p (masksOf j rs) ++ getD rs (3 * j) 0 ∷ []
-    new-next e = new-more ∙ if-true _ _ (ap not e)
-
-    new-grows : length (newIn p (masksOf j rs)) ≤ length (newIn p (masksOf (j + 1) rs))
-    new-grows = go (member (getD rs (3 * j) 0) (masksIn p)) refl
-      where
-        go : (b : Bool) → member (getD rs (3 * j) 0) (masksIn p) ≡ b → length (newIn p (masksOf j rs)) ≤ length (newIn p (masksOf (j + 1) rs))
-        go true e = omega (arith, ap length (new-old e))
-        go false e = omega (arith, ap length (new-next e), length-append (newIn p (masksOf j rs)) (getD rs (3 * j) 0 ∷ []))
+  pub new-next : (j : ℕ) → member (getD rs (3 * j) 0) (masksIn p) ≡ false → newIn p (masksOf (j + 1) rs) ≡ newIn p (masksOf j rs) ++ getD rs (3 * j) 0 ∷ []
+  new-next j e = rw (masks-next j, lacking-new (masksIn p) (masksOf j rs) [] (getD rs (3 * j) 0) e, lacking-none (masksIn p))
 
   pub new-within : (d j n : ℕ) → j + d ≡ n → length (newIn p (masksOf j rs)) ≤ length (newIn p (masksOf n rs))
   new-within zero j n e = let i : j ≡ n = omega arith in rw i (omega arith)
-  new-within (suc d) j n e = omega (arith, new-grows j, new-within d (j + 1) n (omega arith))
+  new-within (suc d) j n e =
+      let m = getD rs (3 * j) 0 ∷ [] in
+      let more = ap (newIn p) (masks-next j) ∙ lacking-append (masksIn p) (masksOf j rs) m in
+      omega (arith, ap length more, length-append (newIn p (masksOf j rs)) (newIn p m), new-within d (j + 1) n (omega arith))
 
   pub new-most : (n : ℕ) → length (newIn p (masksOf n rs)) ≤ n
-  unfolding newIn lacking
+  unfolding lacking
   new-most n = omega (arith, keep-most (λ m. not (member m (masksIn p))) (masksOf n rs), masks-length n rs)
-
-module _ (p : Parts) where
-  pub new-mem : (l : List ℕ) (m : ℕ) → Mem m (newIn p l) → Mem m l × (member m (masksIn p) ≡ false)
-  unfolding newIn lacking
-  new-mem l m h = let r = keep-mem (λ x. not (member x (masksIn p))) l m h in (r .0, go (member m (masksIn p)) (r .1))
-    where
-      go : (b : Bool) → not b ≡ true → b ≡ false
-      go true e = sym e
-      go false e = refl
 
 -- ---- rows
 
@@ -117,4 +87,4 @@ module _ (s : List ℕ) (whole : wholeAt s ≡ true) where
 
     pub row-unknown : splitsHeldAt s ≤ getD rows j 0 → member (getD rs (3 * j) 0) (masksAt s) ≡ false
     row-unknown a =
-        new-mem (partsAt s) (masksOf n rs) (getD rs (3 * j) 0) (stands-new (partsAt s .masks) (newIn (partsAt s) (masksOf n rs)) (getD rows j 0) (getD rs (3 * j) 0) (r .each j h) a) .1
+        lacking-mem (masksAt s) (masksOf n rs) (getD rs (3 * j) 0) (stands-new (partsAt s .masks) (newIn (partsAt s) (masksOf n rs)) (getD rows j 0) (getD rs (3 * j) 0) (r .each j h) a) .1

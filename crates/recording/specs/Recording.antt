@@ -3,15 +3,16 @@
 --   SplitsOf s n rs      the first n records are those of a tree's splits, with their places and identifiers
 --   newIn p ms           those of the masks ms that are new to the parts p
 --   Stands l k m         the mask m stands in row k of the masks l
+--   FoundAs p m r        the look for the split m in the parts p answers its row, or that it is not recorded
 --   RowsOf p n rs rows   the rows of the first n records' masks, those of new ones behind the others
 --   Grown s ms u         the lent bytes u are s with the new splits ms behind the others, listed by no tree
 --   Accepts a s r t      the verdict a as to room: refused and nothing changed, or the tree recorded
 use Prim.Native.Nat.{ℕ, _+_, _*_, _≤_, _<_}
 use mathlib.Core.Path.{_≡_}
-use mathlib.Core.Bool.{true}
+use mathlib.Core.Bool.{true, false}
 use mathlib.Core.List.{List, _++_}
 use lib.ListN.{length, getD}
-use Rattle.trees.specs.Plain.{lacking, Answer, refused, gives}
+use Rattle.trees.specs.Plain.{member, lacking, Answer, refused, gives}
 use Rattle.trees.specs.Hash.{identifier}
 use Rattle.trees.specs.Held.{withTree, accepted}
 use Rattle.trees.specs.Whole.{goodTree}
@@ -23,6 +24,8 @@ use Rattle.layout.specs.Store.{sizeAt, Parts, partsAt, masksIn, treesHeldAt, he
 use Rattle.layout.specs.WholeStore.{placeIn}
 use Rattle.layout.specs.Sound.{Sound}
 use Rattle.store.specs.Lent.{Holds}
+use Rattle.recording.specs.declared.finding.Found.{Found}
+use Rattle.recording.specs.declared.finding.Found.the-variants.{Row, Nothing}
 
 pub record SplitsOf (s : List ℕ) (n : ℕ) (rs : List ℕ) : Type 0 where
   pub few : n ≤ 62
@@ -31,12 +34,15 @@ pub record SplitsOf (s : List ℕ) (n : ℕ) (rs : List ℕ) : Type 0 where
   pub placed : (j : ℕ) → j < n → getD rs (3 * j + 1) 0 ≡ placeIn s (getD rs (3 * j) 0)
   pub identified : (j : ℕ) → j < n → getD rs (3 * j + 2) 0 ≡ identifier (secondAt s) (getD rs (3 * j) 0)
 
-unfoldable pub newIn : Parts → List ℕ → List ℕ
-unfolding lacking
+abbrev pub newIn : Parts → List ℕ → List ℕ
 newIn p ms = lacking ms (masksIn p)
 
 abbrev pub Stands : List ℕ → ℕ → ℕ → Type 0
 Stands l k m = (k < length l) × (getD l k 0 ≡ m)
+
+unfoldable pub FoundAs : Parts → ℕ → Found → Type 0
+FoundAs p m (Row k) = Stands (p .masks) k m
+FoundAs p m Nothing = member m (masksIn p) ≡ false
 
 pub record RowsOf (p : Parts) (n : ℕ) (rs rows : List ℕ) : Type 0 where
   pub reach : n ≤ length rows

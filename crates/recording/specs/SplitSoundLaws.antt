@@ -6,45 +6,30 @@
 --   split-sound      they are sound
 use Prim.Native.Nat.{ℕ, zero, suc, _≤_, _<_}
 use native.Mathlib.Nat.{mod-lt}
-use native.Mathlib.Numerals.{add-one}
 use native.Mathlib.Omega.{arith}
-use mathlib.Core.Path.{_≡_, refl, sym, ap, ap₂, _∙_, subst}
+use mathlib.Core.Path.{_≡_, refl, sym, ap, _∙_}
 use mathlib.Core.Logic.{_⊎_, inl, inr}
-use mathlib.Core.Bool.{Bool, true, false}
+use mathlib.Core.Bool.{true, false}
 use mathlib.Core.List.{List, [], _∷_, _++_, map}
-use lib.Dec.{eqb}
-use lib.ListN.{length, getD, set, length-append, length-set, length-map, List·getD-append, List·getD-map}
+use lib.ListN.{getD, set, length-set, length-map, List·getD-append, List·getD-map}
 use lib.Seq.{ext-getD, getD-at, getD-set-same, getD-set-other}
-use borrow.Author.Tests.{eqb-true, eqb-false}
-use Rattle.trees.specs.Plain.{if_then_else_, member}
+use Rattle.trees.specs.Plain.{member}
 use Rattle.trees.specs.Mask.{proper}
 use Rattle.trees.specs.Hash.{place, identifier}
 use Rattle.trees.specs.Opening.{Opening}
 use Rattle.trees.specs.Splits.{insert}
-use Rattle.theorems.specs.ListLaws.{if-false, Mem, member-not, not-member, every-at, every-intro, less-or-not, mem-getD}
+use Rattle.theorems.specs.ListLaws.{equal-or-not, if-false, Mem, member-not, not-member, every-at, every-intro, mem-getD, map-same}
 use Rattle.theorems.specs.RisingLaws.{rising-true, true-rising, insert-mem, insert-rising}
 use Rattle.layout.specs.Store.{Parts, splitsIn, treesIn, maskIn, identifierIn, countIn, linkIn, startIn, orderIn, masksIn, listIn, treeIn, heldIn}
 use Rattle.layout.specs.StoreLaws.{Shaped}
 use Rattle.layout.specs.WholeStore.{listedIn, highestIn}
 use Rattle.layout.specs.WholeFacts.{SplitsIn, ListIn, ChainsIn}
 use Rattle.layout.specs.Sound.{Sound}
-use Rattle.layout.specs.UpToLaws.{mem-at, listed-nil, listed-next}
+use Rattle.layout.specs.UpToLaws.{one-more, each-more, listed-nil, listed-next}
+use Rattle.layout.specs.HighestLaws.{highest-same, highest-here, highest-lower}
+use Rattle.layout.specs.OrderLaws.{row-below}
 use Rattle.recording.specs.Added.{insertRow, withSplit}
-use Rattle.recording.specs.RowLaws.{map-same, row-mem, row-length, row-masks}
-
--- ---- a column with one more
-
-one-more : (l : List ℕ) (x : ℕ) → length (l ++ x ∷ []) ≡ suc (length l)
-one-more l x = length-append l (x ∷ []) ∙ add-one (length l)
-
--- what holds of each row and its value, and of row n and the new value, holds of all
-each-row : (l : List ℕ) (x n : ℕ) → length l ≡ n → (P : ℕ → ℕ → Type 0) → ((j : ℕ) → j < n → P j (getD l j 0)) → P n x
-    → (j : ℕ) → j < suc n → P j (getD (l ++ x ∷ []) j 0)
-each-row l x n e P f g j h = go (less-or-not j n)
-  where
-    go : (j < n) ⊎ (n ≤ j) → P j (getD (l ++ x ∷ []) j 0)
-    go (inl b) = rw (List·getD-append l (x ∷ []) 0 j (omega arith)) (f j b)
-    go (inr b) = let d : j ≡ n = omega arith in rw (d, getD-at l x [] 0 n e) g
+use Rattle.recording.specs.RowLaws.{row-mem, row-length, row-masks}
 
 module _ (o : Opening) (m : ℕ) (p : Parts) (f : Sound o p) where
   abbrev new : Parts
@@ -64,11 +49,6 @@ module _ (o : Opening) (m : ℕ) (p : Parts) (f : Sound o p) where
   unfolding withSplit
   mask-new = getD-at (p .masks) m [] 0 _ refl
 
-  row-below : (r : ℕ) → Mem r (p .order) → r < splitsIn p
-  row-below r h =
-      let a = mem-at (p .order) r h in
-      subst (λ (x : ℕ). x < splitsIn p) (a .2) (f .splits .rows-below (a .0) (omega (arith, a .1, f .shaped .order)))
-
   tree-same : (i : ℕ) → i < treesIn p → map (maskIn new) (listIn p i) ≡ treeIn p i
   tree-same i h = map-same (maskIn new) (maskIn p) (listIn p i) (λ k q. mask-old k (f .lists i h .numbers-below k q))
 
@@ -87,7 +67,7 @@ module _ (o : Opening) (m : ℕ) (p : Parts) (f : Sound o p) where
   pub split-masks : member m (masksIn p) ≡ false → masksIn new ≡ insert m (masksIn p)
   unfolding withSplit
   split-masks other =
-      row-masks (maskIn p) m (splitsIn p) (maskIn new) mask-new (p .order) (λ r h. mask-old r (row-below r h)) (not-member m (masksIn p) other)
+      row-masks (maskIn p) m (splitsIn p) (maskIn new) mask-new (p .order) (λ r h. mask-old r (row-below p (f .shaped .order) (f .splits) r h)) (not-member m (masksIn p) other)
 
   -- ---- the splits
 
@@ -99,13 +79,13 @@ module _ (o : Opening) (m : ℕ) (p : Parts) (f : Sound o p) where
     where
       below : {r : ℕ} → (r ≡ splitsIn p) ⊎ Mem r (p .order) → r < suc (splitsIn p)
       below (inl e) = omega arith
-      below {r} (inr q) = omega (arith, row-below r q)
+      below {r} (inr q) = omega (arith, row-below p (f .shaped .order) (f .splits) r q)
 
   identifier-new : (j : ℕ) → j < suc (splitsIn p) → identifierIn new j ≡ identifier (o .second) (maskIn new j)
   unfolding withSplit
   identifier-new =
-      each-row (p .identifiers) _ (splitsIn p) (f .shaped .identifiers) (λ (j y : ℕ). y ≡ identifier (o .second) (maskIn new j))
-      (λ j h. f .splits .identifiers j h ∙ ap (identifier (o .second)) (sym (mask-old j h))) (ap (identifier (o .second)) (sym mask-new))
+      each-more (p .identifiers) _ 0 (splitsIn p) (f .shaped .identifiers) (λ (j y : ℕ). y ≡ identifier (o .second) (maskIn new j))
+      (λ j h. rw (mask-old j h) (f .splits .identifiers j h)) (rw mask-new)
 
   splits-new : proper (o .numbers .taxa) m ≡ true → member m (masksIn p) ≡ false → SplitsIn (o .numbers .taxa) (o .second) new
   splits-new good other =
@@ -146,37 +126,33 @@ module _ (o : Opening) (m : ℕ) (p : Parts) (f : Sound o p) where
   count-new : (k : ℕ) → k < suc (splitsIn p) → countIn new k ≡ listedIn new k (treesIn new)
   unfolding withSplit listedIn
   count-new =
-      each-row (p .counts) 0 (splitsIn p) (f .shaped .counts) (λ (k y : ℕ). y ≡ listedIn p k (treesIn p)) (f .counts) (sym (listed-none (treesIn p) (omega arith)))
+      each-more (p .counts) 0 0 (splitsIn p) (f .shaped .counts) (λ (k y : ℕ). y ≡ listedIn p k (treesIn p)) (f .counts) (sym (listed-none (treesIn p) (omega arith)))
 
   -- ---- the chains
 
   abbrev h : ℕ → ℕ
   h = place (o .first) (o .numbers .places)
 
-  high-old : (q n : ℕ) → n ≤ splitsIn p → highestIn h p q n ≡ highestIn h new q n
-  unfolding highestIn
-  high-old q zero l = refl
-  high-old q (suc n) l = ap₂ (λ (y x : ℕ). if eqb (h y) q then suc n else x) (sym (mask-old n l)) (high-old q n (omega arith))
-
-  high-new : (q : ℕ) → (if eqb (h m) q then suc (splitsIn p) else highestIn h p q (splitsIn p)) ≡ highestIn h new q (suc (splitsIn p))
-  unfolding highestIn
-  high-new q = ap₂ (λ (y x : ℕ). if eqb (h y) q then suc (splitsIn p) else x) (sym mask-new) (high-old q (splitsIn p) (omega arith))
+  high-old : (q n : ℕ) → n ≤ splitsIn p → highestIn h new q n ≡ highestIn h p q n
+  high-old q n l = highest-same h p new q n (λ k b. mask-old k (omega arith))
 
   module _ (below : h m < o .numbers .places) where
     link-new : (k : ℕ) → k < suc (splitsIn p) → linkIn new k ≡ highestIn h new (h (maskIn new k)) k
     unfolding withSplit
     link-new =
-        each-row (p .links) _ (splitsIn p) (f .shaped .links) (λ (k y : ℕ). y ≡ highestIn h new (h (maskIn new k)) k)
-        (λ k l. f .chains .links k l ∙ high-old _ k (omega arith) ∙ ap (λ (x : ℕ). highestIn h new (h x) k) (sym (mask-old k l)))
-        (f .chains .starts (h m) below ∙ high-old _ _ (omega arith) ∙ ap (λ (x : ℕ). highestIn h new (h x) (splitsIn p)) (sym mask-new))
+        each-more (p .links) _ 0 (splitsIn p) (f .shaped .links) (λ (k y : ℕ). y ≡ highestIn h new (h (maskIn new k)) k)
+        (λ k l. rw (mask-old k l, high-old (h (maskIn p k)) k (omega arith)) (f .chains .links k l))
+        (rw (mask-new, high-old (h m) (splitsIn p) (omega arith)) (f .chains .starts (h m) below))
 
     start-new : (q : ℕ) → q < o .numbers .places → startIn new q ≡ highestIn h new q (suc (splitsIn p))
     unfolding withSplit
-    start-new q l = go (eqb (h m) q) refl ∙ high-new q
+    start-new q l = go (equal-or-not (h m) q)
       where
-        go : (b : Bool) → eqb (h m) q ≡ b → getD (set (p .starts) (h m) (suc (splitsIn p))) q 0 ≡ (if b then suc (splitsIn p) else highestIn h p q (splitsIn p))
-        go true e = rw (← eqb-true (h m) q e) (getD-set-same (p .starts) (h m) _ 0 (omega (arith, f .shaped .starts, below)))
-        go false e = getD-set-other (p .starts) (h m) q _ 0 (λ d. eqb-false _ _ e (sym d)) ∙ f .chains .starts q l
+        go : (h m ≡ q) ⊎ (h m ≡ q → ⊥) → getD (set (p .starts) (h m) (suc (splitsIn p))) q 0 ≡ highestIn h new q (suc (splitsIn p))
+        go (inl e) = rw (highest-here h new q (splitsIn p) (ap h mask-new ∙ e), ← e) (getD-set-same (p .starts) (h m) _ 0 (omega (arith, f .shaped .starts, below)))
+        go (inr d) =
+            getD-set-other (p .starts) (h m) q _ 0 (λ e. d (sym e)) ∙ f .chains .starts q l
+            ∙ sym (highest-lower h new q (splitsIn p) (λ e. d (ap h (sym mask-new) ∙ e)) ∙ high-old q (splitsIn p) (omega arith))
 
     chains-new : ChainsIn h (o .numbers .places) new
     chains-new = let e = split-number in record { links = λ k l. link-new k (rw e at l); starts = λ q l. rw e (start-new q l) }

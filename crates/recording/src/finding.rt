@@ -7,8 +7,7 @@ ghost use lib.ListN.{length};
 ghost use Rattle.records.specs.Records.{masksOf};
 ghost use Rattle.layout.specs.Store.{partsAt};
 ghost use Rattle.layout.specs.WholeStore.{wholeAt, placeIn};
-ghost use Rattle.recording.specs.Recording.{SplitsOf, newIn, RowsOf};
-ghost use Rattle.recording.specs.Rows.{FoundAs};
+ghost use Rattle.recording.specs.Recording.{SplitsOf, newIn, FoundAs, RowsOf};
 
 // The answer of a look for a split.
 pub enum Found {

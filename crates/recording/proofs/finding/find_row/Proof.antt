@@ -4,7 +4,7 @@ use native.Mathlib.Omega.{arith}
 use mathlib.Core.Path.{sym, _∙_}
 use Rattle.layout.specs.WholeFacts.{whole-at-facts}
 use Rattle.layout.specs.InsideLaws.{place-below}
-use Rattle.recording.specs.Rows.{FoundAs}
+use Rattle.recording.specs.Recording.{FoundAs}
 use Rattle.recording.specs.WalkLaws.{Walk, walk-starts, walk-row, walk-falls, walk-next, walk-ends}
 use Rattle.recording.proofs.finding.find_row.Statement.{statement}
 use Rattle.recording.proofs.finding.find_row.Tie as tie
