@@ -3,12 +3,9 @@
 --   met s p              the splits met along the place p, by their rows
 --   ofPlace s p n        the rows below n whose splits have the place p, the highest first
 --   Falling l            each number is less than the one before
---   lookAt s m e         the split with the mask m that is met first from the entry e: its row, or none
---   look s m             the split with the mask m, along its place
 -- An entry is a row and one more, or 0 at a chain's end. Links fall, so as many steps as the entry is high are enough.
 use Prim.Native.Nat.{ℕ, zero, suc, _<_}
 use mathlib.Core.List.{List, [], _∷_}
-use mathlib.Core.Option.{Option, none, some}
 use lib.Dec.{eqb}
 use Rattle.trees.specs.Plain.{if_then_else_}
 use Rattle.trees.specs.Hash.{place}
@@ -40,19 +37,3 @@ ofPlace s p (suc k) = if eqb (placeIn s (maskAt s k)) p then k ∷ ofPlace s p k
 abbrev pub Falling : List ℕ → Type 0
 Falling [] = Unit {0}
 Falling (x ∷ l) = ((y : ℕ) → Mem y l → y < x) × Falling l
-
--- ---- the first with a mask
-
--- in at most f steps from an entry
-unfoldable pub lookFrom : List ℕ → ℕ → ℕ → ℕ → Option ℕ
-lookFrom s m zero e = none
-lookFrom s m (suc f) zero = none
-lookFrom s m (suc f) (suc k) = if eqb (maskAt s k) m then some k else lookFrom s m f (linkAt s k)
-
-unfoldable pub lookAt : List ℕ → ℕ → ℕ → Option ℕ
-unfolding lookFrom
-lookAt s m e = lookFrom s m e e
-
-unfoldable pub look : List ℕ → ℕ → Option ℕ
-unfolding lookAt place firstAt numbersAt
-look s m = lookAt s m (startAt s (placeIn s m))
