@@ -3,5 +3,4 @@ pub mod Lanes
 pub mod LaneLaws
 pub mod LaneChangeLaws
 pub mod LaneWritingLaws
-pub mod BlankLaws
 pub mod ClosingLaws

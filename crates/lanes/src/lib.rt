@@ -93,32 +93,16 @@ pub fn closing_answer(s: &[u8], l: Lane) -> Finish
     Finish::Done
 }
 
-// Whether every byte of the text is a blank.
-fn all_blanks(text: &[u8]) -> bool
-    ensures { λ r. ⌜ r ≡ every isBlank (now (text .entry)) ⌝ }
+// Whether every byte is a blank.
+fn all_blanks(bytes: &[u8]) -> bool
+    ensures { λ r. ⌜ r ≡ every isBlank (now (bytes .entry)) ⌝ }
 {
     let mut i = 0;
-    while i < text.len() {
-        if !is_blank(text[i]) {
+    while i < bytes.len() {
+        if !text::is_blank(bytes[i]) {
             return false;
         }
         i += 1;
     }
     true
-}
-
-// Whether b is a blank: a space, a tab, CR or LF.
-fn is_blank(b: u8) -> bool
-    ensures { λ r. ⌜ r ≡ isBlank b ⌝ }
-{
-    if b == 32 {
-        return true;
-    }
-    if b == 9 {
-        return true;
-    }
-    if b == 13 {
-        return true;
-    }
-    b == 10
 }

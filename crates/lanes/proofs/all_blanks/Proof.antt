@@ -11,25 +11,25 @@ use Rattle.lanes.proofs.all_blanks.Statement.{statement}
 use Rattle.lanes.proofs.all_blanks.Tie as tie
 
 abbrev Inv-loop : tie.InvT-loop
-Inv-loop text i₀ i = (i ≤ length text) × (every isBlank text ≡ every isBlank (drop i text))
+Inv-loop bytes i₀ i = (i ≤ length bytes) × (every isBlank bytes ≡ every isBlank (drop i bytes))
 
 abbrev μ-loop : tie.MeasureT-loop
-μ-loop text i₀ i = length text - i
+μ-loop bytes i₀ i = length bytes - i
 
 returns : tie.Need-returns Inv-loop μ-loop
 returns c =
     let k = c .before .before .before .before in
     let l = k .loop in
-    sym (l .inv .1 ∙ every-not isBlank (k .before .before .args .text .now) 0 (l .i) (omega arith) (failed _ _ (c .before .is-blank .ensures) (c .if1 .taken)))
+    sym (l .inv .1 ∙ every-not isBlank (k .before .before .args .bytes .now) 0 (l .i) (omega arith) (failed _ _ (c .before .is-blank .ensures .0) (c .if1 .taken)))
 
 loop-again : tie.Need-loop-again Inv-loop μ-loop
 loop-again c =
     let k = c .before .before .before .before in
     let l = k .loop in
-    (omega arith, l .inv .1 ∙ every-more isBlank (k .before .before .args .text .now) 0 (l .i) (omega arith) (passed _ _ (c .before .is-blank .ensures) (c .if1 .left)))
+    (omega arith, l .inv .1 ∙ every-more isBlank (k .before .before .args .bytes .now) 0 (l .i) (omega arith) (passed _ _ (c .before .is-blank .ensures .0) (c .if1 .left)))
 
 returns-2 : tie.Need-returns-2 Inv-loop μ-loop
-returns-2 c = let l = c .before .loop in sym (l .inv .1 ∙ every-none isBlank (c .before .before .before .args .text .now) 0 (l .i) (omega arith))
+returns-2 c = let l = c .before .loop in sym (l .inv .1 ∙ every-none isBlank (c .before .before .before .args .bytes .now) 0 (l .i) (omega arith))
 
 pub all-blanks-spec : {M : Type 1} → statement M
 all-blanks-spec =
