@@ -38,7 +38,7 @@ use Rattle.layout.specs.OpeningKeptLaws.{numbers-held, size-held}
 use Rattle.store.specs.RecordedAtLaws.{trees-length, recorded-at, recorded-length}
 use Rattle.store.specs.HeldWholeLaws.{held-numbers}
 use Rattle.store.specs.Lent.{Holds}
-use Rattle.recording.specs.Listed.{withList, Rows, Listed}
+use Rattle.recording.specs.Added.{withList, Rows, Listed}
 use Rattle.recording.specs.ListSoundLaws.{list-counted, list-sound, list-held}
 use Rattle.recording.specs.Recording.{SplitsOf, newIn, Stands, RowsOf, Grown, Accepts}
 use Rattle.recording.specs.NewLaws.{mem-mask, stands-new}

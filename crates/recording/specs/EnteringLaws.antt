@@ -33,7 +33,7 @@ use Rattle.layout.specs.Sound.{Sound}
 use Rattle.layout.specs.UpToLaws.{mem-map, oneIf, listed-most}
 use Rattle.layout.specs.InsideLaws.{ranges}
 use Rattle.layout.specs.KeptLaws.{Kept, number-kept, lists-kept, lengths-kept, texts-kept, numbers-kept, opening-kept}
-use Rattle.recording.specs.Listed.{withList, Rows, Listed}
+use Rattle.recording.specs.Added.{withList, Rows, Listed}
 
 -- ---- where things lie
 

@@ -19,7 +19,7 @@ use Rattle.layout.specs.WholeFacts.{ListIn}
 use Rattle.layout.specs.Sound.{Sound}
 use Rattle.layout.specs.UpToLaws.{one-more, each-more, count-append, oneIf, one-if}
 use Rattle.layout.specs.HighestLaws.{highest-same}
-use Rattle.recording.specs.Listed.{withList, Rows}
+use Rattle.recording.specs.Added.{withList, Rows}
 
 module _ (rs : List ℕ) (p : Parts) where
   pub list-counted : (k : ℕ) → k < splitsIn p → countIn (withList rs p) k ≡ countIn p k + oneIf (member k rs)
