@@ -7,7 +7,7 @@
 use Prim.Native.Nat.{ℕ, _+_, _*_, _≤_, _<_}
 use native.Mathlib.Omega.{arith}
 use mathlib.Core.Path.{_≡_, refl, sym, ap, _∙_}
-use mathlib.Core.Logic.{_⊎_, inl, inr}
+use mathlib.Core.Logic.{⊎-elim}
 use mathlib.Core.Bool.{true, false}
 use mathlib.Core.List.{List, [], _∷_, _++_, append-assoc}
 use lib.ListN.{length, getD, set, length-append, length-set}
@@ -40,11 +40,8 @@ filled-all p rs rows n new r h f = record { reach = omega (arith, f .same-length
 -- the row k of the next mask, among the masks l
 next-each : (rs r l : List ℕ) (j k : ℕ) → j < length r → ((i : ℕ) → i < j → Stands l (getD r i 0) (getD rs (3 * i) 0)) → Stands l k (getD rs (3 * j) 0)
     → (i : ℕ) → i < j + 1 → Stands l (getD (set r j k) i 0) (getD rs (3 * i) 0)
-next-each rs r l j k b f g i h = go (less-or-not i j)
-  where
-    go : (i < j) ⊎ (j ≤ i) → Stands l (getD (set r j k) i 0) (getD rs (3 * i) 0)
-    go (inl a) = rw (getD-set-other r j i k 0 (λ e. omega arith)) (f i a)
-    go (inr a) = let e : i ≡ j = omega arith in rw (e, getD-set-same r j k 0 b) g
+next-each rs r l j k b f g i h =
+    ⊎-elim (λ a. rw (getD-set-other r j i k 0 (λ e. omega arith)) (f i a)) (λ a. let e : i ≡ j = omega arith in rw (e, getD-set-same r j k 0 b) g) (less-or-not i j)
 
 module _ (s : List ℕ) (whole : wholeAt s ≡ true) (rs rows : List ℕ) (j new : ℕ) (r : List ℕ) (f : Filled (partsAt s) rs rows j new r) (b : j < length rows)
     (x : Found) (d : FoundAs (partsAt s) (getD rs (3 * j) 0) x) (new′ : ℕ) (u : List ℕ) where

@@ -8,7 +8,7 @@
 use Prim.Native.Nat.{ℕ, _+_, _-_, _*_, _≤_, _<_}
 use native.Mathlib.Omega.{arith}
 use mathlib.Core.Path.{_≡_, refl, sym, ap, _∙_, subst}
-use mathlib.Core.Logic.{_⊎_, inl, inr}
+use mathlib.Core.Logic.{⊎-elim}
 use mathlib.Core.Bool.{true, false, true≢false}
 use mathlib.Core.List.{List, [], _∷_, _++_, append-assoc, append-nil}
 use lib.ListN.{length, getD, length-append}
@@ -88,13 +88,12 @@ module _ (s : List ℕ) (whole : wholeAt s ≡ true) (n : ℕ) (rs : List ℕ) w
         next-new =
             member-not next (masksAt u) (λ q.
             let k = masks-mem (partsAt u) (g .sound .shaped .order) (g .sound .splits) next q in
-            go (mem-cases next (partsAt s .masks) (new j) (subst (Mem next) (g .masks) (rw (k .2) (mem-getD (partsAt u .masks) (k .0) (k .1))))))
+            ⊎-elim old not-before (mem-cases next (partsAt s .masks) (new j) (subst (Mem next) (g .masks) (rw (k .2) (mem-getD (partsAt u .masks) (k .0) (k .1))))))
           where
-            go : Mem next (partsAt s .masks) ⊎ Mem next (new j) → ⊥
-            go (inl q) =
+            old : Mem next (partsAt s .masks) → ⊥
+            old q =
                 let i = mem-at (partsAt s .masks) next q in
                 true≢false (sym (row-recorded s whole (i .0) next (i .1) (i .2)) ∙ row-unknown s whole n rs rows r j h b)
-            go (inr q) = not-before q
 
         pub next-asks : (HeadAt u × Sound (openingAt u) (partsAt u))
             × ((splitsHeldAt u < numbersAt u .splitRoom)

@@ -4,7 +4,6 @@ pub mod ListSoundLaws
 pub mod EnteringLaws
 pub mod Recording
 pub mod RowLaws
-pub mod NumberLaws
 pub mod AddedLaws
 pub mod SplitSoundLaws
 pub mod WalkLaws

@@ -8,9 +8,9 @@ use Prim.Native.Nat.{ℕ, zero, suc, _≤_, _<_}
 use native.Mathlib.Nat.{mod-lt}
 use native.Mathlib.Omega.{arith}
 use mathlib.Core.Path.{_≡_, refl, sym, ap, _∙_}
-use mathlib.Core.Logic.{_⊎_, inl, inr}
+use mathlib.Core.Logic.{_⊎_, inl, inr, ⊎-elim}
 use mathlib.Core.Bool.{true, false}
-use mathlib.Core.List.{List, [], _∷_, _++_, map}
+use mathlib.Core.List.{[], map}
 use lib.ListN.{getD, set, length-set, length-map, List·getD-append, List·getD-map}
 use lib.Seq.{ext-getD, getD-at, getD-set-same, getD-set-other}
 use Rattle.trees.specs.Plain.{member}
@@ -75,11 +75,8 @@ module _ (o : Opening) (m : ℕ) (p : Parts) (f : Sound o p) where
   unfolding withSplit
   row-new j h =
       let l = row-length (maskIn p) m (splitsIn p) (p .order) in
-      below (row-mem (maskIn p) m (splitsIn p) (p .order) _ (mem-getD (insertRow (maskIn p) m (splitsIn p) (p .order)) j (omega (arith, l, f .shaped .order))))
-    where
-      below : {r : ℕ} → (r ≡ splitsIn p) ⊎ Mem r (p .order) → r < suc (splitsIn p)
-      below (inl e) = omega arith
-      below {r} (inr q) = omega (arith, row-below p (f .shaped .order) (f .splits) r q)
+      ⊎-elim (λ e. omega arith) (λ q. omega (arith, row-below p (f .shaped .order) (f .splits) _ q))
+      (row-mem (maskIn p) m (splitsIn p) (p .order) _ (mem-getD (insertRow (maskIn p) m (splitsIn p) (p .order)) j (omega (arith, l, f .shaped .order))))
 
   identifier-new : (j : ℕ) → j < suc (splitsIn p) → identifierIn new j ≡ identifier (o .second) (maskIn new j)
   unfolding withSplit
@@ -93,14 +90,12 @@ module _ (o : Opening) (m : ℕ) (p : Parts) (f : Sound o p) where
       let d = split-masks other in
       record {
         rows-below = λ j h. rw e (row-new j (rw e at h));
-        masks-proper = rw d (every-intro (proper (o .numbers .taxa)) (insert m (masksIn p)) (λ y h. each y (insert-mem m (masksIn p) y h)));
+        masks-proper =
+            rw d (every-intro (proper (o .numbers .taxa)) (insert m (masksIn p)) (λ y h.
+            ⊎-elim (λ e. rw e good) (λ q. every-at (proper (o .numbers .taxa)) (masksIn p) (f .splits .masks-proper) y q) (insert-mem m (masksIn p) y h)));
         masks-rising = rw d (true-rising _ (insert-rising m (masksIn p) (rising-true (masksIn p) (f .splits .masks-rising))));
         identifiers = λ j h. identifier-new j (rw e at h);
       }
-    where
-      each : (y : ℕ) → (y ≡ m) ⊎ Mem y (masksIn p) → proper (o .numbers .taxa) y ≡ true
-      each y (inl e) = rw e good
-      each y (inr q) = every-at (proper (o .numbers .taxa)) (masksIn p) (f .splits .masks-proper) y q
 
   -- ---- the trees, and how many list each split
 
