@@ -41,8 +41,7 @@ list-tree-requires : tie.Need-list-tree-requires
 list-tree-requires c κs =
     let d = c .before .before .before .before .before .before .before .before .before .before .before .before .before .before .before .before .before .before .before .before .before .before .before in
     let f = c .before .before .before .before .before .before .before .before .before .before .before .before .before .find-rows .ensures in
-    let g = c .before .before .before .before .add-new .ensures in
-    (
+    let g = c .before .before .before .before .add-new .ensures in (
       (grown-head _ (d .pre .0) (d .args .n) _ (omega (arith, f .1, c .before .before .before .before .before .before .before .if2 .left)) (d .args .n) _ g (omega arith), g .sound),
       (
         trees-in _ (d .pre .0) _ _ (d .pre .1) (λ e. omega (arith, c .before .before .before .before .before .before .before .before .before .before .before .before .before .before .before .before .if1 .left)) _ (f .0) _ g,
