@@ -8,6 +8,5 @@ pub mod AddedLaws
 pub mod SplitSoundLaws
 pub mod WalkLaws
 pub mod NewLaws
-pub mod FillLaws
 pub mod GrownLaws
 pub mod AcceptLaws

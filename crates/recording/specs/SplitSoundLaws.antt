@@ -23,7 +23,7 @@ use Rattle.theorems.specs.RisingLaws.{rising-true, true-rising, insert-mem, ins
 use Rattle.layout.specs.Store.{Parts, splitsIn, treesIn, maskIn, identifierIn, countIn, linkIn, startIn, orderIn, masksIn, listIn, treeIn, heldIn}
 use Rattle.layout.specs.StoreLaws.{Shaped}
 use Rattle.layout.specs.WholeStore.{listedIn, highestIn}
-use Rattle.layout.specs.WholeFacts.{SplitsIn, ListIn, ChainsIn}
+use Rattle.layout.specs.WholeFacts.{SplitsIn, ListIn}
 use Rattle.layout.specs.Sound.{Sound}
 use Rattle.layout.specs.UpToLaws.{one-more, each-more, listed-nil, listed-next}
 use Rattle.layout.specs.HighestLaws.{highest-same, highest-here, highest-lower}
@@ -149,9 +149,6 @@ module _ (o : Opening) (m : ℕ) (p : Parts) (f : Sound o p) where
             getD-set-other (p .starts) (h m) q _ 0 (λ e. d (sym e)) ∙ f .chains .starts q l
             ∙ sym (highest-lower h new q (splitsIn p) (λ e. d (ap h (sym mask-new) ∙ e)) ∙ high-old q (splitsIn p) (omega arith))
 
-    chains-new : ChainsIn h (o .numbers .places) new
-    chains-new = let e = split-number in record { links = λ k l. link-new k (rw e at l); starts = λ q l. rw e (start-new q l) }
-
   -- ---- all of it
 
   shaped-new : Shaped (o .numbers) new
@@ -171,11 +168,14 @@ module _ (o : Opening) (m : ℕ) (p : Parts) (f : Sound o p) where
 
   pub split-sound : proper (o .numbers .taxa) m ≡ true → member m (masksIn p) ≡ false → 1 ≤ o .numbers .places → Sound o new
   unfolding withSplit place
-  split-sound good other some = record {
-    shaped = shaped-new;
-    splits = splits-new good other;
-    lists = list-new;
-    counts = λ k l. count-new k (rw split-number at l);
-    chains = chains-new (mod-lt _ some);
-    lanes = f .lanes;
-  }
+  split-sound good other some =
+      let e = split-number in
+      let below = mod-lt _ some in
+      record {
+        shaped = shaped-new;
+        splits = splits-new good other;
+        lists = list-new;
+        counts = λ k l. count-new k (rw e at l);
+        chains = record { links = λ k l. link-new below k (rw e at l); starts = λ q l. rw e (start-new below q l) };
+        lanes = f .lanes;
+      }
