@@ -53,7 +53,6 @@ pub room-is : (s : List ℕ) → HeadAt s → treesHeldAt s < numbersAt s .treeR
 room-is s g h =
     let n = numbersAt s in
     let r = ranges s g in
-    let f = g .splits-fit in
     let a = tree-from n (treesHeldAt s) in
     record {
       few = (r .most-taxa, omega (arith, r .most-trees), omega (arith, r .most-splits));

@@ -49,9 +49,8 @@ module _ (o : Opening) (rs : List ℕ) (p : Parts) where
       let a = f .shaped in
       let b = f .splits in
       let c = f .chains in
-      let n = upTo-length _ _ in
       record {
-        shaped = record { identifiers = a .identifiers; counts = n; links = a .links; order = a .order; starts = a .starts; lengths = a .lengths; texts = a .texts };
+        shaped = record { identifiers = a .identifiers; counts = upTo-length _ _; links = a .links; order = a .order; starts = a .starts; lengths = a .lengths; texts = a .texts };
         splits = record { rows-below = b .rows-below; masks-proper = b .masks-proper; masks-rising = b .masks-rising; identifiers = b .identifiers };
         lists = each-list rs p r (f .lists);
         counts = λ k h. list-counted rs p k h ∙ rw (f .counts k h) (sym (listed-more rs p k));

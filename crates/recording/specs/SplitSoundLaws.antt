@@ -1,7 +1,5 @@
 -- Parts with one split more are sound, and hold what they held. Assumes nothing.
 --
---   split-number     there is one split more
---   split-masks      their masks are the masks with the new one
 --   split-held       nothing that is held changes
 --   split-sound      they are sound
 use Prim.Native.Nat.{ℕ, zero, suc, _≤_, _<_}
@@ -35,7 +33,7 @@ module _ (o : Opening) (m : ℕ) (p : Parts) (f : Sound o p) where
   abbrev new : Parts
   new = withSplit o m p
 
-  pub split-number : splitsIn new ≡ suc (splitsIn p)
+  split-number : splitsIn new ≡ suc (splitsIn p)
   unfolding withSplit
   split-number = one-more (p .masks) m
 
@@ -64,7 +62,7 @@ module _ (o : Opening) (m : ℕ) (p : Parts) (f : Sound o p) where
       List·getD-map F (p .lists) i [] ∙ tree-same i (omega (arith, length-map (p .lists) F)) ∙ sym (List·getD-map G (p .lists) i [])) in
       rw e
 
-  pub split-masks : member m (masksIn p) ≡ false → masksIn new ≡ insert m (masksIn p)
+  split-masks : member m (masksIn p) ≡ false → masksIn new ≡ insert m (masksIn p)
   unfolding withSplit
   split-masks other =
       row-masks (maskIn p) m (splitsIn p) (maskIn new) mask-new (p .order) (λ r h. mask-old r (row-below p (f .shaped .order) (f .splits) r h)) (not-member m (masksIn p) other)
