@@ -9,12 +9,12 @@ use native.Mathlib.Omega.{arith}
 use mathlib.Core.Path.{_≡_, refl, sym, ap, ap₂, _∙_, subst}
 use mathlib.Core.Logic.{_⊎_, inl, inr}
 use mathlib.Core.Bool.{true}
-use mathlib.Core.List.{List, [], _∷_, _++_, map}
+use mathlib.Core.List.{List, _++_, map}
 use lib.Dec.{ltb, eqb}
 use lib.ListN.{length, getD, take}
 use lib.Seq.{length-take-le, getD-take, ext-getD}
 use borrow.Author.Tests.{lt-ltb, le-ltb, eq-eqb, ne-eqb}
-use Rattle.trees.specs.Plain.{if_then_else_, every, member, lacking, Answer, refused, gives}
+use Rattle.trees.specs.Plain.{if_then_else_, every, lacking, Answer, refused, gives}
 use Rattle.trees.specs.Mask.{proper}
 use Rattle.trees.specs.Consensus.{count}
 use Rattle.trees.specs.Opening.{storeSize}
@@ -28,7 +28,7 @@ use Rattle.answers.specs.Answers.{progressGiven}
 use Rattle.records.specs.Records.{masksOf}
 use Rattle.records.specs.RecordLaws.{masks-length, masks-at}
 use Rattle.head.specs.Head.{numbersAt, openingAt}
-use Rattle.layout.specs.Store.{sizeAt, Parts, partsAt, maskIn, countIn, treesHeldAt, splitsHeldAt, masksAt, heldAt}
+use Rattle.layout.specs.Store.{sizeAt, partsAt, maskIn, countIn, treesHeldAt, splitsHeldAt, masksAt, heldAt}
 use Rattle.layout.specs.WholeStore.{listedIn, wholeAt}
 use Rattle.layout.specs.WholeFacts.{HeadAt, whole-at-facts}
 use Rattle.layout.specs.Sound.{parts-whole}
@@ -38,7 +38,7 @@ use Rattle.layout.specs.OpeningKeptLaws.{numbers-held, size-held}
 use Rattle.store.specs.RecordedAtLaws.{trees-length, recorded-at, recorded-length}
 use Rattle.store.specs.HeldWholeLaws.{held-numbers}
 use Rattle.store.specs.Lent.{Holds}
-use Rattle.recording.specs.Listed.{withList, Rows, Listed}
+use Rattle.recording.specs.Added.{withList, Rows, Listed}
 use Rattle.recording.specs.ListSoundLaws.{list-counted, list-sound, list-held}
 use Rattle.recording.specs.Recording.{SplitsOf, newIn, Stands, RowsOf, Grown, Accepts}
 use Rattle.recording.specs.NewLaws.{mem-mask, stands-new}
@@ -74,11 +74,8 @@ refuses a s r k e q = rw e (q, refl)
 
 module _ (s : List ℕ) (whole : wholeAt s ≡ true) (n : ℕ) (rs : List ℕ) (t : SplitsOf s n rs) (d : treesHeldAt s ≡ numbersAt s .treeRoom → ⊥)
     (rows : List ℕ) (r : RowsOf (partsAt s) n rs rows) (u : List ℕ) (g : Grown s (newIn (partsAt s) (masksOf n rs)) u) where
-  trees : treesHeldAt u ≡ treesHeldAt s
-  trees = ap length (g .lists)
-
   pub trees-in : treesHeldAt u < numbersAt u .treeRoom
-  trees-in = rw (numbers-held s u (g .opening)) (omega (arith, d, trees, whole-at-facts s whole .head .trees-fit))
+  trees-in = rw (numbers-held s u (g .opening)) (omega (arith, d, ap length (g .lists), whole-at-facts s whole .head .trees-fit))
 
   rows-length : length (take n rows) ≡ n
   rows-length = length-take-le n rows (r .reach)

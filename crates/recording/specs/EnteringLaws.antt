@@ -33,7 +33,7 @@ use Rattle.layout.specs.Sound.{Sound}
 use Rattle.layout.specs.UpToLaws.{mem-map, oneIf, listed-most}
 use Rattle.layout.specs.InsideLaws.{ranges}
 use Rattle.layout.specs.KeptLaws.{Kept, number-kept, lists-kept, lengths-kept, texts-kept, numbers-kept, opening-kept}
-use Rattle.recording.specs.Listed.{withList, Rows, Listed}
+use Rattle.recording.specs.Added.{withList, Rows, Listed}
 
 -- ---- where things lie
 
@@ -53,7 +53,6 @@ pub room-is : (s : List ℕ) → HeadAt s → treesHeldAt s < numbersAt s .treeR
 room-is s g h =
     let n = numbersAt s in
     let r = ranges s g in
-    let f = g .splits-fit in
     let a = tree-from n (treesHeldAt s) in
     record {
       few = (r .most-taxa, omega (arith, r .most-trees), omega (arith, r .most-splits));

@@ -5,7 +5,7 @@
 --   list-sound       sound parts stay sound
 use Prim.Native.Nat.{ℕ, _+_, _<_}
 use mathlib.Core.Path.{_≡_, refl, sym, ap, _∙_}
-use mathlib.Core.List.{List, [], _∷_, _++_, map}
+use mathlib.Core.List.{List, [], _∷_, _++_, map, map-append}
 use lib.Seq.{take-length}
 use Rattle.trees.specs.Plain.{member}
 use Rattle.trees.specs.Consensus.{count}
@@ -19,7 +19,7 @@ use Rattle.layout.specs.WholeFacts.{ListIn}
 use Rattle.layout.specs.Sound.{Sound}
 use Rattle.layout.specs.UpToLaws.{one-more, each-more, count-append, oneIf, one-if}
 use Rattle.layout.specs.HighestLaws.{highest-same}
-use Rattle.recording.specs.Listed.{withList, Rows}
+use Rattle.recording.specs.Added.{withList, Rows}
 
 module _ (rs : List ℕ) (p : Parts) where
   pub list-counted : (k : ℕ) → k < splitsIn p → countIn (withList rs p) k ≡ countIn p k + oneIf (member k rs)
@@ -41,11 +41,7 @@ module _ (rs : List ℕ) (p : Parts) where
 module _ (o : Opening) (rs : List ℕ) (p : Parts) where
   pub list-held : heldIn o (withList rs p) ≡ withTree (heldIn o p) (map (maskIn p) rs)
   unfolding heldIn withList withTree
-  list-held i = record { opening = o; trees = trees (p .lists) i; texts = p .texts }
-    where
-      trees : (l : List (List ℕ)) → map (map (maskIn p)) (l ++ rs ∷ []) ≡ map (map (maskIn p)) l ++ map (maskIn p) rs ∷ []
-      trees [] = refl
-      trees (x ∷ l) = ap (λ (k : List (List ℕ)). map (maskIn p) x ∷ k) (trees l)
+  list-held i = record { opening = o; trees = map-append (map (maskIn p)) (p .lists) (rs ∷ []) i; texts = p .texts }
 
   pub list-sound : Sound o p → Rows p rs → Sound o (withList rs p)
   unfolding withList
@@ -53,9 +49,8 @@ module _ (o : Opening) (rs : List ℕ) (p : Parts) where
       let a = f .shaped in
       let b = f .splits in
       let c = f .chains in
-      let n = upTo-length _ _ in
       record {
-        shaped = record { identifiers = a .identifiers; counts = n; links = a .links; order = a .order; starts = a .starts; lengths = a .lengths; texts = a .texts };
+        shaped = record { identifiers = a .identifiers; counts = upTo-length _ _; links = a .links; order = a .order; starts = a .starts; lengths = a .lengths; texts = a .texts };
         splits = record { rows-below = b .rows-below; masks-proper = b .masks-proper; masks-rising = b .masks-rising; identifiers = b .identifiers };
         lists = each-list rs p r (f .lists);
         counts = λ k h. list-counted rs p k h ∙ rw (f .counts k h) (sym (listed-more rs p k));

@@ -1,8 +1,7 @@
 // The tree of a text that was judged: whether there is room for it and for its new splits, and recording it. Whether there is
 // room is known before the first byte is stored.
 //
-// Its contracts cite `specs/Recording.antt`; what one split more and one tree more make of a store's parts stands in `specs/Added.antt`
-// and `specs/Listed.antt`.
+// Its contracts cite `specs/Recording.antt`; what one split more and one tree more make of a store's parts stands in `specs/Added.antt`.
 ghost use mathlib.Core.Path.{_≡_};
 ghost use mathlib.Core.Bool.{true};
 ghost use Prim.Native.Nat.{_+_, _≤_};

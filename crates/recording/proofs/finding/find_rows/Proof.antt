@@ -5,8 +5,7 @@ use mathlib.Core.Logic.{⊎-elim}
 use native.Mathlib.Omega.{arith}
 use Rattle.layout.specs.Store.{partsAt}
 use Rattle.layout.specs.WholeFacts.{whole-at-facts}
-use Rattle.recording.specs.NewLaws.{new-most}
-use Rattle.recording.specs.FillLaws.{Filled, filled-none, filled-found, filled-missing, filled-all}
+use Rattle.recording.specs.NewLaws.{new-most, Filled, filled-none, filled-found, filled-missing, filled-all}
 use Rattle.recording.proofs.finding.find_rows.Statement.{statement}
 use Rattle.recording.proofs.finding.find_rows.Tie as tie
 
