@@ -5,17 +5,18 @@
 --               once
 --   masks       is-within-once, are-apart-once, is-proper-once, count-taxa-once, lowest-taxon-once, comes-before-once, every-taxon-
 --               once, side-once, union-of-once, taxa-without-once, has-taxon-once, only-taxon-once
+--   text        is-blank-once, is-label-byte-once
 --   words       decimal-once
 --   records     mask-of-once, place-of-once, identifier-of-once, insert-record-once, put-record-once
 --   head        taxa-once, lanes-once, tree-room-once, split-room-once, places-once, first-constant-once, second-constant-once, find-
 --               taxon-once
 --   opening     numbers-in-range-once, constants-good-once, names-good-once, is-name-once, same-names-once, store-size-once, write-
 --               head-once
---   layout      trees-held-once, splits-held-once, tree-from-once, masks-from-once, identifiers-from-once, counts-from-once, links-
---               from-once, order-from-once, places-from-once, number16-once
---   rows        row-of-once, mask-at-once, count-at-once, splits-in-once
---   finding     find-rows-once
---   lanes       lane-length-once, closing-answer-once
+--   layout      trees-held-once, splits-held-once, lane-from-once, tree-from-once, masks-from-once, identifiers-from-once, counts-
+--               from-once, links-from-once, order-from-once, places-from-once, number16-once
+--   rows        row-of-once, mask-at-once, identifier-at-once, count-at-once, link-at-once, start-at-once, rows-tree-from-once,
+--               splits-in-once, row-in-once, copy-tree-once
+--   lanes       lane-length-once, text-of-once, closing-answer-once
 --   distances   distances-one-sided-once, distances-doubled-once, write-matrix-once
 --   colliding   collision-number-once
 use mathlib.Core.Path.{_≡_}
@@ -41,6 +42,8 @@ use Rattle.masks.proofs.union_of.Reads as union-of
 use Rattle.masks.proofs.taxa_without.Reads as taxa-without
 use Rattle.masks.proofs.has_taxon.Reads as has-taxon
 use Rattle.masks.proofs.only_taxon.Reads as only-taxon
+use Rattle.text.proofs.is_blank.Reads as is-blank
+use Rattle.text.proofs.is_label_byte.Reads as is-label-byte
 use Rattle.words.proofs.decimal.Reads as decimal
 use Rattle.records.proofs.mask_of.Reads as mask-of
 use Rattle.records.proofs.place_of.Reads as place-of
@@ -64,6 +67,7 @@ use Rattle.opening.proofs.store_size.Reads as store-size
 use Rattle.opening.proofs.write_head.Reads as write-head
 use Rattle.layout.proofs.trees_held.Reads as trees-held
 use Rattle.layout.proofs.splits_held.Reads as splits-held
+use Rattle.layout.proofs.lane_from.Reads as lane-from
 use Rattle.layout.proofs.tree_from.Reads as tree-from
 use Rattle.layout.proofs.masks_from.Reads as masks-from
 use Rattle.layout.proofs.identifiers_from.Reads as identifiers-from
@@ -74,16 +78,22 @@ use Rattle.layout.proofs.places_from.Reads as places-from
 use Rattle.layout.proofs.number16.Reads as number16
 use Rattle.rows.proofs.row_of.Reads as row-of
 use Rattle.rows.proofs.mask_at.Reads as mask-at
+use Rattle.rows.proofs.identifier_at.Reads as identifier-at
 use Rattle.rows.proofs.count_at.Reads as count-at
+use Rattle.rows.proofs.link_at.Reads as link-at
+use Rattle.rows.proofs.start_at.Reads as start-at
+use Rattle.rows.proofs.tree_from.Reads as rows-tree-from
 use Rattle.rows.proofs.splits_in.Reads as splits-in
-use Rattle.finding.proofs.find_rows.Reads as find-rows
+use Rattle.rows.proofs.row_in.Reads as row-in
+use Rattle.rows.proofs.copy_tree.Reads as copy-tree
 use Rattle.lanes.proofs.lane_length.Reads as lane-length
+use Rattle.lanes.proofs.text_of.Reads as text-of
 use Rattle.lanes.proofs.closing_answer.Reads as closing-answer
 use Rattle.distances.proofs.one_sided.Reads as distances-one-sided
 use Rattle.distances.proofs.doubled.Reads as distances-doubled
 use Rattle.distances.proofs.write_matrix.Reads as write-matrix
 use Rattle.colliding.proofs.collision_number.Reads as collision-number
-use Rattle.promises.specs.Once.{Once, AnswerOnce, arg1, arg2, arg5}
+use Rattle.promises.specs.Once.{Once, AnswerOnce, arg1, arg2, arg3}
 use Rattle.promises.specs.Outcomes.{both, finish-both}
 
 -- ---- numbers in bytes, runs of bytes
@@ -153,7 +163,13 @@ has-taxon-once k x q r y z a b = both a b
 pub only-taxon-once : AnswerOnce only-taxon.Post
 only-taxon-once k x q r y z a b = both a b
 
--- ---- words, records
+-- ---- text, words, records
+
+pub is-blank-once : AnswerOnce is-blank.Post
+is-blank-once k x q r y z a b = both (a .0) (b .0)
+
+pub is-label-byte-once : AnswerOnce is-label-byte.Post
+is-label-byte-once k x q r y z a b = both (a .0) (b .0)
 
 pub decimal-once : AnswerOnce decimal.Post
 decimal-once k x q r y z a b = both a b
@@ -230,6 +246,9 @@ trees-held-once k x q r y z a b = both a b
 pub splits-held-once : AnswerOnce splits-held.Post
 splits-held-once k x q r y z a b = both (a .0) (b .0)
 
+pub lane-from-once : AnswerOnce lane-from.Post
+lane-from-once k x q r y z a b = both (a .0) (b .0)
+
 pub tree-from-once : AnswerOnce tree-from.Post
 tree-from-once k x q r y z a b = both (a .0) (b .0)
 
@@ -257,22 +276,40 @@ number16-once k x q r y z a b = both (a .0) (b .0)
 -- ---- rows, lanes
 
 pub row-of-once : AnswerOnce row-of.Post
-row-of-once k x q r y z a b = both (a .0) (b .0)
+row-of-once k x q r y z a b = both a b
 
 pub mask-at-once : AnswerOnce mask-at.Post
 mask-at-once k x q r y z a b = both a b
 
+pub identifier-at-once : AnswerOnce identifier-at.Post
+identifier-at-once k x q r y z a b = both a b
+
 pub count-at-once : AnswerOnce count-at.Post
 count-at-once k x q r y z a b = both a b
+
+pub link-at-once : AnswerOnce link-at.Post
+link-at-once k x q r y z a b = both a b
+
+pub start-at-once : AnswerOnce start-at.Post
+start-at-once k x q r y z a b = both a b
+
+pub rows-tree-from-once : AnswerOnce rows-tree-from.Post
+rows-tree-from-once k x q r y z a b = both (a .0) (b .0)
 
 pub splits-in-once : AnswerOnce splits-in.Post
 splits-in-once k x q r y z a b = both a b
 
-pub find-rows-once : Once find-rows.Post (λ x q r y z. (q ≡ r) × (now (arg5 y) ≡ now (arg5 z)))
-find-rows-once k x q r y z a b = (both (a .1) (b .1), both (a .0) (b .0))
+pub row-in-once : AnswerOnce row-in.Post
+row-in-once k x q r y z a b = both a b
+
+pub copy-tree-once : Once copy-tree.Post (λ x q r y z. now (arg3 y) ≡ now (arg3 z))
+copy-tree-once k x q r y z a b = both a b
 
 pub lane-length-once : AnswerOnce lane-length.Post
 lane-length-once k x q r y z a b = both (a .0) (b .0)
+
+pub text-of-once : Once text-of.Post (λ x q r y z. now q ≡ now r)
+text-of-once k x q r y z a b = both a b
 
 pub closing-answer-once : AnswerOnce closing-answer.Post
 closing-answer-once k x q r y z a b = finish-both q r a b

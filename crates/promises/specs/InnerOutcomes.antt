@@ -5,14 +5,11 @@
 --   build-index-once                          the index of the names, in every entry that is used
 --   judge-once                                the verdict on a text, and the list of records
 --   write-tree-once                           a tree written
---   find-row-once, row-in-once                the row of a split
 use Prim.Native.Nat.{ℕ, _≤_, _<_}
 use native.Mathlib.Omega.{arith}
 use mathlib.Core.Path.{_≡_, refl, sym, ap, subst, _∙_}
 use mathlib.Core.Logic.{⊎-elim}
-use mathlib.Core.Bool.{Bool, true, false, true≢false}
 use mathlib.Core.List.{List, [], _∷_, _++_}
-use mathlib.Core.Option.{Option, none, some}
 use lib.ListN.{length, getD, take, drop, List·getD-append}
 use lib.Seq.{length-take-le, getD-at, getD-take}
 use denote.Ref.{now}
@@ -27,11 +24,6 @@ use Rattle.records.specs.SlotLaws.{insert-taken, mem-at}
 use Rattle.records.specs.declared.Slot.{Slot}
 use Rattle.records.specs.declared.Slot.the-variants.{Free, Taken}
 use Rattle.head.specs.Head.{namesAt}
-use Rattle.layout.specs.WholeFacts.{whole-at-facts}
-use Rattle.layout.specs.OrderLaws.{mask-same}
-use Rattle.finding.specs.Rows.{FoundAs}
-use Rattle.finding.specs.declared.Found.{Found}
-use Rattle.finding.specs.declared.Found.the-variants.{Row, Nothing}
 use Rattle.newick.specs.Judge.{JudgedAs}
 use Rattle.newick.specs.declared.Judged.{Judged}
 use Rattle.newick.specs.declared.Judged.the-variants.{Refused, Splits}
@@ -42,10 +34,9 @@ use Rattle.records.proofs.find_slot.Reads as find-slot
 use Rattle.head.proofs.build_index.Reads as build-index
 use Rattle.newick.proofs.judge.Reads as judge
 use Rattle.writer.proofs.write_tree.Reads as write-tree
-use Rattle.finding.proofs.find_row.Reads as find-row
-use Rattle.rows.proofs.row_in.Reads as row-in
-use Rattle.promises.specs.Once.{Once, OnceIf, AnswerOnce, arg1, arg2, arg3, arg4, arg5}
-use Rattle.promises.specs.Outcomes.{refusal-one, refusalIn, valueOr, gives≢refused, both}
+use Rattle.promises.specs.Once.{Once, OnceIf, arg1, arg2, arg3, arg4, arg5}
+use Rattle.promises.specs.Calls.{refusalIn}
+use Rattle.promises.specs.Outcomes.{refusal-one, valueOr, gives≢refused, both}
 
 -- ---- a rising list
 
@@ -122,27 +113,3 @@ wrote-both t before TooShort TooShort a b x y = (refl, both (x .1) (y .1))
 
 pub write-tree-once : Once write-tree.Post (λ x q r y z. (q ≡ r) × (now (arg4 y) ≡ now (arg4 z)))
 write-tree-once k x q r y z a b = wrote-both _ _ q r _ _ a b
-
--- ---- looking up
-
-isFound : Option ℕ → Bool
-isFound none = false
-isFound (some k) = true
-
-rowOr0 : Option ℕ → ℕ
-rowOr0 none = 0
-rowOr0 (some k) = k
-
-found-both : (s : List ℕ) (m : ℕ) (q r : Found) → FoundAs s m q → FoundAs s m r → q ≡ r
-unfolding FoundAs isFound rowOr0
-found-both s m (Row j) (Row k) a b = ap Row (ap rowOr0 (sym a ∙ b))
-found-both s m (Row j) Nothing a b = absurd (true≢false (ap isFound (sym a ∙ b)))
-found-both s m Nothing (Row k) a b = absurd (true≢false (ap isFound (sym b ∙ a)))
-found-both s m Nothing Nothing a b = refl
-
-pub find-row-once : AnswerOnce find-row.Post
-find-row-once k x q r y z a b = found-both _ _ q r a b
-
--- masks are all different, so the mask gives the row
-pub row-in-once : OnceIf row-in.Pre row-in.Post (λ x q r y z. q ≡ r)
-row-in-once k x q r y z p a b = mask-same _ (whole-at-facts _ (p .0) .splits) q r (a .1) (b .1) (both (a .0) (b .0))

@@ -3,12 +3,12 @@
 pub mod Calls
 pub mod Steps
 pub mod BatchLaws
+pub mod Once
+pub mod Outcomes
 pub mod StepLaws
 pub mod RunLaws
-pub mod Once
 pub mod QuietStepLaws
 pub mod ReadBackCallLaws
-pub mod Outcomes
 pub mod EntryOutcomes
 pub mod BatchOutcomes
 pub mod SheetOutcomes

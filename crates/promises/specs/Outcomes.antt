@@ -2,7 +2,7 @@
 -- Assumes nothing.
 --
 --   refusal-one, finish-one, number-one, split-one, progress-one     answers that mean the same are the same
---   refusalIn, valueOr, gives≢refused     the parts of an answer
+--   valueOr, gives≢refused                the parts of an answer
 --   both                                  two that are equal to a third
 --   finish-both, number-both              two answers that mean the same third
 --   holds-both                            two lent bytes that a promise lets hold the same
@@ -33,6 +33,7 @@ use Rattle.head.specs.Head.{openingAt}
 use Rattle.layout.specs.Store.{sizeAt, heldAt, heldIn}
 use Rattle.store.specs.Lent.{Holds}
 use Rattle.feeding.specs.Feeding.{SameOutside}
+use Rattle.promises.specs.Calls.{refusalIn}
 use Rattle.promises.specs.Once.{SameStore}
 
 -- ---- answers
@@ -75,11 +76,7 @@ numbered why.NoTrees = refl
 pub refusal-one : (a b : Refusal) → refusalNumber a ≡ refusalNumber b → a ≡ b
 refusal-one a b e = sym (numbered a) ∙ ap refusalOf e ∙ numbered b
 
--- what an answer refuses with, and what it gives; 0 and x otherwise
-unfoldable pub refusalIn : {A : Type 0} → Answer A → ℕ
-refusalIn (refused k) = k
-refusalIn (gives x) = 0
-
+-- what an answer gives; y where it refuses
 unfoldable pub valueOr : {A : Type 0} → A → Answer A → A
 valueOr y (refused k) = y
 valueOr y (gives x) = x

@@ -7,7 +7,7 @@
 use Prim.Native.Nat.{ℕ, _<_}
 use mathlib.Core.Path.{_≡_, refl, sym, ap, subst, _∙_}
 use mathlib.Core.Logic.{_⊎_, inl, inr, _↔_}
-use mathlib.Core.Bool.{Bool, true, false, true≢false}
+use mathlib.Core.Bool.{Bool, true, false}
 use mathlib.Core.List.{List, [], _∷_, _++_}
 use lib.Dec.{ltb, eqb}
 use lib.ListN.{length, take, drop}
@@ -28,6 +28,7 @@ use Rattle.store.specs.Lent.{Holds}
 use Rattle.promises.specs.Calls.{strict, majority, write-accepted, Reply, number, split, filled, bothFilled, fill, reply, one, Told, heard, batched, replied, notOpened, told, after}
 use Rattle.promises.specs.Steps.{Asked, Step}
 use Rattle.promises.specs.StepLaws.{asked-follows, step-follows}
+use Rattle.promises.specs.Outcomes.{valueOr, gives≢refused}
 
 -- ---- the bytes that a call gives
 
@@ -42,14 +43,6 @@ bufferIn (number a) = []
 bufferIn (split a) = []
 bufferIn (filled a out) = out
 bufferIn (bothFilled a masks counts) = masks
-
-numberOr : ℕ → Answer ℕ → ℕ
-numberOr d (refused k) = d
-numberOr d (gives n) = n
-
-isGiven : Answer ℕ → Bool
-isGiven (refused k) = false
-isGiven (gives n) = true
 
 -- what is given is the list ys
 abbrev Only : List ℕ → Answer (List ℕ) → Type 0
@@ -83,10 +76,10 @@ module _ (ys : List ℕ) where
 
 given-front : (x : Answer (List ℕ)) (ys : List ℕ) → Only ys x → (out : List ℕ) (n : ℕ) (left : List ℕ) → filled (gives n) left ≡ fill x out
     → (take n left ≡ ys) × (n ≡ length ys)
-unfolding fill lengthGiven front numberIn bufferIn numberOr isGiven
-given-front (refused k) ys g out n left e = absurd (true≢false (ap (λ (r : Reply). isGiven (numberIn r)) e))
+unfolding fill lengthGiven front numberIn bufferIn valueOr
+given-front (refused k) ys g out n left e = absurd (gives≢refused n k (ap numberIn e))
 given-front (gives xs) ys g out n left e =
-    let m : n ≡ length xs = ap (λ (r : Reply). numberOr 0 (numberIn r)) e in
+    let m : n ≡ length xs = ap (λ (r : Reply). valueOr 0 (numberIn r)) e in
     let b : left ≡ xs ++ drop (length xs) out = ap bufferIn e in
     (rw (m, b) (take-append-seam xs (drop (length xs) out)) ∙ g, m ∙ ap length g)
 

@@ -4,7 +4,7 @@
 --   symbolOf s r, restOf s r, restRead s r     the symbol that an answer names, and the symbols from its place on
 --   next-symbol-once, read-length-once, read-closing-once
 use Prim.Native.Nat.{ℕ, zero, suc}
-use mathlib.Core.Path.{_≡_, refl, sym, ap, _∙_}
+use mathlib.Core.Path.{_≡_, refl, sym, ap}
 use mathlib.Core.List.{List, [], _∷_}
 use mathlib.Core.Option.{Option, none, some}
 use lib.Seq.{slice}

@@ -30,10 +30,11 @@ use Rattle.opening.specs.Given.{openingOf}
 use Rattle.layout.specs.Store.{heldAt}
 use Rattle.layout.specs.WholeStore.{wholeAt}
 use Rattle.store.specs.Lent.{Holds}
+use Rattle.summary.specs.PartLaws.{holds-then}
 use Rattle.promises.specs.Calls.{Question, tree-count, split-count, one-split, split-list, tree-splits, one-sided, doubled, matrix, collisions, strict, majority, write-accepted, number, split, fill, fillBoth, reply, Made, ask, Told, replied, told, after, toldAll, afterAll, handed, handedAll, verdictsTold, isCollisions, otherTold}
 use Rattle.promises.specs.Steps.{Opens, Steps}
 use Rattle.promises.specs.BatchLaws.{after-handed, verdicts-handed, told-same}
-use Rattle.promises.specs.StepLaws.{opening-follows, step-follows, all-opening, holds-then, steps-follow, told-lent}
+use Rattle.promises.specs.StepLaws.{opening-follows, step-follows, all-opening, steps-follow, told-lent}
 
 -- ---- a run of the definitions, by what it hands in
 

@@ -5,12 +5,11 @@
 --   step-follows               a call on whole bytes: they stay whole, hold and answer what the definitions do, and keep those past the size
 --   steps-follow               so does a run of calls
 --   all-opening                the opening stays
---   holds-then                 what is held after one call and then another
 --   opening-follows            an opening that is accepted leaves a whole collection just opened
 --   refused-alike, told-lent   openings that are refused have the same number, in however many bytes
-use Prim.Native.Nat.{ℕ, _≤_}
+use Prim.Native.Nat.{ℕ}
 use mathlib.Core.Path.{_≡_, refl, sym, ap, ap₂, subst, _∙_}
-use mathlib.Core.Bool.{Bool, true, false, _&&_, true≢false}
+use mathlib.Core.Bool.{Bool, true, false, _&&_}
 use mathlib.Core.List.{List, [], _∷_}
 use lib.Dec.{leb, ltb}
 use lib.ListN.{length, getD}
@@ -37,19 +36,11 @@ use Rattle.store.specs.Lent.{Holds}
 use Rattle.store.specs.LentLaws.{when-whole}
 use Rattle.table.specs.Promises.{OpenedAs}
 use Rattle.feeding.specs.Feeding.{reached, fedOf, closedOf, batchOf, FedAs, ClosedAs, BatchedAs}
+use Rattle.summary.specs.PartLaws.{holds-then}
 use Rattle.promises.specs.Calls.{Question, tree-count, split-count, one-split, split-list, tree-splits, one-sided, doubled, matrix, collisions, strict, majority, write-accepted, Reply, number, split, filled, bothFilled, fill, fillBoth, reply, Made, one, many, ask, reopen, Told, heard, batched, replied, notOpened, numbersIn, afterBatch, refusalIn, told, after, toldAll, afterAll, handed}
 use Rattle.promises.specs.Steps.{Asked, Opens, Step, Steps}
 use Rattle.promises.specs.BatchLaws.{after-handed}
-
--- ---- answers
-
-isGiven : {A : Type 0} → Answer A → Bool
-isGiven (refused k) = false
-isGiven (gives x) = true
-
-gives≢refused : {A : Type 0} (x : A) (k : ℕ) → _≡_ {A = Answer A} (gives x) (refused k) → ⊥
-unfolding isGiven
-gives≢refused {A} x k e = true≢false (ap (λ (a : Answer A). isGiven a) e)
+use Rattle.promises.specs.Outcomes.{gives≢refused}
 
 -- ---- openings
 
@@ -230,15 +221,6 @@ pub all-opening : (cs : List Made) (h : Held) → afterAll h cs .opening ≡ h .
 unfolding afterAll
 all-opening [] h = refl
 all-opening (c ∷ cs) h = all-opening cs (after h c) ∙ after-opening h c
-
--- bytes that hold h, and then k over the same opening
-pub holds-then : (h k : Held) (s t u : List ℕ) → k .opening ≡ h .opening → Holds h s t → Holds k t u → Holds k s u
-holds-then h k s t u e p q = record {
-  whole = q .whole;
-  held = q .held;
-  size = q .size ∙ p .size;
-  behind = λ i l. q .behind i l ∙ p .behind i (subst (λ (o : Opening). storeSize (o .numbers) ≤ i) e l);
-}
 
 pub steps-follow : (cs : List Made) (s : List ℕ) (as′ : List Told) (t : List ℕ) → wholeAt s ≡ true → Steps s cs as′ t
     → Holds (afterAll (heldAt s) cs) s t × (as′ ≡ toldAll (length s) (heldAt s) cs)
