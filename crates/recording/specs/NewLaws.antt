@@ -9,7 +9,6 @@
 --   Filled p rs rows j new r     r, as long as rows, has the rows of the first j records' masks, of which `new` are new
 --   filled-none                  at first there are none
 --   filled-found, filled-missing     one more
---   filled-all                   all of them
 use Prim.Native.Nat.{ℕ, zero, suc, _+_, _-_, _*_, _≤_, _<_}
 use native.Mathlib.Numerals.{add-one}
 use native.Mathlib.Omega.{arith}
@@ -105,9 +104,6 @@ pub record Filled (p : Parts) (rs rows : List ℕ) (j new : ℕ) (r : List ℕ) 
 
 pub filled-none : (p : Parts) (rs rows : List ℕ) → Filled p rs rows 0 0 rows
 filled-none p rs rows = record { same-length = refl; counted = sym (ap length (new-none p rs)); each = λ i h. absurd (omega arith) }
-
-pub filled-all : (p : Parts) (rs rows : List ℕ) (n new : ℕ) (r : List ℕ) → n ≤ length rows → Filled p rs rows n new r → RowsOf p n rs r
-filled-all p rs rows n new r h f = record { reach = omega (arith, f .same-length); each = f .each }
 
 module _ (s : List ℕ) (whole : wholeAt s ≡ true) (rs rows : List ℕ) (j new : ℕ) (r : List ℕ) (f : Filled (partsAt s) rs rows j new r) (b : j < length rows)
     (x : Found) (d : FoundAs (partsAt s) (getD rs (3 * j) 0) x) (new′ : ℕ) (u : List ℕ) where
