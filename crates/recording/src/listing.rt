@@ -1,5 +1,4 @@
 // Entering one more tree, given by the rows of its splits, into a store in lent bytes.
-ghost use mathlib.Core.Path.{_≡_};
 ghost use Prim.Native.Nat.{_≤_, _<_};
 ghost use lib.ListN.{length, take};
 ghost use Rattle.head.specs.Head.{numbersAt, openingAt};
