@@ -107,7 +107,7 @@ module _ (s : List ℕ) (whole : wholeAt s ≡ true) (n : ℕ) (rs : List ℕ) (
   new-row : (k : ℕ) → k < splitsHeldAt u → splitsHeldAt s ≤ k → Mem k (take n rows)
   new-row k h b =
       let f : Stands (partsAt s .masks ++ newIn (partsAt s) (masksOf n rs)) k (maskIn (partsAt u) k) = rw (← g .masks) (h, refl) in
-      let m = lacking-mem (masksAt s) (masksOf n rs) (maskIn (partsAt u) k) (stands-new (partsAt s .masks) (newIn (partsAt s) (masksOf n rs)) k (maskIn (partsAt u) k) f b) .0 in
+      let m = lacking-mem (masksAt s) (masksOf n rs) (maskIn (partsAt u) k) (stands-new (partsAt s .masks) (newIn (partsAt s) (masksOf n rs)) _ _ f b) .0 in
       let j = mem-mask n rs (maskIn (partsAt u) k) m in
       let y = stands (j .0) (j .1) in
       let e : getD (take n rows) (j .0) 0 ≡ k = mask-same (partsAt u) (g .sound .shaped .order) (g .sound .splits) _ k (y .0) h (y .1 ∙ sym (j .2)) in

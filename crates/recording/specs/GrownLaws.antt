@@ -90,7 +90,9 @@ module _ (s : List ℕ) (whole : wholeAt s ≡ true) (n : ℕ) (rs : List ℕ) w
             member-not next (masksAt u) (λ q.
             let k = masks-mem (partsAt u) (g .sound .shaped .order) (g .sound .splits) next q in
             let old : Mem next (partsAt s .masks) → ⊥ =
-            λ a. let i = mem-at (partsAt s .masks) next a in true≢false (sym (row-recorded s whole (i .0) next (i .1) (i .2)) ∙ row-unknown s whole n rs rows r j h b) in
+            λ a.
+            let i = mem-at (partsAt s .masks) next a in
+            true≢false (sym (row-recorded s whole (i .0) next (i .1) (i .2)) ∙ row-unknown s whole n rs rows r j h b) in
             ⊎-elim old not-before (mem-cases next (partsAt s .masks) (new j) (subst (Mem next) (g .masks) (rw (k .2) (mem-getD (partsAt u .masks) (k .0) (k .1))))))
 
         pub next-asks : (HeadAt u × Sound (openingAt u) (partsAt u))

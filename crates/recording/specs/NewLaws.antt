@@ -89,11 +89,12 @@ module _ (s : List ℕ) (whole : wholeAt s ≡ true) where
 
   module _ (n : ℕ) (rs rows : List ℕ) (r : RowsOf (partsAt s) n rs rows) (j : ℕ) (h : j < n) where
     pub row-known : getD rows j 0 < splitsHeldAt s → member (getD rs (3 * j) 0) (masksAt s) ≡ true
-    row-known a = row-recorded (getD rows j 0) (getD rs (3 * j) 0) a (sym (List·getD-append (partsAt s .masks) (newIn (partsAt s) (masksOf n rs)) 0 (getD rows j 0) a) ∙ r .each j h .1)
+    row-known a =
+        row-recorded (getD rows j 0) (getD rs (3 * j) 0) a (sym (List·getD-append (partsAt s .masks) (newIn (partsAt s) (masksOf n rs)) 0 (getD rows j 0) a) ∙ r .each j h .1)
 
     pub row-unknown : splitsHeldAt s ≤ getD rows j 0 → member (getD rs (3 * j) 0) (masksAt s) ≡ false
     row-unknown a =
-        lacking-mem (masksAt s) (masksOf n rs) (getD rs (3 * j) 0) (stands-new (partsAt s .masks) (newIn (partsAt s) (masksOf n rs)) (getD rows j 0) (getD rs (3 * j) 0) (r .each j h) a) .1
+        lacking-mem (masksAt s) (masksOf n rs) (getD rs (3 * j) 0) (stands-new (partsAt s .masks) (newIn (partsAt s) (masksOf n rs)) _ _ (r .each j h) a) .1
 
 -- ---- the rows of all
 
