@@ -14,7 +14,7 @@ use lib.Dec.{ltb, eqb}
 use lib.ListN.{length, getD, take}
 use lib.Seq.{length-take-le, getD-take, ext-getD}
 use borrow.Author.Tests.{lt-ltb, le-ltb, eq-eqb, ne-eqb}
-use Rattle.trees.specs.Plain.{if_then_else_, every, lacking, Answer, refused, gives}
+use Rattle.trees.specs.Plain.{if_then_else_, every, Answer, refused, gives}
 use Rattle.trees.specs.Mask.{proper}
 use Rattle.trees.specs.Consensus.{count}
 use Rattle.trees.specs.Opening.{storeSize}
@@ -46,15 +46,11 @@ use Rattle.recording.specs.NewLaws.{mem-mask, stands-new}
 -- ---- the verdict
 
 module _ (s t : List ℕ) (w : wholeAt s ≡ true) where
-  new-same : newSplits (heldAt s) t ≡ newIn (partsAt s) t
-  unfolding newSplits
-  new-same = ap (lacking t) (recorded-at s w)
-
   room : roomFor (heldAt s) t
       ≡ (if eqb (treesHeldAt s) (numbersAt s .treeRoom) then refused 11
       else if ltb (numbersAt s .splitRoom) (splitsHeldAt s + length (newIn (partsAt s) t)) then refused 12 else gives t)
-  unfolding roomFor
-  room = rw (trees-length s, recorded-length s w, held-numbers s, new-same)
+  unfolding roomFor newSplits
+  room = rw (trees-length s, recorded-length s w, held-numbers s, recorded-at s w)
 
   pub no-tree-room : treesHeldAt s ≡ numbersAt s .treeRoom → roomFor (heldAt s) t ≡ refused 11
   no-tree-room e = room ∙ rw (eq-eqb _ _ e)
@@ -111,7 +107,7 @@ module _ (s : List ℕ) (whole : wholeAt s ≡ true) (n : ℕ) (rs : List ℕ) (
   new-row : (k : ℕ) → k < splitsHeldAt u → splitsHeldAt s ≤ k → Mem k (take n rows)
   new-row k h b =
       let f : Stands (partsAt s .masks ++ newIn (partsAt s) (masksOf n rs)) k (maskIn (partsAt u) k) = rw (← g .masks) (h, refl) in
-      let m = lacking-mem (masksAt s) (masksOf n rs) (maskIn (partsAt u) k) (stands-new (partsAt s .masks) (newIn (partsAt s) (masksOf n rs)) k (maskIn (partsAt u) k) f b) .0 in
+      let m = lacking-mem (masksAt s) (masksOf n rs) (maskIn (partsAt u) k) (stands-new (partsAt s .masks) (newIn (partsAt s) (masksOf n rs)) _ _ f b) .0 in
       let j = mem-mask n rs (maskIn (partsAt u) k) m in
       let y = stands (j .0) (j .1) in
       let e : getD (take n rows) (j .0) 0 ≡ k = mask-same (partsAt u) (g .sound .shaped .order) (g .sound .splits) _ k (y .0) h (y .1 ∙ sym (j .2)) in

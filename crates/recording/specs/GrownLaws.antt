@@ -57,7 +57,8 @@ module _ (s : List ℕ) (whole : wholeAt s ≡ true) (n : ℕ) (rs : List ℕ) w
     pub grown-head : j ≤ n → HeadAt u
     grown-head b =
         let h = whole-at-facts s whole .head in
-        head-held s u (g .opening) h (g .size) (omega (arith, ap length (g .lists), h .trees-fit)) (omega (arith, grown-number, room, new-within (partsAt s) rs (n - j) j n (omega arith)))
+        head-held s u (g .opening) h (g .size) (omega (arith, ap length (g .lists), h .trees-fit))
+        (omega (arith, grown-number, room, new-within (partsAt s) rs (n - j) j n (omega arith)))
 
     module _ (t : SplitsOf s n rs) (rows : List ℕ) (r : RowsOf (partsAt s) n rs rows) (h : j < n) where
       abbrev next : ℕ
@@ -88,12 +89,11 @@ module _ (s : List ℕ) (whole : wholeAt s ≡ true) (n : ℕ) (rs : List ℕ) w
         next-new =
             member-not next (masksAt u) (λ q.
             let k = masks-mem (partsAt u) (g .sound .shaped .order) (g .sound .splits) next q in
+            let old : Mem next (partsAt s .masks) → ⊥ =
+            λ a.
+            let i = mem-at (partsAt s .masks) next a in
+            true≢false (sym (row-recorded s whole (i .0) next (i .1) (i .2)) ∙ row-unknown s whole n rs rows r j h b) in
             ⊎-elim old not-before (mem-cases next (partsAt s .masks) (new j) (subst (Mem next) (g .masks) (rw (k .2) (mem-getD (partsAt u .masks) (k .0) (k .1))))))
-          where
-            old : Mem next (partsAt s .masks) → ⊥
-            old q =
-                let i = mem-at (partsAt s .masks) next q in
-                true≢false (sym (row-recorded s whole (i .0) next (i .1) (i .2)) ∙ row-unknown s whole n rs rows r j h b)
 
         pub next-asks : (HeadAt u × Sound (openingAt u) (partsAt u))
             × ((splitsHeldAt u < numbersAt u .splitRoom)

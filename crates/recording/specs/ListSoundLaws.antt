@@ -4,7 +4,7 @@
 --   list-counted     each split of the tree counts one more
 --   list-sound       sound parts stay sound
 use Prim.Native.Nat.{ℕ, _+_, _<_}
-use mathlib.Core.Path.{_≡_, refl, sym, ap, _∙_}
+use mathlib.Core.Path.{_≡_, refl, sym, _∙_}
 use mathlib.Core.List.{List, [], _∷_, _++_, map, map-append}
 use lib.Seq.{take-length}
 use Rattle.trees.specs.Plain.{member}
@@ -49,8 +49,9 @@ module _ (o : Opening) (rs : List ℕ) (p : Parts) where
       let a = f .shaped in
       let b = f .splits in
       let c = f .chains in
+      let n = upTo-length _ _ in
       record {
-        shaped = record { identifiers = a .identifiers; counts = upTo-length _ _; links = a .links; order = a .order; starts = a .starts; lengths = a .lengths; texts = a .texts };
+        shaped = record { identifiers = a .identifiers; counts = n; links = a .links; order = a .order; starts = a .starts; lengths = a .lengths; texts = a .texts };
         splits = record { rows-below = b .rows-below; masks-proper = b .masks-proper; masks-rising = b .masks-rising; identifiers = b .identifiers };
         lists = each-list rs p r (f .lists);
         counts = λ k h. list-counted rs p k h ∙ rw (f .counts k h) (sym (listed-more rs p k));

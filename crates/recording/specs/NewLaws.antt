@@ -9,7 +9,6 @@
 --   Filled p rs rows j new r     r, as long as rows, has the rows of the first j records' masks, of which `new` are new
 --   filled-none                  at first there are none
 --   filled-found, filled-missing     one more
---   filled-all                   all of them
 use Prim.Native.Nat.{ℕ, zero, suc, _+_, _-_, _*_, _≤_, _<_}
 use native.Mathlib.Numerals.{add-one}
 use native.Mathlib.Omega.{arith}
@@ -90,11 +89,12 @@ module _ (s : List ℕ) (whole : wholeAt s ≡ true) where
 
   module _ (n : ℕ) (rs rows : List ℕ) (r : RowsOf (partsAt s) n rs rows) (j : ℕ) (h : j < n) where
     pub row-known : getD rows j 0 < splitsHeldAt s → member (getD rs (3 * j) 0) (masksAt s) ≡ true
-    row-known a = row-recorded (getD rows j 0) (getD rs (3 * j) 0) a (sym (List·getD-append (partsAt s .masks) (newIn (partsAt s) (masksOf n rs)) 0 (getD rows j 0) a) ∙ r .each j h .1)
+    row-known a =
+        row-recorded (getD rows j 0) (getD rs (3 * j) 0) a (sym (List·getD-append (partsAt s .masks) (newIn (partsAt s) (masksOf n rs)) 0 (getD rows j 0) a) ∙ r .each j h .1)
 
     pub row-unknown : splitsHeldAt s ≤ getD rows j 0 → member (getD rs (3 * j) 0) (masksAt s) ≡ false
     row-unknown a =
-        lacking-mem (masksAt s) (masksOf n rs) (getD rs (3 * j) 0) (stands-new (partsAt s .masks) (newIn (partsAt s) (masksOf n rs)) (getD rows j 0) (getD rs (3 * j) 0) (r .each j h) a) .1
+        lacking-mem (masksAt s) (masksOf n rs) (getD rs (3 * j) 0) (stands-new (partsAt s .masks) (newIn (partsAt s) (masksOf n rs)) _ _ (r .each j h) a) .1
 
 -- ---- the rows of all
 
@@ -105,9 +105,6 @@ pub record Filled (p : Parts) (rs rows : List ℕ) (j new : ℕ) (r : List ℕ) 
 
 pub filled-none : (p : Parts) (rs rows : List ℕ) → Filled p rs rows 0 0 rows
 filled-none p rs rows = record { same-length = refl; counted = sym (ap length (new-none p rs)); each = λ i h. absurd (omega arith) }
-
-pub filled-all : (p : Parts) (rs rows : List ℕ) (n new : ℕ) (r : List ℕ) → n ≤ length rows → Filled p rs rows n new r → RowsOf p n rs r
-filled-all p rs rows n new r h f = record { reach = omega (arith, f .same-length); each = f .each }
 
 module _ (s : List ℕ) (whole : wholeAt s ≡ true) (rs rows : List ℕ) (j new : ℕ) (r : List ℕ) (f : Filled (partsAt s) rs rows j new r) (b : j < length rows)
     (x : Found) (d : FoundAs (partsAt s) (getD rs (3 * j) 0) x) (new′ : ℕ) (u : List ℕ) where

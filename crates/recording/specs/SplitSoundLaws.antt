@@ -6,17 +6,17 @@ use Prim.Native.Nat.{ℕ, zero, suc, _≤_, _<_}
 use native.Mathlib.Nat.{mod-lt}
 use native.Mathlib.Omega.{arith}
 use mathlib.Core.Path.{_≡_, refl, sym, ap, _∙_}
-use mathlib.Core.Logic.{_⊎_, inl, inr, ⊎-elim}
+use mathlib.Core.Logic.{⊎-elim}
 use mathlib.Core.Bool.{true, false}
 use mathlib.Core.List.{[], map}
-use lib.ListN.{getD, set, length-set, length-map, List·getD-append, List·getD-map}
+use lib.ListN.{length-set, length-map, List·getD-append, List·getD-map}
 use lib.Seq.{ext-getD, getD-at, getD-set-same, getD-set-other}
 use Rattle.trees.specs.Plain.{member}
 use Rattle.trees.specs.Mask.{proper}
 use Rattle.trees.specs.Hash.{place, identifier}
 use Rattle.trees.specs.Opening.{Opening}
 use Rattle.trees.specs.Splits.{insert}
-use Rattle.theorems.specs.ListLaws.{equal-or-not, if-false, Mem, member-not, not-member, every-at, every-intro, mem-getD, map-same}
+use Rattle.theorems.specs.ListLaws.{equal-or-not, if-false, member-not, not-member, every-at, every-intro, mem-getD, map-same}
 use Rattle.theorems.specs.RisingLaws.{rising-true, true-rising, insert-mem, insert-rising}
 use Rattle.layout.specs.Store.{Parts, splitsIn, treesIn, maskIn, identifierIn, countIn, linkIn, startIn, orderIn, masksIn, listIn, treeIn, heldIn}
 use Rattle.layout.specs.StoreLaws.{Shaped}
@@ -65,7 +65,8 @@ module _ (o : Opening) (m : ℕ) (p : Parts) (f : Sound o p) where
   split-masks : member m (masksIn p) ≡ false → masksIn new ≡ insert m (masksIn p)
   unfolding withSplit
   split-masks other =
-      row-masks (maskIn p) m (splitsIn p) (maskIn new) mask-new (p .order) (λ r h. mask-old r (row-below p (f .shaped .order) (f .splits) r h)) (not-member m (masksIn p) other)
+      row-masks (maskIn p) m (splitsIn p) (maskIn new) mask-new (p .order) (λ r h. mask-old r (row-below p (f .shaped .order) (f .splits) r h))
+      (not-member m (masksIn p) other)
 
   -- ---- the splits
 
@@ -139,13 +140,10 @@ module _ (o : Opening) (m : ℕ) (p : Parts) (f : Sound o p) where
 
     start-new : (q : ℕ) → q < o .numbers .places → startIn new q ≡ highestIn h new q (suc (splitsIn p))
     unfolding withSplit
-    start-new q l = go (equal-or-not (h m) q)
-      where
-        go : (h m ≡ q) ⊎ (h m ≡ q → ⊥) → getD (set (p .starts) (h m) (suc (splitsIn p))) q 0 ≡ highestIn h new q (suc (splitsIn p))
-        go (inl e) = rw (highest-here h new q (splitsIn p) (ap h mask-new ∙ e), ← e) (getD-set-same (p .starts) (h m) _ 0 (omega (arith, f .shaped .starts, below)))
-        go (inr d) =
-            getD-set-other (p .starts) (h m) q _ 0 (λ e. d (sym e)) ∙ f .chains .starts q l
-            ∙ sym (highest-lower h new q (splitsIn p) (λ e. d (ap h (sym mask-new) ∙ e)) ∙ high-old q (splitsIn p) (omega arith))
+    start-new q l =
+        ⊎-elim (λ e. rw (highest-here h new q (splitsIn p) (ap h mask-new ∙ e), ← e) (getD-set-same (p .starts) (h m) _ 0 (omega (arith, f .shaped .starts, below))))
+        (λ d. getD-set-other (p .starts) (h m) q _ 0 (λ e. d (sym e)) ∙ f .chains .starts q l
+        ∙ sym (highest-lower h new q (splitsIn p) (λ e. d (ap h (sym mask-new) ∙ e)) ∙ high-old q (splitsIn p) (omega arith))) (equal-or-not (h m) q)
 
   -- ---- all of it
 

@@ -42,11 +42,13 @@ module _ (s : List ℕ) (m : ℕ) (whole : wholeAt s ≡ true) where
   module _ (e : ℕ) (walk : Walk s m e) where
     apart : (k : ℕ) → e ≤ k → k < splitsHeldAt s → maskAt s k ≡ m → ⊥
     apart k a b d =
-        ⊎-elim (λ l. highest-above (placeIn s) (partsAt s) (placeIn s m) (walk .below) k (omega (arith, walk .entry)) l (ap (placeIn s) d)) (λ l. walk .passed k l b d)
-        (less-or-not k (walk .below))
+        ⊎-elim (λ l. highest-above (placeIn s) (partsAt s) (placeIn s m) (walk .below) k (omega (arith, walk .entry)) l (ap (placeIn s) d))
+        (λ l. walk .passed k l b d) (less-or-not k (walk .below))
 
     pub walk-ends : e ≡ 0 → member m (masksAt s) ≡ false
-    walk-ends z = member-not m (masksAt s) (λ h. let k = masks-mem (partsAt s) (shaped-at s .order) (facts .splits) m h in apart (k .0) (omega arith) (k .1) (sym (k .2)))
+    walk-ends z =
+        member-not m (masksAt s) (λ h.
+        let k = masks-mem (partsAt s) (shaped-at s .order) (facts .splits) m h in apart (k .0) (omega arith) (k .1) (sym (k .2)))
 
     module _ (more : e ≡ 0 → ⊥) where
       pub walk-row : e - 1 < splitsHeldAt s

@@ -5,7 +5,7 @@ use mathlib.Core.Logic.{⊎-elim}
 use native.Mathlib.Omega.{arith}
 use Rattle.layout.specs.Store.{partsAt}
 use Rattle.layout.specs.WholeFacts.{whole-at-facts}
-use Rattle.recording.specs.NewLaws.{new-most, Filled, filled-none, filled-found, filled-missing, filled-all}
+use Rattle.recording.specs.NewLaws.{new-most, Filled, filled-none, filled-found, filled-missing}
 use Rattle.recording.proofs.finding.find_rows.Statement.{statement}
 use Rattle.recording.proofs.finding.find_rows.Tie as tie
 
@@ -30,7 +30,7 @@ returns c =
     let d = c .before .before .before .before .before .before in
     let e : c .before .loop .j ≡ d .args .n = omega arith in
     let f = c .before .loop .inv .1 in
-    (filled-all _ _ _ _ _ _ (d .pre .1 .1) (rw e at f), rw e at (f .counted))
+    (record { reach = omega (arith, f .same-length, d .pre .1 .1); each = rw e at (f .each) }, rw e at (f .counted))
 
 few-new : tie.Need-add-rows Inv-loop μ-loop
 few-new c =
