@@ -142,6 +142,7 @@ fn pair(out: &mut Vec<String>, a: u64, b: u64) {
     out.push(format!("is_within {a} {b} = {}", truth(of_a.is_subset(&of_b))));
     out.push(format!("are_apart {a} {b} = {}", truth(of_a.is_disjoint(&of_b))));
     out.push(format!("comes_before {a} {b} = {}", truth(a < b)));
+    out.push(format!("is_same {a} {b} = {}", truth(of_a == of_b)));
     out.push(format!("union_of {a} {b} = {}", mask_of(&union)));
     out.push(format!("taxa_without {a} {b} = {}", mask_of(&without)));
 }

@@ -130,6 +130,9 @@ fn relations(a: u64, b: u64) {
     of_two(b"comes_before", a, b);
     line::truth(masks::comes_before(a, b));
     line::end();
+    of_two(b"is_same", a, b);
+    line::truth(masks::is_same(a, b));
+    line::end();
 }
 
 // The functions that make a mask of two.

@@ -1,11 +1,11 @@
 // Masks in one word: sets of at most 64 taxa, bit i for taxon i. Callers hold masks as u64 too, but what a mask means is
-// said here alone, by contracts over masks of any size. Read crate trees, specs/Mask.antt, for what they cite; ones, bitOr
-// and ltb are the library's.
+// said here alone, by contracts over masks of any size. Read crate trees, specs/Mask.antt, for what they cite; ones, bitOr,
+// eqb and ltb are the library's.
 ghost use mathlib.Core.Path.{_≡_};
 ghost use Prim.Native.Nat.{_≤_, _<_, _^_};
 ghost use lib.Bits.{bitOr};
 ghost use lib.Count.{ones};
-ghost use lib.Dec.{ltb};
+ghost use lib.Dec.{eqb, ltb};
 ghost use Rattle.trees.specs.Mask.{has, everyTaxon, without, apart, within, proper, lowest};
 ghost use Rattle.trees.specs.Mask.{agree as Mask·agree, side as Mask·side};
 use answers::Taxon;
@@ -82,6 +82,13 @@ pub fn comes_before(a: u64, b: u64) -> bool
     ensures { λ r. ⌜ r ≡ ltb a b ⌝ }
 {
     a < b
+}
+
+// Whether a and b are one mask.
+pub fn is_same(a: u64, b: u64) -> bool
+    ensures { λ r. ⌜ r ≡ eqb a b ⌝ }
+{
+    a == b
 }
 
 // The mask of all n taxa.

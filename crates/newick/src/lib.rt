@@ -57,7 +57,7 @@ pub fn judge(
             if c.fault == 9 {
                 return Judged::Refused(Refusal::RepeatedLeaf);
             }
-            if c.seen != masks::every_taxon(head::taxa(head)) {
+            if !masks::is_same(c.seen, masks::every_taxon(head::taxa(head))) {
                 return Judged::Refused(Refusal::MissingTaxon);
             }
             Judged::Splits(splits::gather_splits(head, &found, c.used, x, records))

@@ -2,6 +2,7 @@
 use native.Mathlib.Omega.{arith}
 use mathlib.Core.Path.{refl, sym, _∙_}
 use borrow.Author.Needs.{needs}
+use borrow.Author.Tests.{eqb-true, eqb-false, not-true, not-false}
 use Rattle.newick.proofs.NodeLaws.{seen-as}
 use Rattle.newick.proofs.GotLaws.{taken-is, wrong-none, got-as}
 use Rattle.newick.proofs.LeafLaws.{prepared-opening, prepared-taxa}
@@ -48,7 +49,7 @@ returns-4 c =
     let all = every-taxon-here _ _ _ (i .before .before .before .taxa .ensures .0) (i .before .before .every-taxon .ensures) in
     judged-missing _ (prepared-opening _ _ _ (e .before .before .before .before .before .before .before .before .before .before .before .before .before .pre .0)) _ _ _ _ _ _ (q .1) (q .2)
     (seen-as _ _ (e .enum-told2 .given .1) (e .before .before .next-symbol .ensures)) (i .before .before .before .before .before .before .if1 .left) (i .before .before .before .before .if2 .left)
-    (λ y. i .if3 .taken (y ∙ sym all)) _
+    (λ y. eqb-false _ _ (sym (i .before .is-same .ensures) ∙ not-true _ (i .if3 .taken)) (y ∙ sym all)) _
 
 gather-splits-requires : tie.Need-gather-splits-requires
 gather-splits-requires c κs =
@@ -60,7 +61,7 @@ gather-splits-requires c κs =
     let a =
     gathering-asks _ (prepared-opening _ _ _ (p .0)) _ _ _ _ _ _ (q .1) (q .2)
     (seen-as _ _ (e .enum-told2 .given .1) (e .before .before .next-symbol .ensures)) (i .before .before .before .before .before .before .if1 .left) (i .before .before .before .before .if2 .left)
-    (i .if3 .left ∙ all) refl in
+    (eqb-true _ _ (sym (i .before .is-same .ensures) ∙ not-false _ (i .if3 .left)) ∙ all) refl in
     ((p .0 .reach, p .0 .good), (a .0, (a .1, (a .2, p .1 .1))))
 
 returns-5 : tie.Need-returns-5
@@ -71,7 +72,7 @@ returns-5 c =
     let all = every-taxon-here _ _ _ (i .before .before .before .taxa .ensures .0) (i .before .before .every-taxon .ensures) in
     judged-splits _ (prepared-opening _ _ _ (e .before .before .before .before .before .before .before .before .before .before .before .before .before .pre .0)) _ _ _ _ _ _ (q .1) (q .2)
     (seen-as _ _ (e .enum-told2 .given .1) (e .before .before .next-symbol .ensures)) (i .before .before .before .before .before .before .if1 .left) (i .before .before .before .before .if2 .left)
-    (i .if3 .left ∙ all) refl _ _ _ (c .before .before .gather-splits .ensures)
+    (eqb-true _ _ (sym (i .before .is-same .ensures) ∙ not-false _ (i .if3 .left)) ∙ all) refl _ _ _ (c .before .before .gather-splits .ensures)
 
 returns-6 : tie.Need-returns-6
 returns-6 c =
@@ -95,6 +96,7 @@ judge-spec =
     returns-3
     (λ c κs. search needs)
     every-taxon-requires
+    (λ c κs. tt)
     returns-4
     (λ c. search needs)
     gather-splits-requires
