@@ -14,6 +14,7 @@ use mathlib.Core.Bool.{Bool, true, false}
 use mathlib.Core.List.{List, _∷_}
 use lib.ListN.{length, getD, set, replicate, length-set, length-replicate}
 use lib.Seq.{getD-set-same, getD-set-other}
+use Rattle.trees.specs.Opening.{mostRoom}
 use Rattle.theorems.specs.ListLaws.{equal-or-not}
 use Rattle.trees.specs.Plain.{if_then_else_, keep}
 use Rattle.trees.specs.Hash.{identifier, collide, collisions}
@@ -38,11 +39,11 @@ set-more f l k x h g e j i = go (equal-or-not j k)
     go (inl q) = rw q (getD-set-same l k x 0 h ∙ e)
     go (inr q) = getD-set-other l k j x 0 q ∙ g j (omega arith)
 
-pub numbered-none : (s : List ℕ) → Numbered s 0 (replicate 4096 0) (replicate 4096 0)
+pub numbered-none : (s : List ℕ) → Numbered s 0 (replicate mostRoom 0) (replicate mostRoom 0)
 numbered-none s =
     record {
-      places-size = length-replicate {A = ℕ} 4096 0;
-      identifiers-size = length-replicate {A = ℕ} 4096 0;
+      places-size = length-replicate {A = ℕ} mostRoom 0;
+      identifiers-size = length-replicate {A = ℕ} mostRoom 0;
       each-place = λ j h. absurd (omega arith);
       each-identifier = λ j h. absurd (omega arith);
     }

@@ -14,6 +14,7 @@ use mathlib.Core.Bool.{Bool, _&&_}
 use mathlib.Core.List.{List}
 use lib.Dec.{eqb}
 use lib.ListN.{length, getD}
+use Rattle.trees.specs.Opening.{mostRoom}
 use Rattle.trees.specs.Hash.{identifier}
 use Rattle.head.specs.Head.{secondAt}
 use Rattle.layout.specs.Store.{splitsHeldAt, maskAt, splitAt}
@@ -23,7 +24,7 @@ use Rattle.layout.specs.UpToLaws.{oneIf}
 -- ---- the places of the rows, noted along the chains
 
 pub record Placed (s : List ℕ) (p : ℕ) (rows : List ℕ) : Type 0 where
-  pub size : length rows ≡ 4096
+  pub size : length rows ≡ mostRoom
   pub lower : (k : ℕ) → k < splitsHeldAt s → placeIn s (maskAt s k) < p → getD rows k 0 ≡ placeIn s (maskAt s k)
 
 pub record PlacedPart (s : List ℕ) (p e : ℕ) (rows : List ℕ) : Type 0 where
@@ -35,8 +36,8 @@ pub record PlacedPart (s : List ℕ) (p e : ℕ) (rows : List ℕ) : Type 0 wher
 -- ---- places and identifiers by the splits' numbers
 
 pub record Numbered (s : List ℕ) (k : ℕ) (places identifiers : List ℕ) : Type 0 where
-  pub places-size : length places ≡ 4096
-  pub identifiers-size : length identifiers ≡ 4096
+  pub places-size : length places ≡ mostRoom
+  pub identifiers-size : length identifiers ≡ mostRoom
   pub each-place : (j : ℕ) → j < k → getD places j 0 ≡ placeIn s (splitAt s j)
   pub each-identifier : (j : ℕ) → j < k → getD identifiers j 0 ≡ identifier (secondAt s) (splitAt s j)
 

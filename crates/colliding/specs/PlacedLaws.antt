@@ -14,6 +14,7 @@ use lib.Dec.{eqb}
 use lib.ListN.{getD, set, replicate, length-set, length-replicate}
 use lib.Seq.{getD-set-same, getD-set-other}
 use borrow.Author.Tests.{eqb-true, eqb-false}
+use Rattle.trees.specs.Opening.{mostRoom}
 use Rattle.theorems.specs.ListLaws.{less-or-not, equal-or-not}
 use Rattle.trees.specs.Plain.{if_then_else_}
 use Rattle.head.specs.Head.{numbersAt}
@@ -30,7 +31,7 @@ module _ (s : List ℕ) (whole : wholeAt s ≡ true) where
   pub head-at : HeadAt s
   head-at = whole-at-facts s whole .head
 
-  pub held-most : splitsHeldAt s ≤ 4096
+  pub held-most : splitsHeldAt s ≤ mostRoom
   held-most = splits-few s head-at
 
 -- ---- the highest row of a place
@@ -61,8 +62,8 @@ module _ (s : List ℕ) (p : ℕ) where
 
 -- ---- what is noted
 
-pub placed-none : (s : List ℕ) → Placed s 0 (replicate 4096 0)
-placed-none s = record { size = length-replicate {A = ℕ} 4096 0; lower = λ k h l. absurd (omega arith) }
+pub placed-none : (s : List ℕ) → Placed s 0 (replicate mostRoom 0)
+placed-none s = record { size = length-replicate {A = ℕ} mostRoom 0; lower = λ k h l. absurd (omega arith) }
 
 -- the place p is noted too
 pub part-ends : (s : List ℕ) (p : ℕ) (rows : List ℕ) → PlacedPart s p 0 rows → Placed s (p + 1) rows

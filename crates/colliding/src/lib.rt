@@ -7,6 +7,7 @@ ghost use mathlib.Core.Path.{_≡_};
 ghost use mathlib.Core.Bool.{true, _&&_};
 ghost use Prim.Native.Nat.{_+_, _-_, _≤_, _<_};
 ghost use lib.Dec.{eqb};
+ghost use Rattle.trees.specs.Opening.{mostRoom};
 ghost use Rattle.trees.specs.Hash.{collisions};
 ghost use Rattle.head.specs.Head.{numbersAt, firstAt, secondAt};
 ghost use Rattle.layout.specs.Store.{splitsHeldAt, masksAt};
@@ -14,22 +15,23 @@ ghost use Rattle.layout.specs.WholeStore.{wholeAt};
 ghost use Rattle.layout.specs.UpToLaws.{oneIf};
 ghost use Rattle.colliding.specs.Collisions.{Placed, Numbered, alike, countFrom, pairsFrom};
 use answers::Split;
+use layout::MOST_ROOM;
 
 // The count of unordered pairs of different recorded splits equal in place and identifier.
 pub fn collision_number(s: &[u8]) -> usize
     requires { ⌜ wholeAt (now s) ≡ true ⌝ }
     ensures { λ r. ⌜ r ≡ collisions (firstAt (now (s .entry))) (secondAt (now (s .entry))) (numbersAt (now (s .entry)) .places) (masksAt (now (s .entry))) ⌝ }
 {
-    let mut rows = [0u16; 4096];
+    let mut rows = [0u16; MOST_ROOM];
     note_places(s, &mut rows);
-    let mut places = [0u16; 4096];
-    let mut identifiers = [0u64; 4096];
+    let mut places = [0u16; MOST_ROOM];
+    let mut identifiers = [0u64; MOST_ROOM];
     list_by_number(s, &rows, &mut places, &mut identifiers);
     count_pairs(&places, &identifiers, layout::splits_held(s))
 }
 
 // Notes the place of every row, a place at a time.
-fn note_places(s: &[u8], rows: &mut [u16; 4096])
+fn note_places(s: &[u8], rows: &mut [u16; MOST_ROOM])
     requires { ⌜ wholeAt (now s) ≡ true ⌝ }
     requires { ⌜ Placed (now s) 0 (now rows) ⌝ }
     ensures { λ r. ⌜ Placed (now (s .entry)) (numbersAt (now (s .entry)) .places) (now (rows .exit)) ⌝ }
@@ -43,7 +45,7 @@ fn note_places(s: &[u8], rows: &mut [u16; 4096])
 }
 
 // Notes the place p at every row that is met along it.
-fn note_place(s: &[u8], p: usize, rows: &mut [u16; 4096])
+fn note_place(s: &[u8], p: usize, rows: &mut [u16; MOST_ROOM])
     requires { ⌜ wholeAt (now s) ≡ true ⌝ }
     requires { ⌜ p < numbersAt (now s) .places ⌝ }
     requires { ⌜ Placed (now s) p (now rows) ⌝ }
@@ -60,9 +62,9 @@ fn note_place(s: &[u8], p: usize, rows: &mut [u16; 4096])
 // Lists the places and the identifiers of the splits by their numbers.
 fn list_by_number(
     s: &[u8],
-    rows: &[u16; 4096],
-    places: &mut [u16; 4096],
-    identifiers: &mut [u64; 4096],
+    rows: &[u16; MOST_ROOM],
+    places: &mut [u16; MOST_ROOM],
+    identifiers: &mut [u64; MOST_ROOM],
 )
     requires { ⌜ wholeAt (now s) ≡ true ⌝ }
     requires { ⌜ Placed (now s) (numbersAt (now s) .places) (now rows) ⌝ }
@@ -80,8 +82,8 @@ fn list_by_number(
 }
 
 // The pairs of the first n numbers that are equal in both lists.
-fn count_pairs(places: &[u16; 4096], identifiers: &[u64; 4096], n: usize) -> usize
-    requires { ⌜ n ≤ 4096 ⌝ }
+fn count_pairs(places: &[u16; MOST_ROOM], identifiers: &[u64; MOST_ROOM], n: usize) -> usize
+    requires { ⌜ n ≤ mostRoom ⌝ }
     ensures { λ r. ⌜ r ≡ pairsFrom (now (places .entry)) (now (identifiers .entry)) 0 n ⌝ }
 {
     let mut sum = 0;
@@ -95,15 +97,15 @@ fn count_pairs(places: &[u16; 4096], identifiers: &[u64; 4096], n: usize) -> usi
 
 // How many numbers from `from` up to n have the place p and the identifier x.
 fn count_alike(
-    places: &[u16; 4096],
-    identifiers: &[u64; 4096],
+    places: &[u16; MOST_ROOM],
+    identifiers: &[u64; MOST_ROOM],
     from: usize,
     n: usize,
     p: u16,
     x: u64,
 ) -> usize
     requires { ⌜ from ≤ n ⌝ }
-    requires { ⌜ n ≤ 4096 ⌝ }
+    requires { ⌜ n ≤ mostRoom ⌝ }
     ensures { λ r. ⌜ r ≡ countFrom (alike (now (places .entry)) (now (identifiers .entry)) p x) from (n - from) ⌝ }
 {
     let mut count = 0;

@@ -23,7 +23,7 @@ use Rattle.theorems.specs.FewLaws.{few-splits}
 use Rattle.theorems.specs.WrittenLaws.{written-tree-reads-back}
 use Rattle.theorems.specs.ConsensusLaws.{AllGood, strict-good, majority-good}
 use Rattle.head.specs.Head.{numbersAt, namesAt, openingAt}
-use Rattle.layout.specs.Store.{treesHeldAt, heldAt}
+use Rattle.layout.specs.Store.{treesHeldAt, heldAt, mostSplits}
 use Rattle.layout.specs.WholeStore.{wholeAt}
 use Rattle.layout.specs.WholeFacts.{whole-at-facts}
 use Rattle.store.specs.RecordedAtLaws.{trees-length, trees-mem}
@@ -45,7 +45,7 @@ module _ (s : List ℕ) (w : wholeAt s ≡ true) where
       let o = openingAt s in
       and-right (goodConstants (o .numbers) (o .first) (o .second)) _ (and-right (inRange (o .numbers)) _ (whole-at-facts s w .head .opening-good))
 
-  pub tree-few : (l : List ℕ) → goodTree (numbersAt s .taxa) l ≡ true → length l ≤ 62
+  pub tree-few : (l : List ℕ) → goodTree (numbersAt s .taxa) l ≡ true → length l ≤ mostSplits
   unfolding openingAt
   tree-few l g =
       let r = opening-facts s w .ranges in

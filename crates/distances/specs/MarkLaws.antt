@@ -19,6 +19,7 @@ use lib.Dec.{eqb}
 use lib.ListN.{length, getD, set, drop, length-set, length-replicate, getD-replicate, drop-of-length-le}
 use lib.Seq.{drop-cons, getD-set-same, getD-set-other, ext-getD}
 use borrow.Author.Tests.{eqb-true, eqb-false, ne-eqb}
+use Rattle.trees.specs.Opening.{mostRoom}
 use Rattle.trees.specs.Plain.{if_then_else_, member}
 use Rattle.trees.specs.Distance.{oneSided}
 use Rattle.theorems.specs.ListLaws.{Mem}
@@ -53,23 +54,23 @@ marked-end v l m j h = rw (drop-of-length-le l h)
 
 -- ---- the marks of a list
 
-pub none-length : length noMarks ≡ 4096
+pub none-length : length noMarks ≡ mostRoom
 unfolding noMarks
-none-length = length-replicate {A = ℕ} 4096 1
+none-length = length-replicate {A = ℕ} mostRoom 1
 
-none-at : (x : ℕ) → x < 4096 → getD noMarks x 0 ≡ 1
+none-at : (x : ℕ) → x < mostRoom → getD noMarks x 0 ≡ 1
 unfolding noMarks
-none-at x h = getD-replicate {A = ℕ} 4096 x 1 0 h
+none-at x h = getD-replicate {A = ℕ} mostRoom x 1 0 h
 
 pub marks-made : (l m : List ℕ) → m ≡ noMarks → marked 0 l m ≡ marksOf l
 unfolding marksOf
 marks-made l m e = ap (marked 0 l) e
 
-pub marksOf-length : (l : List ℕ) → length (marksOf l) ≡ 4096
+pub marksOf-length : (l : List ℕ) → length (marksOf l) ≡ mostRoom
 unfolding marksOf
 marksOf-length l = marked-length 0 l noMarks ∙ none-length
 
-pub marksOf-at : (l : List ℕ) (x : ℕ) → x < 4096 → getD (marksOf l) x 0 ≡ (if member x l then 0 else 1)
+pub marksOf-at : (l : List ℕ) (x : ℕ) → x < mostRoom → getD (marksOf l) x 0 ≡ (if member x l then 0 else 1)
 unfolding marksOf
 marksOf-at l x h = marked-at 0 l noMarks x (omega (arith, none-length)) ∙ ap (λ (y : ℕ). if member x l then 0 else y) (none-at x h)
 
@@ -78,7 +79,7 @@ marks-gone l =
     let n = marked-length 1 l (marksOf l) ∙ marksOf-length l in
     ext-getD 0 (marked 1 l (marksOf l)) noMarks (n ∙ sym none-length)
     (λ x h.
-    let f : x < 4096 = omega arith in
+    let f : x < mostRoom = omega arith in
     marked-at 1 l (marksOf l) x (omega (arith, marksOf-length l)) ∙ rw (marksOf-at l x f) (same (member x l)) ∙ sym (none-at x f))
   where
     same : (b : Bool) → _≡_ {A = ℕ} (if b then 1 else if b then 0 else 1) 1
@@ -95,7 +96,7 @@ pub sum-end : (m l : List ℕ) (j : ℕ) → length l ≤ j → markSum m (drop 
 unfolding markSum
 sum-end m l j h = rw (drop-of-length-le l h)
 
-pub sum-lacks : (a b : List ℕ) → ((k : ℕ) → Mem k a → k < 4096) → markSum (marksOf b) a ≡ oneSided a b
+pub sum-lacks : (a b : List ℕ) → ((k : ℕ) → Mem k a → k < mostRoom) → markSum (marksOf b) a ≡ oneSided a b
 unfolding markSum
 sum-lacks [] b f = sym (oneSided-nil b)
 sum-lacks (k ∷ a) b f = go (member k b) refl (sum-lacks a b (λ x h. f x (inr h)))

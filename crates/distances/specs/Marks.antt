@@ -7,13 +7,14 @@
 use Prim.Native.Nat.{ℕ, _+_}
 use mathlib.Core.List.{List, [], _∷_}
 use lib.ListN.{getD, set, replicate}
+use Rattle.trees.specs.Opening.{mostRoom}
 
 unfoldable pub marked : ℕ → List ℕ → List ℕ → List ℕ
 marked v [] m = m
 marked v (k ∷ l) m = marked v l (set m k v)
 
 unfoldable pub noMarks : List ℕ
-noMarks = replicate 4096 1
+noMarks = replicate mostRoom 1
 
 unfoldable pub marksOf : List ℕ → List ℕ
 unfolding marked noMarks

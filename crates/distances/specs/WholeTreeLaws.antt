@@ -12,9 +12,10 @@ use mathlib.Core.Path.{_≡_}
 use mathlib.Core.Bool.{true}
 use mathlib.Core.List.{List}
 use lib.ListN.{length, getD}
+use Rattle.trees.specs.Opening.{mostRoom}
 use Rattle.trees.specs.Distance.{oneSided}
 use Rattle.theorems.specs.ListLaws.{Mem, mem-getD}
-use Rattle.layout.specs.Store.{treesHeldAt, maskAt, listAt, treeAt}
+use Rattle.layout.specs.Store.{treesHeldAt, maskAt, listAt, treeAt, mostSplits}
 use Rattle.layout.specs.WholeStore.{wholeAt}
 use Rattle.layout.specs.WholeFacts.{HeadAt, WholeAt, whole-at-facts}
 use Rattle.layout.specs.InsideLaws.{splits-few}
@@ -31,13 +32,13 @@ module _ (s : List ℕ) (w : wholeAt s ≡ true) where
   head-at = facts .head
 
   module _ (i : ℕ) (h : i < treesHeldAt s) where
-    pub list-few : length (listAt s i) ≤ 62
+    pub list-few : length (listAt s i) ≤ mostSplits
     list-few = facts .lists i h .few
 
-    pub row-few : (k : ℕ) → Mem k (listAt s i) → k < 4096
+    pub row-few : (k : ℕ) → Mem k (listAt s i) → k < mostRoom
     row-few k m = omega (arith, facts .lists i h .numbers-below k m, splits-few s head-at)
 
-    pub row-small : (j k : ℕ) → j < length (listAt s i) → k ≡ getD (listAt s i) j 0 → k < 4096
+    pub row-small : (j k : ℕ) → j < length (listAt s i) → k ≡ getD (listAt s i) j 0 → k < mostRoom
     row-small j k l e = rw e (row-few _ (mem-getD (listAt s i) j l))
 
   pub list-same : (i j : ℕ) → i < treesHeldAt s → j < treesHeldAt s → oneSided (treeAt s i) (treeAt s j) ≡ oneSided (listAt s i) (listAt s j)

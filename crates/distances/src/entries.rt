@@ -10,9 +10,10 @@ ghost use Rattle.layout.specs.Store.{treesHeldAt, listAt};
 ghost use Rattle.layout.specs.WholeStore.{wholeAt};
 ghost use Rattle.distances.specs.Marks.{marksOf};
 ghost use Rattle.distances.specs.Entries.{Filled};
+use layout::MOST_ROOM;
 
 // Writes the distances of tree i, whose rows are marked, from itself and the trees behind it.
-pub(crate) fn write_row(s: &[u8], i: usize, marks: &[u8; 4096], out: &mut [u16])
+pub(crate) fn write_row(s: &[u8], i: usize, marks: &[u8; MOST_ROOM], out: &mut [u16])
     requires { ⌜ wholeAt (now s) ≡ true ⌝ }
     requires { ⌜ i < treesHeldAt (now s) ⌝ }
     requires { ⌜ now marks ≡ marksOf (listAt (now s) i) ⌝ }

@@ -12,6 +12,7 @@ ghost use Rattle.trees.specs.Distance.{oneSided, doubled, matrix};
 ghost use Rattle.layout.specs.Store.{treesHeldAt, treeAt, heldAt};
 ghost use Rattle.layout.specs.WholeStore.{wholeAt};
 use answers::Tree;
+use layout::MOST_ROOM;
 
 mod entries;
 mod marks;
@@ -22,7 +23,7 @@ pub fn one_sided(s: &[u8], a: Tree, b: Tree) -> u16
     requires { ⌜ (a .0 < treesHeldAt (now s)) × (b .0 < treesHeldAt (now s)) ⌝ }
     ensures { λ r. ⌜ r ≡ oneSided (treeAt (now (s .entry)) (a .0)) (treeAt (now (s .entry)) (b .0)) ⌝ }
 {
-    let mut marks = [1; 4096];
+    let mut marks = [1; MOST_ROOM];
     marks::mark_tree(s, b.0, 0, &mut marks);
     marks::lacking(s, b.0, &marks, a.0) as u16
 }
@@ -33,7 +34,7 @@ pub fn doubled(s: &[u8], a: Tree, b: Tree) -> u16
     requires { ⌜ (a .0 < treesHeldAt (now s)) × (b .0 < treesHeldAt (now s)) ⌝ }
     ensures { λ r. ⌜ r ≡ doubled (treeAt (now (s .entry)) (a .0)) (treeAt (now (s .entry)) (b .0)) ⌝ }
 {
-    let mut marks = [1; 4096];
+    let mut marks = [1; MOST_ROOM];
     marks::mark_tree(s, a.0, 0, &mut marks);
     marks::distance(s, a.0, &marks, b.0)
 }
@@ -45,7 +46,7 @@ pub fn write_matrix(s: &[u8], out: &mut [u16])
     ensures { λ r. ⌜ now (out .exit) ≡ matrix (heldAt (now (s .entry)) .trees) ++ drop (treesHeldAt (now (s .entry)) * treesHeldAt (now (s .entry))) (now (out .entry)) ⌝ }
 {
     let trees = layout::trees_held(s);
-    let mut marks = [1; 4096];
+    let mut marks = [1; MOST_ROOM];
     let mut i = 0;
     while i < trees {
         marks::mark_tree(s, i, 0, &mut marks);

@@ -6,17 +6,19 @@ ghost use mathlib.Core.Path.{_≡_};
 ghost use mathlib.Core.Bool.{true};
 ghost use Prim.Native.Nat.{_≤_, _<_};
 ghost use lib.ListN.{length};
+ghost use Rattle.trees.specs.Opening.{mostRoom};
 ghost use Rattle.trees.specs.Distance.{oneSided, doubled};
-ghost use Rattle.layout.specs.Store.{treesHeldAt, listAt, treeAt};
+ghost use Rattle.layout.specs.Store.{treesHeldAt, listAt, treeAt, mostSplits};
 ghost use Rattle.layout.specs.WholeStore.{wholeAt};
 ghost use Rattle.distances.specs.Marks.{marked, marksOf, markSum};
 use answers::Tree;
+use layout::MOST_ROOM;
 
 // Puts v at each row that tree i lists.
-pub(crate) fn mark_tree(s: &[u8], i: usize, v: u8, marks: &mut [u8; 4096])
+pub(crate) fn mark_tree(s: &[u8], i: usize, v: u8, marks: &mut [u8; MOST_ROOM])
     requires { ⌜ wholeAt (now s) ≡ true ⌝ }
     requires { ⌜ i < treesHeldAt (now s) ⌝ }
-    requires { ⌜ length (now marks) ≡ 4096 ⌝ }
+    requires { ⌜ length (now marks) ≡ mostRoom ⌝ }
     ensures { λ r. ⌜ now (marks .exit) ≡ marked v (listAt (now (s .entry)) i) (now (marks .entry)) ⌝ }
 {
     let from = rows::tree_from(s, Tree(i));
@@ -30,7 +32,7 @@ pub(crate) fn mark_tree(s: &[u8], i: usize, v: u8, marks: &mut [u8; 4096])
 }
 
 // The doubled distance of tree j from tree i, whose rows are marked.
-pub(crate) fn distance(s: &[u8], i: usize, marks: &[u8; 4096], j: usize) -> u16
+pub(crate) fn distance(s: &[u8], i: usize, marks: &[u8; MOST_ROOM], j: usize) -> u16
     requires { ⌜ wholeAt (now s) ≡ true ⌝ }
     requires { ⌜ i < treesHeldAt (now s) ⌝ }
     requires { ⌜ now marks ≡ marksOf (listAt (now s) i) ⌝ }
@@ -43,21 +45,21 @@ pub(crate) fn distance(s: &[u8], i: usize, marks: &[u8; 4096], j: usize) -> u16
 }
 
 // The number of splits of tree j that tree i lacks, whose rows are marked.
-pub(crate) fn lacking(s: &[u8], i: usize, marks: &[u8; 4096], j: usize) -> usize
+pub(crate) fn lacking(s: &[u8], i: usize, marks: &[u8; MOST_ROOM], j: usize) -> usize
     requires { ⌜ wholeAt (now s) ≡ true ⌝ }
     requires { ⌜ i < treesHeldAt (now s) ⌝ }
     requires { ⌜ now marks ≡ marksOf (listAt (now s) i) ⌝ }
     requires { ⌜ j < treesHeldAt (now s) ⌝ }
     ensures { λ r. ⌜ r ≡ oneSided (treeAt (now (s .entry)) j) (treeAt (now (s .entry)) i) ⌝ }
-    ensures { λ r. ⌜ r ≤ 62 ⌝ }
+    ensures { λ r. ⌜ r ≤ mostSplits ⌝ }
 {
     sum_marks(s, marks, j)
 }
 
 // The sum of the marks of the rows that tree j lists.
-fn sum_marks(s: &[u8], marks: &[u8; 4096], j: usize) -> usize
+fn sum_marks(s: &[u8], marks: &[u8; MOST_ROOM], j: usize) -> usize
     requires { ⌜ wholeAt (now s) ≡ true ⌝ }
-    requires { ⌜ length (now marks) ≡ 4096 ⌝ }
+    requires { ⌜ length (now marks) ≡ mostRoom ⌝ }
     requires { ⌜ j < treesHeldAt (now s) ⌝ }
     ensures { λ r. ⌜ r ≡ markSum (now (marks .entry)) (listAt (now (s .entry)) j) ⌝ }
 {

@@ -18,6 +18,7 @@ use mathlib.Core.Bool.{Bool, true, false, _&&_}
 use mathlib.Core.List.{List, _++_}
 use lib.Dec.{ltb}
 use lib.ListN.{length, getD, drop}
+use Rattle.trees.specs.Opening.{laneBytes}
 use Rattle.trees.specs.Plain.{if_then_else_, every, Answer, refused, gives}
 use Rattle.trees.specs.Held.{Closed, moreWanted, accepted, feeding, closing}
 use Rattle.trees.specs.Held as held
@@ -55,7 +56,7 @@ isAccepted (gives moreWanted) = false
 isAccepted (gives (accepted t)) = true
 
 abbrev pub SameOutside : List ℕ → ℕ → List ℕ → Type 0
-SameOutside s l t = (i : ℕ) → (i < laneFrom l) ⊎ (laneFrom l + 4104 ≤ i) → getD t i 0 ≡ getD s i 0
+SameOutside s l t = (i : ℕ) → (i < laneFrom l) ⊎ (laneFrom l + laneBytes ≤ i) → getD t i 0 ≡ getD s i 0
 
 -- "All lent memory stays as found, save the lane emptied by a verdict"
 pub record FedAs (s : List ℕ) (l : ℕ) (p : List ℕ) (r : Fed) (t : List ℕ) : Type 0 where

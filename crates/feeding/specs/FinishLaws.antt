@@ -30,7 +30,7 @@ use Rattle.fields.specs.Field.{number}
 use Rattle.records.specs.Records.{wide, recordOf, recordsOf, withRecords, masksOf}
 use Rattle.records.specs.RecordLaws.{records-length, record-at, masks-records}
 use Rattle.head.specs.Head.{numbersAt, firstAt, secondAt, openingAt}
-use Rattle.layout.specs.Store.{treesHeldAt, laneFrom, heldAt, heldIn}
+use Rattle.layout.specs.Store.{treesHeldAt, laneFrom, heldAt, heldIn, ranOver, mostSplits}
 use Rattle.layout.specs.WholeStore.{wholeAt}
 use Rattle.store.specs.RecordedAtLaws.{trees-length}
 use Rattle.store.specs.HeldWholeLaws.{opening-facts}
@@ -69,7 +69,7 @@ module _ (s : List ℕ) (l : ℕ) where
   verdict-room x t e q = verdict-held x e ∙ rw (names-held, q)
 
 -- the text that a lane holds
-pub held-text : (s : List ℕ) (w : wholeAt s ≡ true) (l : ℕ) → l < numbersAt s .lanes → (n : ℕ) → n ≡ number 2 s (laneFrom l) → (n ≡ 4097 → ⊥)
+pub held-text : (s : List ℕ) (w : wholeAt s ≡ true) (l : ℕ) → l < numbersAt s .lanes → (n : ℕ) → n ≡ number 2 s (laneFrom l) → (n ≡ ranOver → ⊥)
     → laneOf (heldAt s) l ≡ holding (take n (drop (laneFrom l + 8) s))
 held-text s w l m n e d = lane-holding s w l m (λ q. d (e ∙ q)) ∙ rw e
 
@@ -109,7 +109,7 @@ module _ (s u text x : List ℕ) (k : ℕ) (old new : List ℕ) (w : wholeAt s �
   named : length (openingAt s .names) ≡ openingAt s .numbers .taxa
   named = opening-facts s w .named .count
 
-  few : length x ≤ 62
+  few : length x ≤ mostSplits
   few = let g = opening-facts s w .ranges in omega (arith, few-splits (openingAt s .names) text x (omega (arith, named, g .least-taxa)) q, named, g .most-taxa)
 
   numbers-in : numbersAt u ≡ openingAt s .numbers

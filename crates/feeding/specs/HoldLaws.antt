@@ -11,7 +11,7 @@ use mathlib.Core.Logic.{inr}
 use mathlib.Core.Bool.{Bool, true, false, and-false, true≢false}
 use mathlib.Core.List.{List}
 use borrow.Author.Tests.{lt-ltb, le-ltb}
-use Rattle.trees.specs.Opening.{storeSize}
+use Rattle.trees.specs.Opening.{storeSize, laneBytes}
 use Rattle.trees.specs.Held.{Lane, withLane}
 use Rattle.theorems.specs.ListLaws.{and-true}
 use Rattle.head.specs.Head.{numbersAt}
@@ -28,7 +28,7 @@ pub size-held : (s : List ℕ) → storeSize (heldAt s .opening .numbers) ≡ si
 unfolding sizeAt
 size-held s = ap storeSize (held-numbers s)
 
-pub lane-below : (s : List ℕ) (l : ℕ) → l < numbersAt s .lanes → laneFrom l + 4104 ≤ sizeAt s
+pub lane-below : (s : List ℕ) (l : ℕ) → l < numbersAt s .lanes → laneFrom l + laneBytes ≤ sizeAt s
 lane-below s l h = omega (arith, lane-from l, masks-from (numbersAt s), size-is s)
 
 pub lane-holds : (s : List ℕ) (l : ℕ) (x : Lane) (t : List ℕ) → l < numbersAt s .lanes → LaneIs s l x t → Holds (withLane (heldAt s) l x) s t

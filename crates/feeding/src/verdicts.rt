@@ -4,6 +4,7 @@ ghost use mathlib.Core.Path.{_≡_};
 ghost use mathlib.Core.Bool.{true};
 ghost use Prim.Native.Nat.{_+_, _≤_, _<_};
 ghost use lib.ListN.{length, take, drop};
+ghost use Rattle.trees.specs.Held.{mostText};
 ghost use Rattle.head.specs.Head.{numbersAt, namesAt, openingAt};
 ghost use Rattle.head.specs.Index.{Indexed};
 ghost use Rattle.layout.specs.Store.{laneFrom};
@@ -13,6 +14,7 @@ ghost use Rattle.feeding.specs.Texts.{Finished};
 use answers::Lane;
 use answers::Progress;
 use answers::Refusal;
+use layout::RAN_OVER;
 use newick::Judged;
 
 // The verdict on the text of a lane, which is empty afterwards.
@@ -23,7 +25,7 @@ pub(crate) fn finish_text(s: &mut [u8], starts: &[u8; 128], links: &[u8; 64], l:
     ensures { λ r. ⌜ Finished (now (s .entry)) (l .0) r (now (s .exit)) ⌝ }
 {
     let n = lanes::lane_length(s, l);
-    if n == 4097 {
+    if n == RAN_OVER {
         lanes::empty_lane(s, l);
         return Progress::Refused(Refusal::TooLong);
     }
@@ -48,7 +50,7 @@ fn judge_lane(
     requires { ⌜ wholeAt (now s) ≡ true ⌝ }
     requires { ⌜ l .0 < numbersAt (now s) .lanes ⌝ }
     requires { ⌜ Indexed (namesAt (now s)) (now starts) (now links) ⌝ }
-    requires { ⌜ n ≤ 4096 ⌝ }
+    requires { ⌜ n ≤ mostText ⌝ }
     requires { ⌜ 192 ≤ length (now records) ⌝ }
     ensures { λ r. ⌜ JudgedAs (openingAt (now (s .entry))) (take n (drop (laneFrom (l .0) + 8) (now (s .entry)))) r (now (records .entry)) (now (records .exit)) ⌝ }
 {

@@ -12,6 +12,7 @@ use native.Mathlib.Omega.{arith}
 use mathlib.Core.List.{List, [], _∷_}
 use lib.ListN.{length, getD, take, drop, length-drop}
 use lib.Seq.{slice, take-nil, drop-nil, length-take-le, getD-take, getD-drop, ext-getD}
+use Rattle.trees.specs.Opening.{headBytes}
 use Rattle.fields.specs.Field.{number}
 use Rattle.fields.specs.FieldLaws.{number-same}
 use Rattle.head.specs.Head.{fromTo, upTo, numbersAt, nameAt, namesAt, firstAt, secondAt, openingAt}
@@ -102,8 +103,8 @@ run-same s t b n f g h =
     rw (getD-take, getD-take, getD-drop, getD-drop) (h (b + i) (omega arith)))
 
 -- with at most 64 taxa, and bytes below 256, so that a name of any length ends inside
-module _ (s t : List ℕ) (h : (i : ℕ) → i < 4096 → getD s i 0 ≡ getD t i 0) where
-  fields-same : (k a : ℕ) → a + k ≤ 4096 → number k s a ≡ number k t a
+module _ (s t : List ℕ) (h : (i : ℕ) → i < headBytes → getD s i 0 ≡ getD t i 0) where
+  fields-same : (k a : ℕ) → a + k ≤ headBytes → number k s a ≡ number k t a
   fields-same k a l = number-same k s t a a (λ i m. h (a + i) (omega arith))
 
   pub numbers-same : numbersAt s ≡ numbersAt t
@@ -117,7 +118,7 @@ module _ (s t : List ℕ) (h : (i : ℕ) → i < 4096 → getD s i 0 ≡ getD t 
         fields-same 2 8 (omega arith),
       )
 
-  module _ (f : 4096 ≤ length s) (g : 4096 ≤ length t) (bytes : (i : ℕ) → getD s i 0 < 256) where
+  module _ (f : headBytes ≤ length s) (g : headBytes ≤ length t) (bytes : (i : ℕ) → getD s i 0 < 256) where
     pub name-same : (i : ℕ) → i < 64 → nameAt s i ≡ nameAt t i
     unfolding nameAt
     name-same i l =

@@ -8,6 +8,7 @@ ghost use mathlib.Core.Path.{_≡_};
 ghost use Prim.Native.Nat.{_+_, _*_, _≤_, _<_};
 ghost use lib.ListN.{length, getD};
 ghost use lib.Seq.{slice};
+ghost use Rattle.trees.specs.Opening.{headBytes};
 ghost use Rattle.trees.specs.Plain.{sameBytes};
 ghost use Rattle.trees.specs.Names.{taxonOf};
 ghost use Rattle.fields.specs.Field.{number};
@@ -23,7 +24,7 @@ pub enum Found {
 
 // The number of taxa.
 pub fn taxa(s: &[u8]) -> u32
-    requires { ⌜ 4096 ≤ length (now s) ⌝ }
+    requires { ⌜ headBytes ≤ length (now s) ⌝ }
     ensures { λ r. ⌜ r ≡ numbersAt (now (s .entry)) .taxa ⌝ }
     ensures { λ r. ⌜ r < 65536 ⌝ }
 {
@@ -32,7 +33,7 @@ pub fn taxa(s: &[u8]) -> u32
 
 // The number of lanes.
 pub fn lanes(s: &[u8]) -> u32
-    requires { ⌜ 4096 ≤ length (now s) ⌝ }
+    requires { ⌜ headBytes ≤ length (now s) ⌝ }
     ensures { λ r. ⌜ r ≡ numbersAt (now (s .entry)) .lanes ⌝ }
     ensures { λ r. ⌜ r < 65536 ⌝ }
 {
@@ -41,7 +42,7 @@ pub fn lanes(s: &[u8]) -> u32
 
 // How many trees there is room for.
 pub fn tree_room(s: &[u8]) -> u32
-    requires { ⌜ 4096 ≤ length (now s) ⌝ }
+    requires { ⌜ headBytes ≤ length (now s) ⌝ }
     ensures { λ r. ⌜ r ≡ numbersAt (now (s .entry)) .treeRoom ⌝ }
     ensures { λ r. ⌜ r < 65536 ⌝ }
 {
@@ -50,7 +51,7 @@ pub fn tree_room(s: &[u8]) -> u32
 
 // How many splits there is room for.
 pub fn split_room(s: &[u8]) -> u32
-    requires { ⌜ 4096 ≤ length (now s) ⌝ }
+    requires { ⌜ headBytes ≤ length (now s) ⌝ }
     ensures { λ r. ⌜ r ≡ numbersAt (now (s .entry)) .splitRoom ⌝ }
     ensures { λ r. ⌜ r < 65536 ⌝ }
 {
@@ -59,7 +60,7 @@ pub fn split_room(s: &[u8]) -> u32
 
 // The number of places.
 pub fn places(s: &[u8]) -> u32
-    requires { ⌜ 4096 ≤ length (now s) ⌝ }
+    requires { ⌜ headBytes ≤ length (now s) ⌝ }
     ensures { λ r. ⌜ r ≡ numbersAt (now (s .entry)) .places ⌝ }
     ensures { λ r. ⌜ r < 65536 ⌝ }
 {
@@ -84,7 +85,7 @@ fn wide16(x: u16) -> u32
 
 // The first list's constant of taxon i.
 pub fn first_constant(s: &[u8], i: Taxon) -> u64
-    requires { ⌜ 4096 ≤ length (now s) ⌝ }
+    requires { ⌜ headBytes ≤ length (now s) ⌝ }
     requires { ⌜ i .0 < 64 ⌝ }
     ensures { λ r. ⌜ r ≡ number 2 (now (s .entry)) (2128 + 2 * i .0) ⌝ }
     ensures { λ r. ⌜ r < 65536 ⌝ }
@@ -94,7 +95,7 @@ pub fn first_constant(s: &[u8], i: Taxon) -> u64
 
 // The second list's constant of taxon i.
 pub fn second_constant(s: &[u8], i: Taxon) -> u64
-    requires { ⌜ 4096 ≤ length (now s) ⌝ }
+    requires { ⌜ headBytes ≤ length (now s) ⌝ }
     requires { ⌜ i .0 < 64 ⌝ }
     ensures { λ r. ⌜ r ≡ number 8 (now (s .entry)) (2256 + 8 * i .0) ⌝ }
 {
@@ -103,7 +104,7 @@ pub fn second_constant(s: &[u8], i: Taxon) -> u64
 
 // Makes the index of the names, whatever the two arrays held, from the last taxon down to the first.
 pub fn build_index(s: &[u8], starts: &mut [u8; 128], links: &mut [u8; 64])
-    requires { ⌜ 4096 ≤ length (now s) ⌝ }
+    requires { ⌜ headBytes ≤ length (now s) ⌝ }
     requires { ⌜ numbersAt (now s) .taxa ≤ 64 ⌝ }
     ensures { λ r. ⌜ Indexed (namesAt (now (s .entry))) (now (starts .exit)) (now (links .exit)) ⌝ }
 {
@@ -127,7 +128,7 @@ pub fn find_taxon(
     b: usize,
     e: usize,
 ) -> Found
-    requires { ⌜ 4096 ≤ length (now s) ⌝ }
+    requires { ⌜ headBytes ≤ length (now s) ⌝ }
     requires { ⌜ numbersAt (now s) .taxa ≤ 64 ⌝ }
     requires { ⌜ Indexed (namesAt (now s)) (now starts) (now links) ⌝ }
     requires { ⌜ b ≤ e ⌝ }
@@ -149,7 +150,7 @@ pub fn find_taxon(
 
 // Whether the name of taxon i is the bytes of the text from b up to e.
 fn name_is(s: &[u8], i: usize, text: &[u8], b: usize, e: usize) -> bool
-    requires { ⌜ 4096 ≤ length (now s) ⌝ }
+    requires { ⌜ headBytes ≤ length (now s) ⌝ }
     requires { ⌜ i < 64 ⌝ }
     requires { ⌜ b ≤ e ⌝ }
     requires { ⌜ e ≤ length (now text) ⌝ }
@@ -185,7 +186,7 @@ fn same_runs(s: &[u8], a: usize, z: usize, text: &[u8], b: usize, e: usize) -> b
 
 // The key of the name of taxon i.
 fn name_key(s: &[u8], i: usize) -> usize
-    requires { ⌜ 4096 ≤ length (now s) ⌝ }
+    requires { ⌜ headBytes ≤ length (now s) ⌝ }
     requires { ⌜ i < 64 ⌝ }
     ensures { λ r. ⌜ (r ≡ key (nameAt (now (s .entry)) i)) × (r < 128) ⌝ }
 {
@@ -195,7 +196,7 @@ fn name_key(s: &[u8], i: usize) -> usize
 
 // The length of the name of taxon i.
 fn name_length(s: &[u8], i: usize) -> usize
-    requires { ⌜ 4096 ≤ length (now s) ⌝ }
+    requires { ⌜ headBytes ≤ length (now s) ⌝ }
     requires { ⌜ i < 64 ⌝ }
     ensures { λ r. ⌜ (r ≡ getD (now (s .entry)) (16 + 33 * i) 0) × (r < 256) ⌝ }
 {

@@ -19,7 +19,7 @@ use Rattle.answers.specs.declared.Finish.the-variants as finish
 use Rattle.answers.specs.Answers.{finishGiven}
 use Rattle.fields.specs.Field.{number}
 use Rattle.head.specs.Head.{numbersAt}
-use Rattle.layout.specs.Store.{laneFrom, heldAt}
+use Rattle.layout.specs.Store.{laneFrom, heldAt, ranOver}
 use Rattle.layout.specs.WholeStore.{wholeAt}
 use Rattle.store.specs.HeldWholeLaws.{held-numbers}
 use Rattle.lanes.specs.LaneLaws.{lane-overrun, lane-holding}
@@ -49,10 +49,10 @@ module _ (s : List ℕ) (l : ℕ) (m : l < numbersAt s .lanes) where
   answer-of x e = sym (ap (λ (c : Closed). c .answer) closing-here ∙ ap closed e)
 
   module _ (w : wholeAt s ≡ true) (n : ℕ) (is : n ≡ number 2 s (laneFrom l)) where
-    pub closing-over : n ≡ 4097 → finishGiven (finish.Refused why.TooLong) ≡ closing (heldAt s) l .answer
+    pub closing-over : n ≡ ranOver → finishGiven (finish.Refused why.TooLong) ≡ closing (heldAt s) l .answer
     closing-over e = over-refused ∙ answer-of overrun (lane-overrun s w l m (sym is ∙ e))
 
-    module _ (held : n ≡ 4097 → ⊥) (from : ℕ) (at : from ≡ laneFrom l) where
+    module _ (held : n ≡ ranOver → ⊥) (from : ℕ) (at : from ≡ laneFrom l) where
       text-is : laneOf (heldAt s) l ≡ holding (take (from + 8 + n - (from + 8)) (drop (from + 8) s))
       text-is =
           let e : from + 8 + n - (from + 8) ≡ number 2 s (laneFrom l) = omega arith in

@@ -16,13 +16,13 @@ use lib.Seq.{getD-set-same, getD-set-other}
 use borrow.Author.Tests.{eqb-true, eqb-false}
 use Rattle.theorems.specs.ListLaws.{less-or-not}
 use Rattle.trees.specs.Plain.{if_then_else_}
-use Rattle.trees.specs.Opening.{Numbers, Opening}
+use Rattle.trees.specs.Opening.{Numbers, Opening, laneBytes, headBytes}
 use Rattle.trees.specs.Held.{Lane, withLane}
 use Rattle.fields.specs.Field.{number}
 use Rattle.head.specs.Head.{upTo, numbersAt, openingAt}
 use Rattle.head.specs.HeadLaws.{numbers-same, head-same, upTo-same}
 use Rattle.layout.specs.Columns.{columnAt, column-same, upTo-set}
-use Rattle.layout.specs.Store.{laneFrom, treeFrom, masksFrom, identifiersFrom, countsFrom, linksFrom, orderFrom, placesFrom, Parts, listFrom, textFrom, partsAt, maskIn, heldIn, heldAt}
+use Rattle.layout.specs.Store.{laneFrom, treeFrom, masksFrom, identifiersFrom, countsFrom, linksFrom, orderFrom, placesFrom, Parts, listFrom, textFrom, partsAt, maskIn, heldIn, heldAt, ranOver}
 use Rattle.layout.specs.StoreLaws.{lane-from, tree-from, masks-from, identifiers-from, counts-from, links-from, order-from, places-from, Shaped, shaped-at}
 use Rattle.layout.specs.KeptLaws.{Kept, number-kept, list-kept, text-kept}
 use Rattle.layout.specs.WholeStore.{highestIn, listedIn, wholeAt}
@@ -53,7 +53,7 @@ module _ (o : Opening) (p : Parts) (l n : ℕ) (x : Lane) where
   highest-with h q zero = refl
   highest-with h q (suc k) = ap (λ (r : ℕ). if eqb (h (maskIn p k)) q then suc k else r) (highest-with h q k)
 
-  sound-with : Sound o p → Shaped (o .numbers) (withText l n x p) → l < o .numbers .lanes → n ≤ 4097 → Sound o (withText l n x p)
+  sound-with : Sound o p → Shaped (o .numbers) (withText l n x p) → l < o .numbers .lanes → n ≤ ranOver → Sound o (withText l n x p)
   unfolding listedIn
   sound-with f a m h =
       let b = f .splits in
@@ -66,28 +66,28 @@ module _ (o : Opening) (p : Parts) (l n : ℕ) (x : Lane) where
         lanes = λ j q. go j q (eqb j l) refl;
       }
     where
-      go : (j : ℕ) → j < o .numbers .lanes → (c : Bool) → eqb j l ≡ c → getD (set (p .lengths) l n) j 0 ≤ 4097
+      go : (j : ℕ) → j < o .numbers .lanes → (c : Bool) → eqb j l ≡ c → getD (set (p .lengths) l n) j 0 ≤ ranOver
       go j q true e = rw (eqb-true j l e, getD-set-same (p .lengths) l n 0 (omega (arith, f .shaped .lengths))) h
       go j q false e = rw (getD-set-other (p .lengths) l j n 0 (eqb-false j l e)) (f .lanes j q)
 
 -- ---- the bytes
 
 module _ (s : List ℕ) (w : wholeAt s ≡ true) (l : ℕ) (m : l < numbersAt s .lanes) (bytes : (i : ℕ) → getD s i 0 < 256)
-    (t : List ℕ) (size : length t ≡ length s) (outside : (i : ℕ) → (i < laneFrom l) ⊎ (laneFrom l + 4104 ≤ i) → getD t i 0 ≡ getD s i 0) where
+    (t : List ℕ) (size : length t ≡ length s) (outside : (i : ℕ) → (i < laneFrom l) ⊎ (laneFrom l + laneBytes ≤ i) → getD t i 0 ≡ getD s i 0) where
   facts : WholeAt s
   facts = whole-at-facts s w
 
-  front : Kept s t 0 4096
+  front : Kept s t 0 headBytes
   front i a b = outside i (inl (omega (arith, lane-from l)))
 
   behind : (hi : ℕ) → Kept s t (laneFrom (numbersAt s .lanes)) hi
   behind hi i a b = outside i (inr (omega (arith, lane-from l, lane-from (numbersAt s .lanes))))
 
   -- another lane lies before or behind
-  apart : (j : ℕ) → (j ≡ l → ⊥) → Kept s t (laneFrom j) (laneFrom j + 4104)
+  apart : (j : ℕ) → (j ≡ l → ⊥) → Kept s t (laneFrom j) (laneFrom j + laneBytes)
   apart j d i a b = outside i (go (less-or-not j l))
     where
-      go : (j < l) ⊎ (l ≤ j) → (i < laneFrom l) ⊎ (laneFrom l + 4104 ≤ i)
+      go : (j < l) ⊎ (l ≤ j) → (i < laneFrom l) ⊎ (laneFrom l + laneBytes ≤ i)
       go (inl q) = inl (omega (arith, lane-from l, lane-from j))
       go (inr q) = inr (omega (arith, lane-from l, lane-from j))
 
@@ -106,7 +106,7 @@ module _ (s : List ℕ) (w : wholeAt s ≡ true) (l : ℕ) (m : l < numbersAt s 
   lists-kept : upTo (λ i. listFrom t (treeFrom (numbersAt t) i)) (number 2 t 10) ≡ upTo (λ i. listFrom s (treeFrom (numbersAt s) i)) (number 2 s 10)
   lists-kept =
       let n = numbersAt s in
-      rw (numbers-kept, number-kept s t 0 4096 front 2 10 (omega arith) (omega arith))
+      rw (numbers-kept, number-kept s t 0 headBytes front 2 10 (omega arith) (omega arith))
       (upTo-same _ _ (number 2 s 10) (λ i h.
       let a = treeFrom n i in
       list-kept s t _ (a + 2 + 2 * number 2 s a) (behind _) a (omega (arith, lane-from (n .lanes), tree-from n i)) (omega arith)))
@@ -127,7 +127,7 @@ module _ (s : List ℕ) (w : wholeAt s ≡ true) (l : ℕ) (m : l < numbersAt s 
   parts-with i =
       let n = numbersAt s in
       let h : laneFrom (n .lanes) ≤ masksFrom n = omega (arith, lane-from (n .lanes), masks-from n) in
-      let e = number-kept s t 0 4096 front 2 12 (omega arith) (omega arith) in
+      let e = number-kept s t 0 headBytes front 2 12 (omega arith) (omega arith) in
       record {
         masks = column-kept 8 masksFrom _ _ e h i;
         identifiers = column-kept 8 identifiersFrom _ _ e (omega (arith, identifiers-from n)) i;
@@ -140,7 +140,7 @@ module _ (s : List ℕ) (w : wholeAt s ≡ true) (l : ℕ) (m : l < numbersAt s 
         texts = texts-with i;
       }
 
-  module _ (n : ℕ) (x : Lane) (e : number 2 t (laneFrom l) ≡ n) (fits : n ≤ 4097) (f : textFrom t (laneFrom l) ≡ x) where
+  module _ (n : ℕ) (x : Lane) (e : number 2 t (laneFrom l) ≡ n) (fits : n ≤ ranOver) (f : textFrom t (laneFrom l) ≡ x) where
     parts-are : partsAt t ≡ withText l n x (partsAt s)
     parts-are = rw (← e, ← f) parts-with
 

@@ -13,11 +13,12 @@ use mathlib.Core.Bool.{true}
 use mathlib.Core.List.{List}
 use lib.ListN.{length, take, drop}
 use borrow.Author.Tests.{eq-eqb, ne-eqb}
+use Rattle.trees.specs.Opening.{laneBytes}
 use Rattle.trees.specs.Held.{holding, overrun, laneOf}
 use Rattle.theorems.specs.ListLaws.{if-true, if-false}
 use Rattle.fields.specs.Field.{number}
 use Rattle.head.specs.Head.{numbersAt}
-use Rattle.layout.specs.Store.{laneFrom, textFrom, heldIn, heldAt}
+use Rattle.layout.specs.Store.{laneFrom, textFrom, heldIn, heldAt, ranOver}
 use Rattle.layout.specs.StoreLaws.{length-is, lane-is}
 use Rattle.layout.specs.WholeStore.{wholeAt}
 use Rattle.layout.specs.WholeFacts.{whole-at-facts}
@@ -26,11 +27,11 @@ use Rattle.layout.specs.InsideLaws.{ranges, lane-inside}
 -- ---- any bytes
 
 module _ (s : List ℕ) (a : ℕ) where
-  pub text-over : number 2 s a ≡ 4097 → textFrom s a ≡ overrun
+  pub text-over : number 2 s a ≡ ranOver → textFrom s a ≡ overrun
   unfolding textFrom
   text-over e = if-true _ _ (eq-eqb _ _ e)
 
-  pub text-holds : (number 2 s a ≡ 4097 → ⊥) → textFrom s a ≡ holding (take (number 2 s a) (drop (a + 8) s))
+  pub text-holds : (number 2 s a ≡ ranOver → ⊥) → textFrom s a ≡ holding (take (number 2 s a) (drop (a + 8) s))
   unfolding textFrom
   text-holds d = if-false _ _ (ne-eqb _ _ d)
 
@@ -40,18 +41,18 @@ module _ (s : List ℕ) (w : wholeAt s ≡ true) (l : ℕ) (m : l < numbersAt s 
   pub lane-few : l < 65536
   lane-few = omega (arith, ranges s (whole-at-facts s w .head) .most-lanes)
 
-  pub lane-end : laneFrom l + 4104 ≤ length s
+  pub lane-end : laneFrom l + laneBytes ≤ length s
   lane-end = lane-inside s (whole-at-facts s w .head) l m
 
-  pub lane-fits : number 2 s (laneFrom l) ≤ 4097
+  pub lane-fits : number 2 s (laneFrom l) ≤ ranOver
   lane-fits = rw (← length-is s l m) (whole-at-facts s w .lanes l m)
 
   lane-of : laneOf (heldAt s) l ≡ textFrom s (laneFrom l)
   unfolding laneOf heldIn textFrom
   lane-of = lane-is s l m
 
-  pub lane-overrun : number 2 s (laneFrom l) ≡ 4097 → laneOf (heldAt s) l ≡ overrun
+  pub lane-overrun : number 2 s (laneFrom l) ≡ ranOver → laneOf (heldAt s) l ≡ overrun
   lane-overrun e = lane-of ∙ text-over s (laneFrom l) e
 
-  pub lane-holding : (number 2 s (laneFrom l) ≡ 4097 → ⊥) → laneOf (heldAt s) l ≡ holding (take (number 2 s (laneFrom l)) (drop (laneFrom l + 8) s))
+  pub lane-holding : (number 2 s (laneFrom l) ≡ ranOver → ⊥) → laneOf (heldAt s) l ≡ holding (take (number 2 s (laneFrom l)) (drop (laneFrom l + 8) s))
   lane-holding d = lane-of ∙ text-holds s (laneFrom l) d

@@ -13,13 +13,14 @@ use mathlib.Core.List.{List, [], _++_}
 use lib.ListN.{length, getD, take, drop, length-drop, length-append}
 use lib.Seq.{length-take-le, take-length, take-add, drop-drop}
 use borrow.Author.Tests.{lt-ltb, le-ltb}
+use Rattle.trees.specs.Opening.{laneBytes}
 use Rattle.trees.specs.Held.{Lane, holding, laneOf, longer, mostText}
 use Rattle.fields.specs.Field.{number, put}
 use Rattle.fields.specs.FieldLaws.{put-length, put-outside, number-put}
 use Rattle.fields.specs.Run.{copied}
 use Rattle.fields.specs.RunLaws.{copied-length, copied-inside, copied-outside}
 use Rattle.head.specs.Head.{numbersAt}
-use Rattle.layout.specs.Store.{laneFrom, textFrom, heldAt}
+use Rattle.layout.specs.Store.{laneFrom, textFrom, heldAt, ranOver}
 use Rattle.layout.specs.KeptLaws.{run-same}
 use Rattle.layout.specs.WholeStore.{wholeAt}
 use Rattle.lanes.specs.Lanes.{LaneIs}
@@ -27,12 +28,12 @@ use Rattle.lanes.specs.LaneLaws.{text-over, text-holds, lane-end, lane-f
 use Rattle.lanes.specs.LaneChangeLaws.{lane-changed}
 
 module _ (s : List ℕ) (w : wholeAt s ≡ true) (l : ℕ) (m : l < numbersAt s .lanes) (bytes : (i : ℕ) → getD s i 0 < 256) where
-  ends : laneFrom l + 4104 ≤ length s
+  ends : laneFrom l + laneBytes ≤ length s
   ends = lane-end s w l m
 
   -- ---- the piece p is copied behind n bytes of text, and the length v put
 
-  module _ (p : List ℕ) (n v : ℕ) (room : n + length p ≤ 4096) where
+  module _ (p : List ℕ) (n v : ℕ) (room : n + length p ≤ mostText) where
     abbrev with-piece : List ℕ
     with-piece = copied s (laneFrom l + 8 + n) p 0 (length p)
 
@@ -45,7 +46,7 @@ module _ (s : List ℕ) (w : wholeAt s ≡ true) (l : ℕ) (m : l < numbersAt s 
     done-kept : (i : ℕ) → (i < laneFrom l) ⊎ (laneFrom l + 2 ≤ i) → (i < laneFrom l + 8 + n) ⊎ (laneFrom l + 8 + n + length p ≤ i) → getD done i 0 ≡ getD s i 0
     done-kept i g h = put-outside 2 with-piece (laneFrom l) v i g ∙ copied-outside s (laneFrom l + 8 + n) p 0 (length p) i h
 
-    done-outside : (i : ℕ) → (i < laneFrom l) ⊎ (laneFrom l + 4104 ≤ i) → getD done i 0 ≡ getD s i 0
+    done-outside : (i : ℕ) → (i < laneFrom l) ⊎ (laneFrom l + laneBytes ≤ i) → getD done i 0 ≡ getD s i 0
     done-outside i (inl h) = done-kept i (inl h) (inl (omega arith))
     done-outside i (inr h) = done-kept i (inr (omega arith)) (inr (omega arith))
 
@@ -62,13 +63,13 @@ module _ (s : List ℕ) (w : wholeAt s ≡ true) (l : ℕ) (m : l < numbersAt s 
         ∙ copied-inside s (a + n) p 0 (length p) (a + n + i) (0 + i) (omega (arith, ends)) (omega arith) (omega arith) (omega arith) (omega arith))
         ∙ take-length p)
 
-    done-is : v ≤ 4097 → (x : Lane) → (number 2 done (laneFrom l) ≡ v → textFrom done (laneFrom l) ≡ x) → LaneIs s l x done
+    done-is : v ≤ ranOver → (x : Lane) → (number 2 done (laneFrom l) ≡ v → textFrom done (laneFrom l) ≡ x) → LaneIs s l x done
     done-is h x f =
         let e = number-put 2 with-piece (laneFrom l) v (omega (arith, ends, size)) (omega arith) in
         lane-changed s w l m bytes done (put-length 2 with-piece (laneFrom l) v ∙ size) done-outside v x e h (f e)
 
   -- the length alone
-  length-is : (v : ℕ) → v ≤ 4097 → (x : Lane) → (number 2 (put 2 s (laneFrom l) v) (laneFrom l) ≡ v → textFrom (put 2 s (laneFrom l) v) (laneFrom l) ≡ x)
+  length-is : (v : ℕ) → v ≤ ranOver → (x : Lane) → (number 2 (put 2 s (laneFrom l) v) (laneFrom l) ≡ v → textFrom (put 2 s (laneFrom l) v) (laneFrom l) ≡ x)
       → LaneIs s l x (put 2 s (laneFrom l) v)
   unfolding copied
   length-is v = done-is [] 0 v (omega arith)
@@ -82,13 +83,13 @@ module _ (s : List ℕ) (w : wholeAt s ≡ true) (l : ℕ) (m : l < numbersAt s 
     abbrev after : Lane
     after = longer (laneOf (heldAt s) l) p
 
-    pub stays-over : n ≡ 4097 → LaneIs s l after s
+    pub stays-over : n ≡ ranOver → LaneIs s l after s
     unfolding longer
     stays-over h =
-        let e : number 2 s (laneFrom l) ≡ 4097 = sym is ∙ h in
-        lane-changed s w l m bytes s refl (λ i q. refl) 4097 after e (omega arith) (text-over s (laneFrom l) e ∙ rw (lane-overrun s w l m e))
+        let e : number 2 s (laneFrom l) ≡ ranOver = sym is ∙ h in
+        lane-changed s w l m bytes s refl (λ i q. refl) ranOver after e (omega arith) (text-over s (laneFrom l) e ∙ rw (lane-overrun s w l m e))
 
-    module _ (held : n ≡ 4097 → ⊥) (from : ℕ) (at : from ≡ laneFrom l) where
+    module _ (held : n ≡ ranOver → ⊥) (from : ℕ) (at : from ≡ laneFrom l) where
       abbrev text : List ℕ
       text = take n (drop (laneFrom l + 8) s)
 
@@ -101,18 +102,18 @@ module _ (s : List ℕ) (w : wholeAt s ≡ true) (l : ℕ) (m : l < numbersAt s 
           let f = lane-fits s w l m in
           length-append text p ∙ ap (λ (k : ℕ). k + length p) (length-take-le n (drop (laneFrom l + 8) s) (omega (arith, ends, length-drop (laneFrom l + 8) s)))
 
-      pub runs-over : 4096 - n < length p → {t : List ℕ} → t ≡ put 2 s from 4097 → LaneIs s l after t
+      pub runs-over : mostText - n < length p → {t : List ℕ} → t ≡ put 2 s from ranOver → LaneIs s l after t
       unfolding longer
       runs-over h {t} e =
           rw (e, at)
-          (length-is 4097 (omega arith) after (λ q.
-          text-over (put 2 s (laneFrom l) 4097) (laneFrom l) q ∙ rw (text-is, lt-ltb mostText (length (text ++ p)) (omega (arith, text-length)))))
+          (length-is ranOver (omega arith) after (λ q.
+          text-over (put 2 s (laneFrom l) ranOver) (laneFrom l) q ∙ rw (text-is, lt-ltb mostText (length (text ++ p)) (omega (arith, text-length)))))
 
-      pub holds-more : length p ≤ 4096 - n → {u t : List ℕ} → u ≡ copied s (from + 8 + n) p 0 (length p) → t ≡ put 2 u from (n + length p) → LaneIs s l after t
+      pub holds-more : length p ≤ mostText - n → {u t : List ℕ} → u ≡ copied s (from + 8 + n) p 0 (length p) → t ≡ put 2 u from (n + length p) → LaneIs s l after t
       unfolding longer
       holds-more h {u} {t} e f =
           let g = lane-fits s w l m in
-          let k : n + length p ≤ 4096 = omega arith in
+          let k : n + length p ≤ mostText = omega arith in
           rw (f, e, at)
           (done-is p n (n + length p) k (omega arith) after (λ q.
           text-holds (done p n (n + length p) k) (laneFrom l) (λ z. omega arith)

@@ -7,6 +7,7 @@ use mathlib.Core.Logic.{_⊎_}
 use mathlib.Core.Bool.{true}
 use mathlib.Core.List.{List}
 use lib.ListN.{length, getD}
+use Rattle.trees.specs.Opening.{laneBytes}
 use Rattle.trees.specs.Held.{Lane, withLane}
 use Rattle.layout.specs.Store.{laneFrom, heldAt}
 use Rattle.layout.specs.WholeStore.{wholeAt}
@@ -16,4 +17,4 @@ pub record LaneIs (s : List ℕ) (l : ℕ) (x : Lane) (t : List ℕ) : Type 0 wh
   pub whole : wholeAt t ≡ true
   pub held : heldAt t ≡ withLane (heldAt s) l x
   pub size : length t ≡ length s
-  pub outside : (i : ℕ) → (i < laneFrom l) ⊎ (laneFrom l + 4104 ≤ i) → getD t i 0 ≡ getD s i 0
+  pub outside : (i : ℕ) → (i < laneFrom l) ⊎ (laneFrom l + laneBytes ≤ i) → getD t i 0 ≡ getD s i 0

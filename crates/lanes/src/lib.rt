@@ -7,6 +7,8 @@
 use answers::Finish;
 use answers::Lane;
 use answers::Refusal;
+use layout::MOST_TEXT;
+use layout::RAN_OVER;
 use layout::lane_from;
 ghost use mathlib.Core.Path.{_≡_};
 ghost use mathlib.Core.Bool.{true};
@@ -15,11 +17,11 @@ ghost use Prim.Native.Nat.{_+_, _≤_, _<_};
 ghost use lib.ListN.{take, drop};
 ghost use Rattle.trees.specs.Plain.{every};
 ghost use Rattle.trees.specs.Text.{isBlank};
-ghost use Rattle.trees.specs.Held.{holding, longer, laneOf, closing};
+ghost use Rattle.trees.specs.Held.{holding, longer, laneOf, closing, mostText};
 ghost use Rattle.answers.specs.Answers.{finishGiven};
 ghost use Rattle.fields.specs.Field.{number};
 ghost use Rattle.head.specs.Head.{numbersAt};
-ghost use Rattle.layout.specs.Store.{laneFrom, heldAt};
+ghost use Rattle.layout.specs.Store.{laneFrom, heldAt, ranOver};
 ghost use Rattle.layout.specs.WholeStore.{wholeAt};
 ghost use Rattle.lanes.specs.Lanes.{LaneIs};
 
@@ -31,12 +33,12 @@ pub fn extend_lane(s: &mut [u8], l: Lane, piece: &[u8])
     ensures { λ r. ⌜ LaneIs (now (s .entry)) (l .0) (longer (laneOf (heldAt (now (s .entry))) (l .0)) (now (piece .entry))) (now (s .exit)) ⌝ }
 {
     let n = lane_length(s, l);
-    if n == 4097 {
+    if n == RAN_OVER {
         return;
     }
     let from = lane_from(l);
-    if 4096 - n < piece.len() {
-        fields::put16(s, from, 4097);
+    if MOST_TEXT - n < piece.len() {
+        fields::put16(s, from, RAN_OVER as u16);
         return;
     }
     fields::copy_from(s, from + 8 + n, piece, 0, piece.len());
@@ -57,7 +59,7 @@ pub fn lane_length(s: &[u8], l: Lane) -> usize
     requires { ⌜ wholeAt (now s) ≡ true ⌝ }
     requires { ⌜ l .0 < numbersAt (now s) .lanes ⌝ }
     ensures { λ r. ⌜ r ≡ number 2 (now (s .entry)) (laneFrom (l .0)) ⌝ }
-    ensures { λ r. ⌜ r ≤ 4097 ⌝ }
+    ensures { λ r. ⌜ r ≤ ranOver ⌝ }
 {
     let from = lane_from(l);
     layout::number16(s, from)
@@ -67,7 +69,7 @@ pub fn lane_length(s: &[u8], l: Lane) -> usize
 pub fn text_of(s: &[u8], l: Lane, n: usize) -> &[u8]
     requires { ⌜ wholeAt (now s) ≡ true ⌝ }
     requires { ⌜ l .0 < numbersAt (now s) .lanes ⌝ }
-    requires { ⌜ n ≤ 4096 ⌝ }
+    requires { ⌜ n ≤ mostText ⌝ }
     ensures { λ r. ⌜ now r ≡ take n (drop (laneFrom (l .0) + 8) (now (s .entry))) ⌝ }
 {
     let from = lane_from(l) + 8;
@@ -82,7 +84,7 @@ pub fn closing_answer(s: &[u8], l: Lane) -> Finish
     ensures { λ r. ⌜ finishGiven r ≡ closing (heldAt (now (s .entry))) (l .0) .answer ⌝ }
 {
     let n = lane_length(s, l);
-    if n == 4097 {
+    if n == RAN_OVER {
         return Finish::Refused(Refusal::TooLong);
     }
     let b = lane_from(l) + 8;

@@ -10,6 +10,7 @@ use native.Mathlib.Nat.{mod-lt}
 use native.Mathlib.Omega.{arith}
 use mathlib.Core.List.{List}
 use lib.ListN.{length}
+use Rattle.trees.specs.Opening.{mostRoom, laneBytes, treeBytes}
 use Rattle.trees.specs.Hash.{sumOver, place}
 use Rattle.theorems.specs.OpeningLaws.{InRange, good-opening}
 use Rattle.head.specs.Head.{numbersAt, firstAt, openingAt}
@@ -26,7 +27,7 @@ module _ (s : List ℕ) (h : HeadAt s) where
   pub trees-few : treesHeldAt s ≤ 1024
   trees-few = omega (arith, h .trees-fit, ranges .most-trees)
 
-  pub splits-few : splitsHeldAt s ≤ 4096
+  pub splits-few : splitsHeldAt s ≤ mostRoom
   splits-few = omega (arith, h .splits-fit, ranges .most-splits)
 
   pub places-few : numbersAt s .places ≤ 8192
@@ -34,10 +35,10 @@ module _ (s : List ℕ) (h : HeadAt s) where
 
   -- ---- lanes and trees
 
-  pub lane-inside : (l : ℕ) → l < numbersAt s .lanes → laneFrom l + 4104 ≤ length s
+  pub lane-inside : (l : ℕ) → l < numbersAt s .lanes → laneFrom l + laneBytes ≤ length s
   lane-inside l b = omega (arith, lane-from l, masks-from (numbersAt s), size-is s, h .reached)
 
-  pub tree-inside : (i : ℕ) → i < treesHeldAt s → treeFrom (numbersAt s) i + 128 ≤ length s
+  pub tree-inside : (i : ℕ) → i < treesHeldAt s → treeFrom (numbersAt s) i + treeBytes ≤ length s
   tree-inside i b = omega (arith, tree-from (numbersAt s) i, masks-from (numbersAt s), size-is s, h .reached, h .trees-fit)
 
   -- ---- splits and places

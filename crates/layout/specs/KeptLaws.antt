@@ -17,14 +17,14 @@ use lib.ListN.{length, getD, take, drop, length-drop}
 use lib.Seq.{length-take-le, getD-take, getD-drop, ext-getD}
 use borrow.Author.Tests.{eqb-false}
 use Rattle.trees.specs.Plain.{if_then_else_}
-use Rattle.trees.specs.Opening.{Numbers}
+use Rattle.trees.specs.Opening.{Numbers, laneBytes, headBytes}
 use Rattle.trees.specs.Held.{holding, overrun}
 use Rattle.fields.specs.Field.{number, put}
 use Rattle.fields.specs.FieldLaws.{put-outside, number-same}
 use Rattle.head.specs.Head.{upTo, numbersAt, nameAt, namesAt, firstAt, secondAt, openingAt}
 use Rattle.head.specs.HeadLaws.{upTo-same}
 use Rattle.layout.specs.Columns.{columnAt, column-same}
-use Rattle.layout.specs.Store.{laneFrom, treeFrom, listFrom, textFrom}
+use Rattle.layout.specs.Store.{laneFrom, treeFrom, listFrom, textFrom, ranOver, mostSplits}
 use Rattle.layout.specs.StoreLaws.{lane-from, tree-from}
 
 pub run-same : (s t : List ℕ) (a b n : ℕ) → a + n ≤ length s → b + n ≤ length t → ((i : ℕ) → i < n → getD s (a + i) 0 ≡ getD t (b + i) 0)
@@ -46,32 +46,32 @@ module _ (s t : List ℕ) (lo hi : ℕ) (same : Kept s t lo hi) where
   unfolding listFrom
   list-kept a p q = rw (number-kept 2 a p (omega arith)) (column-same 2 (a + 2) (number 2 s a) t s (λ i g h. same i (omega arith) (omega arith)))
 
-  pub text-kept : hi ≤ length s → length t ≡ length s → (a : ℕ) → lo ≤ a → number 2 s a ≤ 4097 → a + 4104 ≤ hi → textFrom t a ≡ textFrom s a
+  pub text-kept : hi ≤ length s → length t ≡ length s → (a : ℕ) → lo ≤ a → number 2 s a ≤ ranOver → a + laneBytes ≤ hi → textFrom t a ≡ textFrom s a
   unfolding textFrom
-  text-kept long size a p q r = rw (number-kept 2 a p (omega arith)) (go (eqb (number 2 s a) 4097) refl)
+  text-kept long size a p q r = rw (number-kept 2 a p (omega arith)) (go (eqb (number 2 s a) ranOver) refl)
     where
-      go : (b : Bool) → eqb (number 2 s a) 4097 ≡ b
+      go : (b : Bool) → eqb (number 2 s a) ranOver ≡ b
           → (if b then overrun else holding (take (number 2 s a) (drop (a + 8) t))) ≡ (if b then overrun else holding (take (number 2 s a) (drop (a + 8) s)))
       go true e = refl
       go false e =
-          let f = eqb-false (number 2 s a) 4097 e in
+          let f = eqb-false (number 2 s a) ranOver e in
           ap holding (run-same t s (a + 8) (a + 8) (number 2 s a) (omega arith) (omega arith) (λ i h. same (a + 8 + i) (omega arith) (omega arith)))
 
   -- ---- all trees, of at most 62 splits each, and all lanes
 
   module _ (n : Numbers) where
-    pub lists-kept : (trees : ℕ) → lo ≤ treeFrom n 0 → treeFrom n trees ≤ hi → ((i : ℕ) → i < trees → number 2 s (treeFrom n i) ≤ 62)
+    pub lists-kept : (trees : ℕ) → lo ≤ treeFrom n 0 → treeFrom n trees ≤ hi → ((i : ℕ) → i < trees → number 2 s (treeFrom n i) ≤ mostSplits)
         → upTo (λ i. listFrom t (treeFrom n i)) trees ≡ upTo (λ i. listFrom s (treeFrom n i)) trees
     lists-kept trees p q few =
         let z = tree-from n 0 in
         let y = tree-from n trees in
         upTo-same _ _ trees (λ i h. let x = tree-from n i in list-kept (treeFrom n i) (omega arith) (omega (arith, few i h)))
 
-    module _ (p : lo ≤ 4096) (q : treeFrom n 0 ≤ hi) where
+    module _ (p : lo ≤ headBytes) (q : treeFrom n 0 ≤ hi) where
       pub lengths-kept : upTo (λ l. number 2 t (laneFrom l)) (n .lanes) ≡ upTo (λ l. number 2 s (laneFrom l)) (n .lanes)
       lengths-kept = let z = tree-from n 0 in upTo-same _ _ (n .lanes) (λ l h. let x = lane-from l in number-kept 2 (laneFrom l) (omega arith) (omega arith))
 
-      pub texts-kept : hi ≤ length s → length t ≡ length s → ((l : ℕ) → l < n .lanes → number 2 s (laneFrom l) ≤ 4097)
+      pub texts-kept : hi ≤ length s → length t ≡ length s → ((l : ℕ) → l < n .lanes → number 2 s (laneFrom l) ≤ ranOver)
           → upTo (λ l. textFrom t (laneFrom l)) (n .lanes) ≡ upTo (λ l. textFrom s (laneFrom l)) (n .lanes)
       texts-kept long size fits =
           let z = tree-from n 0 in
@@ -87,7 +87,7 @@ module _ (s t : List ℕ) (front : Kept s t 0 10) where
       rw (e 0 (omega arith) (omega arith), e 2 (omega arith) (omega arith), e 4 (omega arith) (omega arith), e 6 (omega arith) (omega arith), e 8 (omega arith) (omega arith))
 
   -- with at most 64 taxa, and bytes below 256, so that a name of any length ends inside
-  module _ (back : Kept s t 16 4096) (long : 4096 ≤ length s) (size : length t ≡ length s) (bytes : (i : ℕ) → getD s i 0 < 256) (few : numbersAt s .taxa ≤ 64) where
+  module _ (back : Kept s t 16 headBytes) (long : headBytes ≤ length s) (size : length t ≡ length s) (bytes : (i : ℕ) → getD s i 0 < 256) (few : numbersAt s .taxa ≤ 64) where
     name-kept : (i : ℕ) → i < 64 → nameAt t i ≡ nameAt s i
     unfolding nameAt
     name-kept i h =

@@ -1,5 +1,6 @@
 -- Every byte of a store, and what it holds. docs/STORE.md says the same in words.
 --
+--   ranOver, mostSplits            the length of a lane that ran over; the most splits of a tree
 --   laneFrom, treeFrom             where lane l and tree i begin, by the opening's numbers
 --   masksFrom, identifiersFrom, countsFrom, linksFrom, orderFrom, placesFrom     where the splits' columns and the places begin
 --   sizeAt s                       the store's size, by its numbers
@@ -16,22 +17,32 @@ use mathlib.Core.List.{List, [], map}
 use lib.Dec.{eqb}
 use lib.ListN.{length, getD, take, drop}
 use Rattle.trees.specs.Plain.{if_then_else_}
-use Rattle.trees.specs.Opening.{Numbers, Opening, storeSize}
+use Rattle.trees.specs.Opening.{Numbers, Opening, storeSize, laneBytes, headBytes, treeBytes}
 use Rattle.trees.specs.Held.{Held, Lane, holding, overrun}
 use Rattle.fields.specs.Field.{number}
 use Rattle.head.specs.Head.{upTo, numbersAt, openingAt}
 use Rattle.layout.specs.Columns.{columnAt}
 
+-- ---- limits
+
+-- the length of a lane that ran over: one more than a text can have
+abbrev pub ranOver : ℕ
+ranOver = 4097
+
+-- the most splits of a tree over 64 taxa, which fit its bytes
+abbrev pub mostSplits : ℕ
+mostSplits = 62
+
 -- ---- where things begin
 
 -- 4,104 bytes a lane: its length in 2 bytes, 6 that are not used, 4,096 for the text
 unfoldable pub laneFrom : ℕ → ℕ
-laneFrom l = 4096 + 4104 * l
+laneFrom l = headBytes + laneBytes * l
 
 -- 128 bytes a tree: how many splits it has in 2 bytes, then 2 bytes for each split's row
 unfoldable pub treeFrom : Numbers → ℕ → ℕ
 unfolding laneFrom
-treeFrom n i = laneFrom (n .lanes) + 128 * i
+treeFrom n i = laneFrom (n .lanes) + treeBytes * i
 
 -- 24 bytes a split, each field in a column of its own: 8 the mask, 8 the identifier, 4 the count, 2 the link, 2 for the order by mask
 unfoldable pub masksFrom : Numbers → ℕ
@@ -87,7 +98,7 @@ listFrom s a = columnAt 2 (a + 2) (number 2 s a) s
 
 -- the lane that begins at a; a length of 4,097 says that it ran over
 unfoldable pub textFrom : List ℕ → ℕ → Lane
-textFrom s a = if eqb (number 2 s a) 4097 then overrun else holding (take (number 2 s a) (drop (a + 8) s))
+textFrom s a = if eqb (number 2 s a) ranOver then overrun else holding (take (number 2 s a) (drop (a + 8) s))
 
 -- the head has the numbers of trees and splits beside the opening's
 unfoldable pub partsAt : List ℕ → Parts

@@ -12,26 +12,26 @@ use mathlib.Core.List.{List, []}
 use lib.Dec.{eqb}
 use lib.ListN.{length, getD, take, drop}
 use Rattle.trees.specs.Plain.{if_then_else_}
-use Rattle.trees.specs.Opening.{Numbers, storeSize}
+use Rattle.trees.specs.Opening.{Numbers, storeSize, laneBytes, headBytes, treeBytes}
 use Rattle.trees.specs.Held.{holding, overrun}
 use Rattle.fields.specs.Field.{number}
 use Rattle.head.specs.Head.{numbersAt}
 use Rattle.head.specs.HeadLaws.{upTo-length, upTo-at}
 use Rattle.layout.specs.Columns.{columnAt, column-length, column-at}
-use Rattle.layout.specs.Store.{laneFrom, treeFrom, masksFrom, identifiersFrom, countsFrom, linksFrom, orderFrom, placesFrom, sizeAt, Parts, listFrom, textFrom, partsAt, splitsIn, treesHeldAt, splitsHeldAt, maskAt, identifierAt, countAt, linkAt, startAt, orderAt, listAt, lengthAt, laneAt}
+use Rattle.layout.specs.Store.{laneFrom, treeFrom, masksFrom, identifiersFrom, countsFrom, linksFrom, orderFrom, placesFrom, sizeAt, Parts, listFrom, textFrom, partsAt, splitsIn, treesHeldAt, splitsHeldAt, maskAt, identifierAt, countAt, linkAt, startAt, orderAt, listAt, lengthAt, laneAt, ranOver}
 
 -- ---- where things begin
 
-pub lane-from : (l : ℕ) → laneFrom l ≡ 4096 + 4104 * l
+pub lane-from : (l : ℕ) → laneFrom l ≡ headBytes + laneBytes * l
 unfolding laneFrom
 lane-from l = refl
 
 module _ (n : Numbers) where
-  pub tree-from : (i : ℕ) → treeFrom n i ≡ 4096 + 4104 * n .lanes + 128 * i
+  pub tree-from : (i : ℕ) → treeFrom n i ≡ headBytes + laneBytes * n .lanes + treeBytes * i
   unfolding treeFrom laneFrom
   tree-from i = refl
 
-  pub masks-from : masksFrom n ≡ 4096 + 4104 * n .lanes + 128 * n .treeRoom
+  pub masks-from : masksFrom n ≡ headBytes + laneBytes * n .lanes + treeBytes * n .treeRoom
   unfolding masksFrom treeFrom laneFrom
   masks-from = refl
 
@@ -151,6 +151,6 @@ module _ (s : List ℕ) where
     unfolding partsAt
     length-is = upTo-at _ (numbersAt s .lanes) l 0 h
 
-    pub lane-is : laneAt s l ≡ (if eqb (number 2 s (laneFrom l)) 4097 then overrun else holding (take (number 2 s (laneFrom l)) (drop (laneFrom l + 8) s)))
+    pub lane-is : laneAt s l ≡ (if eqb (number 2 s (laneFrom l)) ranOver then overrun else holding (take (number 2 s (laneFrom l)) (drop (laneFrom l + 8) s)))
     unfolding partsAt textFrom
     lane-is = upTo-at _ (numbersAt s .lanes) l _ h

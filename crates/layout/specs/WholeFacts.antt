@@ -16,6 +16,7 @@ use mathlib.Core.List.{List}
 use lib.Dec.{leb, ltb, eqb}
 use lib.ListN.{length}
 use borrow.Author.Tests.{leb-true, le-leb, ltb-true, lt-ltb, eqb-true, eq-eqb}
+use Rattle.trees.specs.Opening.{headBytes}
 use Rattle.trees.specs.Plain.{every}
 use Rattle.trees.specs.Mask.{proper}
 use Rattle.trees.specs.Hash.{identifier}
@@ -23,14 +24,14 @@ use Rattle.trees.specs.Whole.{rising, agreeInPairs, goodOpening}
 use Rattle.theorems.specs.ListLaws.{and-true, Mem, every-at, every-intro}
 use Rattle.theorems.specs.OpeningLaws.{both}
 use Rattle.head.specs.Head.{numbersAt, secondAt, openingAt}
-use Rattle.layout.specs.Store.{sizeAt, Parts, partsAt, splitsIn, treesIn, maskIn, masksIn, identifierIn, countIn, linkIn, startIn, orderIn, listIn, treeIn, treesHeldAt, splitsHeldAt, lengthAt}
+use Rattle.layout.specs.Store.{sizeAt, Parts, partsAt, splitsIn, treesIn, maskIn, masksIn, identifierIn, countIn, linkIn, startIn, orderIn, listIn, treeIn, treesHeldAt, splitsHeldAt, lengthAt, mostSplits, ranOver}
 use Rattle.layout.specs.AllLaws.{all-at, all-intro}
 use Rattle.layout.specs.WholeStore.{allBelow, orderGood, identifierGood, splitsGood, listGood, listedIn, countGood, highestIn, linkGood, startGood, chainsGood, laneGood, wholeIn, goodHead, wholeAt, placeIn, goodSplits, goodChains}
 
 -- ---- the head
 
 pub record HeadAt (s : List ℕ) : Type 0 where
-  pub head-there : 4096 ≤ length s
+  pub head-there : headBytes ≤ length s
   pub opening-good : goodOpening (openingAt s) ≡ true
   pub reached : sizeAt s ≤ length s
   pub trees-fit : treesHeldAt s ≤ numbersAt s .treeRoom
@@ -39,7 +40,7 @@ pub record HeadAt (s : List ℕ) : Type 0 where
 pub head-facts : (s : List ℕ) → goodHead s ≡ true → HeadAt s
 unfolding goodHead
 head-facts s e =
-    let a = both (leb 4096 (length s)) _ e in
+    let a = both (leb headBytes (length s)) _ e in
     let b = both (goodOpening (openingAt s)) _ (a .1) in
     let c = both (leb (sizeAt s) (length s)) _ (b .1) in
     let d = both (leb (treesHeldAt s) (numbersAt s .treeRoom)) _ (c .1) in
@@ -91,7 +92,7 @@ facts-splits taxa second p f =
 -- ---- trees
 
 pub record ListIn (p : Parts) (i : ℕ) : Type 0 where
-  pub few : length (listIn p i) ≤ 62
+  pub few : length (listIn p i) ≤ mostSplits
   pub numbers-below : (k : ℕ) → Mem k (listIn p i) → k < splitsIn p
   pub tree-rising : rising (treeIn p i) ≡ true
   pub agreeing : agreeInPairs (treeIn p i) ≡ true
@@ -102,7 +103,7 @@ ListAt s i = ListIn (partsAt s) i
 pub list-facts : (p : Parts) (i : ℕ) → listGood p i ≡ true → ListIn p i
 unfolding listGood
 list-facts p i e =
-    let a = both (leb (length (listIn p i)) 62) _ e in
+    let a = both (leb (length (listIn p i)) mostSplits) _ e in
     let b = both (every (λ k. ltb k (splitsIn p)) (listIn p i)) _ (a .1) in
     let c = both (rising (treeIn p i)) (agreeInPairs (treeIn p i)) (b .1) in
     record {
@@ -168,7 +169,7 @@ pub record WholeAt (s : List ℕ) : Type 0 where
   pub lists : (i : ℕ) → i < treesHeldAt s → ListAt s i
   pub counts : (k : ℕ) → k < splitsHeldAt s → CountAt s k
   pub chains : ChainsAt s
-  pub lanes : (l : ℕ) → l < numbersAt s .lanes → lengthAt s l ≤ 4097
+  pub lanes : (l : ℕ) → l < numbersAt s .lanes → lengthAt s l ≤ ranOver
 
 pub whole-at-facts : (s : List ℕ) → wholeAt s ≡ true → WholeAt s
 unfolding wholeAt wholeIn openingAt laneGood

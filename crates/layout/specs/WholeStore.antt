@@ -19,12 +19,12 @@ use lib.Dec.{leb, ltb, eqb}
 use lib.ListN.{length, take}
 use Rattle.trees.specs.Plain.{if_then_else_, every}
 use Rattle.trees.specs.Mask.{proper}
-use Rattle.trees.specs.Opening.{Opening}
+use Rattle.trees.specs.Opening.{Opening, headBytes}
 use Rattle.trees.specs.Consensus.{count}
 use Rattle.trees.specs.Hash.{place, identifier}
 use Rattle.trees.specs.Whole.{rising, agreeInPairs, goodOpening}
 use Rattle.head.specs.Head.{numbersAt, firstAt, secondAt, openingAt}
-use Rattle.layout.specs.Store.{sizeAt, Parts, partsAt, splitsIn, treesIn, maskIn, masksIn, identifierIn, countIn, linkIn, startIn, orderIn, listIn, treeIn, lengthIn, treesHeldAt, splitsHeldAt}
+use Rattle.layout.specs.Store.{sizeAt, Parts, partsAt, splitsIn, treesIn, maskIn, masksIn, identifierIn, countIn, linkIn, startIn, orderIn, listIn, treeIn, lengthIn, treesHeldAt, splitsHeldAt, mostSplits, ranOver}
 
 unfoldable pub allBelow : (ℕ → Bool) → ℕ → Bool
 allBelow p zero = true
@@ -55,7 +55,7 @@ splitsGood taxa second p =
 unfoldable pub listGood : Parts → ℕ → Bool
 unfolding every rising agreeInPairs
 listGood p i =
-    leb (length (listIn p i)) 62
+    leb (length (listIn p i)) mostSplits
     && (every (λ k. ltb k (splitsIn p)) (listIn p i)
     && (rising (treeIn p i)
     && agreeInPairs (treeIn p i)))
@@ -92,7 +92,7 @@ chainsGood h places p = allBelow (linkGood h p) (splitsIn p) && allBelow (startG
 
 -- 0 to 4,096, or 4,097 for a lane that ran over
 unfoldable pub laneGood : Parts → ℕ → Bool
-laneGood p l = leb (lengthIn p l) 4097
+laneGood p l = leb (lengthIn p l) ranOver
 
 -- ---- all of it
 
@@ -108,7 +108,7 @@ wholeIn o p =
 unfoldable pub goodHead : List ℕ → Bool
 unfolding goodOpening openingAt sizeAt numbersAt
 goodHead s =
-    leb 4096 (length s)
+    leb headBytes (length s)
     && (goodOpening (openingAt s)
     && (leb (sizeAt s) (length s)
     && (leb (treesHeldAt s) (numbersAt s .treeRoom)

@@ -5,15 +5,37 @@
 ghost use mathlib.Core.Path.{_≡_};
 ghost use Prim.Native.Nat.{_+_, _≤_, _<_, _^_};
 ghost use lib.ListN.{length};
+ghost use Rattle.trees.specs.Opening.{headBytes};
 ghost use Rattle.fields.specs.Field.{number};
 ghost use Rattle.head.specs.Head.{numbersAt};
 ghost use Rattle.layout.specs.Store.{treesHeldAt, splitsHeldAt, laneFrom, treeFrom, masksFrom, identifiersFrom, countsFrom, linksFrom, orderFrom, placesFrom};
 use answers::Lane;
 use answers::Tree;
 
+// How many bytes the head takes.
+pub const HEAD_BYTES: usize = 4096;
+
+// How many bytes a lane takes: 8, and a text.
+pub const LANE_BYTES: usize = 4104;
+
+// How many bytes a tree takes.
+pub const TREE_BYTES: usize = 128;
+
+// How many bytes a text has at most.
+pub const MOST_TEXT: usize = 4096;
+
+// The length that says of a lane that it ran over.
+pub const RAN_OVER: usize = 4097;
+
+// How many splits a tree has at most.
+pub const MOST_SPLITS: usize = 62;
+
+// How many splits a store can have room for at most.
+pub const MOST_ROOM: usize = 4096;
+
 // How many trees there are.
 pub fn trees_held(s: &[u8]) -> usize
-    requires { ⌜ 4096 ≤ length (now s) ⌝ }
+    requires { ⌜ headBytes ≤ length (now s) ⌝ }
     ensures { λ r. ⌜ r ≡ treesHeldAt (now (s .entry)) ⌝ }
 {
     number16(s, 10)
@@ -21,7 +43,7 @@ pub fn trees_held(s: &[u8]) -> usize
 
 // How many splits there are.
 pub fn splits_held(s: &[u8]) -> usize
-    requires { ⌜ 4096 ≤ length (now s) ⌝ }
+    requires { ⌜ headBytes ≤ length (now s) ⌝ }
     ensures { λ r. ⌜ r ≡ splitsHeldAt (now (s .entry)) ⌝ }
     ensures { λ r. ⌜ r < 65536 ⌝ }
 {
@@ -34,31 +56,31 @@ pub fn lane_from(l: Lane) -> usize
     ensures { λ r. ⌜ r ≡ laneFrom (l .0) ⌝ }
     ensures { λ r. ⌜ r < 2 ^ 29 ⌝ }
 {
-    4096 + 4104 * l.0
+    HEAD_BYTES + LANE_BYTES * l.0
 }
 
 // Where tree i begins.
 pub fn tree_from(s: &[u8], i: Tree) -> usize
-    requires { ⌜ 4096 ≤ length (now s) ⌝ }
+    requires { ⌜ headBytes ≤ length (now s) ⌝ }
     requires { ⌜ i .0 < 65536 ⌝ }
     ensures { λ r. ⌜ r ≡ treeFrom (numbersAt (now (s .entry))) (i .0) ⌝ }
     ensures { λ r. ⌜ r < 2 ^ 29 ⌝ }
 {
-    4096 + 4104 * head::lanes(s) as usize + 128 * i.0
+    HEAD_BYTES + LANE_BYTES * head::lanes(s) as usize + TREE_BYTES * i.0
 }
 
 // Where the masks begin: behind the head, the lanes and the trees.
 pub fn masks_from(s: &[u8]) -> usize
-    requires { ⌜ 4096 ≤ length (now s) ⌝ }
+    requires { ⌜ headBytes ≤ length (now s) ⌝ }
     ensures { λ r. ⌜ r ≡ masksFrom (numbersAt (now (s .entry))) ⌝ }
     ensures { λ r. ⌜ r < 2 ^ 29 ⌝ }
 {
-    4096 + 4104 * head::lanes(s) as usize + 128 * head::tree_room(s) as usize
+    HEAD_BYTES + LANE_BYTES * head::lanes(s) as usize + TREE_BYTES * head::tree_room(s) as usize
 }
 
 // Where the identifiers begin.
 pub fn identifiers_from(s: &[u8]) -> usize
-    requires { ⌜ 4096 ≤ length (now s) ⌝ }
+    requires { ⌜ headBytes ≤ length (now s) ⌝ }
     ensures { λ r. ⌜ r ≡ identifiersFrom (numbersAt (now (s .entry))) ⌝ }
     ensures { λ r. ⌜ r < 2 ^ 30 ⌝ }
 {
@@ -67,7 +89,7 @@ pub fn identifiers_from(s: &[u8]) -> usize
 
 // Where the counts begin.
 pub fn counts_from(s: &[u8]) -> usize
-    requires { ⌜ 4096 ≤ length (now s) ⌝ }
+    requires { ⌜ headBytes ≤ length (now s) ⌝ }
     ensures { λ r. ⌜ r ≡ countsFrom (numbersAt (now (s .entry))) ⌝ }
     ensures { λ r. ⌜ r < 2 ^ 30 ⌝ }
 {
@@ -76,7 +98,7 @@ pub fn counts_from(s: &[u8]) -> usize
 
 // Where the links begin.
 pub fn links_from(s: &[u8]) -> usize
-    requires { ⌜ 4096 ≤ length (now s) ⌝ }
+    requires { ⌜ headBytes ≤ length (now s) ⌝ }
     ensures { λ r. ⌜ r ≡ linksFrom (numbersAt (now (s .entry))) ⌝ }
     ensures { λ r. ⌜ r < 2 ^ 30 ⌝ }
 {
@@ -85,7 +107,7 @@ pub fn links_from(s: &[u8]) -> usize
 
 // Where the rows begin in order of mask.
 pub fn order_from(s: &[u8]) -> usize
-    requires { ⌜ 4096 ≤ length (now s) ⌝ }
+    requires { ⌜ headBytes ≤ length (now s) ⌝ }
     ensures { λ r. ⌜ r ≡ orderFrom (numbersAt (now (s .entry))) ⌝ }
     ensures { λ r. ⌜ r < 2 ^ 30 ⌝ }
 {
@@ -94,7 +116,7 @@ pub fn order_from(s: &[u8]) -> usize
 
 // Where the places begin.
 pub fn places_from(s: &[u8]) -> usize
-    requires { ⌜ 4096 ≤ length (now s) ⌝ }
+    requires { ⌜ headBytes ≤ length (now s) ⌝ }
     ensures { λ r. ⌜ r ≡ placesFrom (numbersAt (now (s .entry))) ⌝ }
     ensures { λ r. ⌜ r < 2 ^ 30 ⌝ }
 {

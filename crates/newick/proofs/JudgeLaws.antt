@@ -19,6 +19,7 @@ use lib.ListN.{length, drop}
 use lib.Seq.{length-sets, sets-eq}
 use types.Run.{OneOf, miss}
 use borrow.Author.Tests.{eq-eqb, ne-eqb}
+use Rattle.trees.specs.Held.{mostText}
 use Rattle.trees.specs.Plain.{if_then_else_, refused, gives}
 use Rattle.trees.specs.Mask.{everyTaxon}
 use Rattle.trees.specs.Text.{Symbol}
@@ -188,7 +189,7 @@ module _ (o : Opening) (g : GoodOpening o) (s l l′ : List ℕ) (t : Nodes) (e 
 -- ---- over a head
 
 module _ (h : List ℕ) where
-  pub ready : (starts links s : List ℕ) (m : ℕ) → Prepared h starts links → length s ≤ 4096 → m ≡ numbersAt h .places → Ready h starts links s m
+  pub ready : (starts links s : List ℕ) (m : ℕ) → Prepared h starts links → length s ≤ mostText → m ≡ numbersAt h .places → Ready h starts links s m
   unfolding openingAt
   ready starts links s m p l e = record { prepared = p; short = l; places = e }
 

@@ -17,13 +17,14 @@ use mathlib.Core.Option.{Option, none, some}
 use lib.Dec.{eqb}
 use lib.ListN.{length, getD}
 use lib.Seq.{sets}
+use Rattle.trees.specs.Held.{mostText}
 use Rattle.trees.specs.Plain.{if_then_else_}
 use Rattle.trees.specs.Mask.{has}
 use Rattle.trees.specs.Tree.{Nodes, nil, leaf, inner, width, leaves}
 use Rattle.trees.specs.Reading.{readNode, readNodes}
 use Rattle.trees.specs.Names.{taxonOf}
 use Rattle.trees.specs.Splits.{taxon, taxa}
-use Rattle.trees.specs.Opening.{Opening}
+use Rattle.trees.specs.Opening.{Opening, headBytes}
 use Rattle.trees.specs.Whole.{goodOpening}
 use Rattle.text.specs.Read.{symbolsAt}
 use Rattle.records.specs.Records.{wide}
@@ -90,14 +91,14 @@ leavesOf c = record { seen = c .seen; fault = c .fault }
 
 -- a head in order, and its index
 pub record Prepared (h starts links : List ℕ) : Type 0 where
-  pub reach : 4096 ≤ length h
+  pub reach : headBytes ≤ length h
   pub good : goodOpening (openingAt h) ≡ true
   pub indexed : Indexed (namesAt h) starts links
 
 -- a text that is not too long, and the number of places
 pub record Ready (h starts links s : List ℕ) (m : ℕ) : Type 0 where
   pub prepared : Prepared h starts links
-  pub short : length s ≤ 4096
+  pub short : length s ≤ mostText
   pub places : m ≡ openingAt h .numbers .places
 
 -- of the label w, behind leaves that are judged as far as l

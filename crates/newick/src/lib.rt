@@ -9,6 +9,7 @@ use gather::Mark;
 use text::Next;
 ghost use Prim.Native.Nat.{_≤_};
 ghost use lib.ListN.{length};
+ghost use Rattle.trees.specs.Held.{mostText};
 ghost use Rattle.head.specs.Head.{openingAt};
 ghost use Rattle.newick.specs.Gather.{Prepared};
 ghost use Rattle.newick.specs.Judge.{JudgedAs};
@@ -31,7 +32,7 @@ pub fn judge(
     records: &mut [u64],
 ) -> Judged
     requires { ⌜ Prepared (now head) (now starts) (now links) ⌝ }
-    requires { ⌜ length (now text) ≤ 4096 ⌝ }
+    requires { ⌜ length (now text) ≤ mostText ⌝ }
     requires { ⌜ 192 ≤ length (now records) ⌝ }
     ensures { λ r. ⌜ JudgedAs (openingAt (now (head .entry))) (now (text .entry)) r (now (records .entry)) (now (records .exit)) ⌝ }
 {

@@ -17,13 +17,13 @@ use lib.ListN.{length, getD, drop, drop-of-length-le}
 use lib.Seq.{drop-cons}
 use borrow.Author.Tests.{leb-true, lt-ltb, eq-eqb, ne-eqb, not-true, not-false}
 use Rattle.trees.specs.Plain.{every}
-use Rattle.trees.specs.Opening.{Numbers, between, inRange, storeSize, goodConstants}
+use Rattle.trees.specs.Opening.{Numbers, between, inRange, storeSize, goodConstants, mostRoom}
 use Rattle.theorems.specs.ListLaws.{and-right}
 
 -- ---- the size of a store
 
 -- "at most 64 bytes per split of room, 256 per tree of room, 8,192 per lane and 8,192 besides"
-pub size-least : (x : Numbers) → 4096 ≤ storeSize x
+pub size-least : (x : Numbers) → mostRoom ≤ storeSize x
 unfolding storeSize
 size-least x = omega arith
 
@@ -57,11 +57,11 @@ module _ (x : Numbers) where
       range-not-trees d = rw (a, b, d)
 
       module _ (d : between 1 1024 (x .treeRoom) ≡ true) where
-        pub range-not-splits : between 1 4096 (x .splitRoom) ≡ false → inRange x ≡ false
+        pub range-not-splits : between 1 mostRoom (x .splitRoom) ≡ false → inRange x ≡ false
         unfolding inRange
         range-not-splits e = rw (a, b, d, e)
 
-        pub range-places : between 1 4096 (x .splitRoom) ≡ true → inRange x ≡ between 1 (2 * x .splitRoom) (x .places)
+        pub range-places : between 1 mostRoom (x .splitRoom) ≡ true → inRange x ≡ between 1 (2 * x .splitRoom) (x .places)
         unfolding inRange
         range-places e = rw (a, b, d, e)
 

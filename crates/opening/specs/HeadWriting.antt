@@ -7,13 +7,13 @@
 --   written s o        then with the second list's: the opening, and no other byte
 use Prim.Native.Nat.{ℕ}
 use mathlib.Core.List.{List}
-use Rattle.trees.specs.Opening.{Opening}
+use Rattle.trees.specs.Opening.{Opening, headBytes}
 use Rattle.fields.specs.Run.{cleared}
 use Rattle.opening.specs.Writing.{puts, withNames, inOrder}
 
 unfoldable pub clear : List ℕ → List ℕ
 unfolding cleared
-clear s = cleared s 0 4096
+clear s = cleared s 0 headBytes
 
 unfoldable pub numbered : List ℕ → Opening → List ℕ
 unfolding clear puts

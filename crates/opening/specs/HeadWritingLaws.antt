@@ -18,7 +18,7 @@ use lib.ListN.{length, getD, drop, length-drop}
 use lib.Seq.{getD-drop, ext-getD}
 use Rattle.trees.specs.Plain.{every}
 use Rattle.trees.specs.Names.{namesIn, isName, goodNames}
-use Rattle.trees.specs.Opening.{Numbers, Opening, inRange, goodConstants}
+use Rattle.trees.specs.Opening.{Numbers, Opening, inRange, goodConstants, headBytes}
 use Rattle.theorems.specs.ListLaws.{and-left, and-right}
 use Rattle.theorems.specs.NameLaws.{isName-short}
 use Rattle.theorems.specs.OpeningLaws.{in-range, constants, named, GoodOpening, first-below, second-below}
@@ -61,15 +61,15 @@ module _ (o : Opening) (g : GoodOpening o) where
 
 -- ---- the calls that write it
 
-pub written-calls : (s t u v w z : List ℕ) (o : Opening) → t ≡ cleared s 0 4096 → u ≡ puts 2 t 0 (inOrder (o .numbers))
+pub written-calls : (s t u v w z : List ℕ) (o : Opening) → t ≡ cleared s 0 headBytes → u ≡ puts 2 t 0 (inOrder (o .numbers))
     → v ≡ withNames u 0 (o .names) → w ≡ puts 2 v 2128 (o .first) → z ≡ puts 8 w 2256 (o .second) → z ≡ written s o
 unfolding written
 written-calls s t u v w z o a b d e f =
-    let p : u ≡ puts 2 (cleared s 0 4096) 0 (inOrder (o .numbers)) = b ∙ ap (λ (l : List ℕ). puts 2 l 0 (inOrder (o .numbers))) a in
+    let p : u ≡ puts 2 (cleared s 0 headBytes) 0 (inOrder (o .numbers)) = b ∙ ap (λ (l : List ℕ). puts 2 l 0 (inOrder (o .numbers))) a in
     let q = d ∙ ap (λ (l : List ℕ). withNames l 0 (o .names)) p in
     f ∙ ap (λ (l : List ℕ). puts 8 l 2256 (o .second)) (e ∙ ap (λ (l : List ℕ). puts 2 l 2128 (o .first)) q)
 
-module _ (s : List ℕ) (o : Opening) (g : GoodOpening o) (f : 4096 ≤ length s) where
+module _ (s : List ℕ) (o : Opening) (g : GoodOpening o) (f : headBytes ≤ length s) where
   -- ---- the lengths
 
   short : (i : ℕ) → length (getD (o .names) i []) ≤ 32
@@ -77,7 +77,7 @@ module _ (s : List ℕ) (o : Opening) (g : GoodOpening o) (f : 4096 ≤ length s
 
   clear-length : length (clear s) ≡ length s
   unfolding clear
-  clear-length = cleared-length s 0 4096
+  clear-length = cleared-length s 0 headBytes
 
   numbered-length : length (numbered s o) ≡ length s
   unfolding numbered
@@ -134,7 +134,7 @@ module _ (s : List ℕ) (o : Opening) (g : GoodOpening o) (f : 4096 ≤ length s
   written-none a p q =
       number-same 2 _ (numbered s o) a a (λ j m. to-numbered (a + j) (omega arith))
       ∙ number-puts-outside 2 2 (inOrder (o .numbers)) (clear s) 0 a (inr (omega arith))
-      ∙ number-cleared-inside s 0 4096 2 a (omega arith) (omega arith) (omega arith)
+      ∙ number-cleared-inside s 0 headBytes 2 a (omega arith) (omega arith) (omega arith)
 
   -- ---- the names and the constants
 
@@ -196,7 +196,7 @@ module _ (s : List ℕ) (o : Opening) (g : GoodOpening o) (f : 4096 ≤ length s
 
   -- ---- the bytes behind the head
 
-  byte-kept : (i : ℕ) → 4096 ≤ i → getD (written s o) i 0 ≡ getD s i 0
+  byte-kept : (i : ℕ) → headBytes ≤ i → getD (written s o) i 0 ≡ getD s i 0
   unfolding written firsts called numbered clear
   byte-kept i h =
       let r = g .ranges in
@@ -207,9 +207,9 @@ module _ (s : List ℕ) (o : Opening) (g : GoodOpening o) (f : 4096 ≤ length s
       ∙ puts-outside 2 (o .first) (called s o) 2128 i (inr (omega arith))
       ∙ names-outside (o .names) (numbered s o) 0 i short (inr (omega arith))
       ∙ puts-outside 2 (inOrder (o .numbers)) (clear s) 0 i (inr (omega arith))
-      ∙ cleared-outside s 0 4096 i (inr (omega arith))
+      ∙ cleared-outside s 0 headBytes i (inr (omega arith))
 
-  pub written-kept : drop 4096 (written s o) ≡ drop 4096 s
+  pub written-kept : drop headBytes (written s o) ≡ drop headBytes s
   written-kept =
       let l = written-length in
-      ext-getD 0 _ _ (simp length-drop (omega arith)) (λ i h. rw (getD-drop, getD-drop) (byte-kept (4096 + i) (omega arith)))
+      ext-getD 0 _ _ (simp length-drop (omega arith)) (λ i h. rw (getD-drop, getD-drop) (byte-kept (headBytes + i) (omega arith)))

@@ -13,7 +13,7 @@ ghost use lib.Seq.{slice};
 ghost use Rattle.trees.specs.Plain.{every, sameBytes, inNames};
 ghost use Rattle.trees.specs.Text.{isLabelByte};
 ghost use Rattle.trees.specs.Names.{namesIn, isName, different, goodNames};
-ghost use Rattle.trees.specs.Opening.{between, inRange, storeSize, goodConstants};
+ghost use Rattle.trees.specs.Opening.{between, inRange, storeSize, goodConstants, headBytes};
 ghost use Rattle.theorems.specs.OpeningLaws.{InRange};
 ghost use Rattle.fields.specs.Field.{number};
 ghost use Rattle.head.specs.Head.{openingAt};
@@ -22,6 +22,10 @@ ghost use Rattle.opening.specs.Walk.{namesFrom, NameEnd};
 ghost use Rattle.opening.specs.NameList.{allNames};
 ghost use Rattle.opening.specs.Writing.{puts, withName, withNames, inOrder};
 ghost use Rattle.opening.specs.HeadWriting.{written};
+use layout::HEAD_BYTES;
+use layout::LANE_BYTES;
+use layout::MOST_ROOM;
+use layout::TREE_BYTES;
 
 // Whether the numbers of an opening are in their ranges.
 pub fn numbers_in_range(taxa: u32, lanes: u32, tree_room: u32, split_room: u32, places: u32) -> bool
@@ -36,7 +40,7 @@ pub fn numbers_in_range(taxa: u32, lanes: u32, tree_room: u32, split_room: u32, 
     if !is_between(1, 1024, tree_room) {
         return false;
     }
-    if !is_between(1, 4096, split_room) {
+    if !is_between(1, MOST_ROOM as u32, split_room) {
         return false;
     }
     is_between(1, 2 * split_room, places)
@@ -57,9 +61,9 @@ pub fn store_size(taxa: u32, lanes: u32, tree_room: u32, split_room: u32, places
     requires { ⌜ inRange (numbersOf taxa lanes «tree_room» «split_room» places) ≡ true ⌝ }
     ensures { λ r. ⌜ r ≡ storeSize (numbersOf taxa lanes «tree_room» «split_room» places) ⌝ }
 {
-    4096
-        + 4104 * lanes as usize
-        + 128 * tree_room as usize
+    HEAD_BYTES
+        + LANE_BYTES * lanes as usize
+        + TREE_BYTES * tree_room as usize
         + 24 * split_room as usize
         + 2 * places as usize
 }
@@ -234,7 +238,7 @@ pub fn write_head(
     first: &[u64],
     second: &[u64],
 )
-    requires { ⌜ 4096 ≤ length (now s) ⌝ }
+    requires { ⌜ headBytes ≤ length (now s) ⌝ }
     requires { ⌜ inRange (numbersOf taxa lanes «tree_room» «split_room» places) ≡ true ⌝ }
     requires { ⌜ goodConstants (numbersOf taxa lanes «tree_room» «split_room» places) (now first) (now second) ≡ true ⌝ }
     requires { ⌜ goodNames taxa (namesIn (now list)) ≡ true ⌝ }
@@ -244,10 +248,10 @@ pub fn write_head(
         ≡ openingOf (numbersOf taxa lanes «tree_room» «split_room» places) (now (list .entry)) (now (first .entry)) (now (second .entry)) ⌝ }
     ensures { λ r. ⌜ number 2 (now (s .exit)) 10 ≡ 0 ⌝ }
     ensures { λ r. ⌜ number 2 (now (s .exit)) 12 ≡ 0 ⌝ }
-    ensures { λ r. ⌜ drop 4096 (now (s .exit)) ≡ drop 4096 (now (s .entry)) ⌝ }
+    ensures { λ r. ⌜ drop headBytes (now (s .exit)) ≡ drop headBytes (now (s .entry)) ⌝ }
     ensures { λ r. ⌜ length (now (s .exit)) ≡ length (now (s .entry)) ⌝ }
 {
-    fields::clear_run(s, 0, 4096);
+    fields::clear_run(s, 0, HEAD_BYTES);
     write_numbers(s, taxa, lanes, tree_room, split_room, places);
     write_names(s, list);
     write_first(s, first);
@@ -256,7 +260,7 @@ pub fn write_head(
 
 // Writes the five numbers, two bytes each.
 fn write_numbers(s: &mut [u8], taxa: u32, lanes: u32, tree_room: u32, split_room: u32, places: u32)
-    requires { ⌜ 4096 ≤ length (now s) ⌝ }
+    requires { ⌜ headBytes ≤ length (now s) ⌝ }
     requires { ⌜ InRange (numbersOf taxa lanes «tree_room» «split_room» places) ⌝ }
     ensures { λ r. ⌜ now (s .exit) ≡ puts 2 (now (s .entry)) 0 (inOrder (numbersOf taxa lanes «tree_room» «split_room» places)) ⌝ }
 {
@@ -269,7 +273,7 @@ fn write_numbers(s: &mut [u8], taxa: u32, lanes: u32, tree_room: u32, split_room
 
 // Writes the names of a list, each into the place of its taxon.
 fn write_names(s: &mut [u8], list: &[u8])
-    requires { ⌜ 4096 ≤ length (now s) ⌝ }
+    requires { ⌜ headBytes ≤ length (now s) ⌝ }
     requires { ⌜ length (namesIn (now list)) ≤ 64 ⌝ }
     requires { ⌜ every isName (namesIn (now list)) ≡ true ⌝ }
     ensures { λ r. ⌜ now (s .exit) ≡ withNames (now (s .entry)) 0 (namesIn (now (list .entry))) ⌝ }
@@ -286,7 +290,7 @@ fn write_names(s: &mut [u8], list: &[u8])
 
 // Writes the name of taxon i, the bytes of the list from b up to e: its length, then its bytes.
 fn write_name(s: &mut [u8], i: usize, list: &[u8], b: usize, e: usize)
-    requires { ⌜ 4096 ≤ length (now s) ⌝ }
+    requires { ⌜ headBytes ≤ length (now s) ⌝ }
     requires { ⌜ i < 64 ⌝ }
     requires { ⌜ (b ≤ e) × (e ≤ b + 32) ⌝ }
     requires { ⌜ e ≤ length (now list) ⌝ }
@@ -298,7 +302,7 @@ fn write_name(s: &mut [u8], i: usize, list: &[u8], b: usize, e: usize)
 
 // Writes the first list's constants, two bytes each.
 fn write_first(s: &mut [u8], list: &[u64])
-    requires { ⌜ 4096 ≤ length (now s) ⌝ }
+    requires { ⌜ headBytes ≤ length (now s) ⌝ }
     requires { ⌜ length (now list) ≤ 64 ⌝ }
     requires { ⌜ ((i : ℕ) → getD (now list) i 0 < 65536) ⌝ }
     ensures { λ r. ⌜ now (s .exit) ≡ puts 2 (now (s .entry)) 2128 (now (list .entry)) ⌝ }
@@ -312,7 +316,7 @@ fn write_first(s: &mut [u8], list: &[u64])
 
 // Writes the second list's constants, eight bytes each.
 fn write_second(s: &mut [u8], list: &[u64])
-    requires { ⌜ 4096 ≤ length (now s) ⌝ }
+    requires { ⌜ headBytes ≤ length (now s) ⌝ }
     requires { ⌜ length (now list) ≤ 64 ⌝ }
     ensures { λ r. ⌜ now (s .exit) ≡ puts 8 (now (s .entry)) 2256 (now (list .entry)) ⌝ }
 {

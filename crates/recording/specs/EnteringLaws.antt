@@ -18,7 +18,7 @@ use lib.ListN.{length, getD, take, drop}
 use lib.Seq.{take-suc, take-length, drop-cons, drop-length}
 use borrow.Author.Tests.{eqb-true, eqb-false}
 use Rattle.trees.specs.Plain.{member}
-use Rattle.trees.specs.Opening.{Numbers}
+use Rattle.trees.specs.Opening.{Numbers, headBytes, treeBytes}
 use Rattle.theorems.specs.ListLaws.{less-or-not, mem-getD, mem-member, member-not}
 use Rattle.theorems.specs.RisingLaws.{Rising}
 use Rattle.fields.specs.Field.{number, put}
@@ -41,8 +41,8 @@ abbrev pub nextFrom : List ℕ → ℕ
 nextFrom s = treeFrom (numbersAt s) (treesHeldAt s)
 
 pub record Room (s : List ℕ) : Type 0 where
-  pub few : (numbersAt s .taxa ≤ 64) × (treesHeldAt s ≤ 1023) × (splitsHeldAt s ≤ 4096)
-  pub list : (4096 ≤ treeFrom (numbersAt s) 0) × (treeFrom (numbersAt s) 0 ≤ nextFrom s) × (nextFrom s + 128 ≤ masksFrom (numbersAt s))
+  pub few : (numbersAt s .taxa ≤ 64) × (treesHeldAt s ≤ 1023) × (splitsHeldAt s ≤ headBytes)
+  pub list : (headBytes ≤ treeFrom (numbersAt s) 0) × (treeFrom (numbersAt s) 0 ≤ nextFrom s) × (nextFrom s + treeBytes ≤ masksFrom (numbersAt s))
   pub masks : masksFrom (numbersAt s) + 8 * splitsHeldAt s ≤ identifiersFrom (numbersAt s)
   pub identifiers : identifiersFrom (numbersAt s) + 8 * splitsHeldAt s ≤ countsFrom (numbersAt s)
   pub counts : countsFrom (numbersAt s) + 4 * splitsHeldAt s ≤ linksFrom (numbersAt s)
@@ -73,7 +73,7 @@ pub record Entering (s rs : List ℕ) (j : ℕ) (u : List ℕ) : Type 0 where
   pub counts : (k : ℕ) → k < splitsHeldAt s
       → number 4 u (countsFrom (numbersAt s) + 4 * k) + oneIf (member k (drop j rs)) ≡ countAt s k + oneIf (member k rs)
   pub rises : Rising (map (maskAt s) (drop j rs))
-  pub outside : (i : ℕ) → (i < nextFrom s) ⊎ (nextFrom s + 128 ≤ i) → (i < countsFrom (numbersAt s)) ⊎ (linksFrom (numbersAt s) ≤ i)
+  pub outside : (i : ℕ) → (i < nextFrom s) ⊎ (nextFrom s + treeBytes ≤ i) → (i < countsFrom (numbersAt s)) ⊎ (linksFrom (numbersAt s) ≤ i)
       → getD u i 0 ≡ getD s i 0
 
 module _ (s rs : List ℕ) (z : Room s) (f : Sound (openingAt s) (partsAt s)) (r : Rows (partsAt s) rs) where
@@ -147,7 +147,7 @@ module _ (s rs : List ℕ) (z : Room s) (f : Sound (openingAt s) (partsAt s)) (r
     size : length t ≡ length s
     size = rw y (put-length 2 _ 10 _ ∙ put-length 2 u (nextFrom s) (length rs) ∙ e .size)
 
-    byte : (i : ℕ) → (i < 10) ⊎ (12 ≤ i) → (i < nextFrom s) ⊎ (nextFrom s + 128 ≤ i) → (i < countsFrom n) ⊎ (linksFrom n ≤ i) → getD t i 0 ≡ getD s i 0
+    byte : (i : ℕ) → (i < 10) ⊎ (12 ≤ i) → (i < nextFrom s) ⊎ (nextFrom s + treeBytes ≤ i) → (i < countsFrom n) ⊎ (linksFrom n ≤ i) → getD t i 0 ≡ getD s i 0
     byte i a b c = rw y (put-outside 2 _ 10 _ i a ∙ put-outside 2 u (nextFrom s) (length rs) i (⊎-map (λ l. l) (λ l. omega arith) b) ∙ e .outside i b c)
 
     front : Kept s t 0 10

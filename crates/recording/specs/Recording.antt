@@ -20,7 +20,7 @@ use Rattle.answers.specs.Answers.{progressGiven}
 use Rattle.answers.specs.declared.Progress.{Progress}
 use Rattle.records.specs.Records.{wide, masksOf}
 use Rattle.head.specs.Head.{numbersAt, secondAt, openingAt}
-use Rattle.layout.specs.Store.{sizeAt, Parts, partsAt, masksIn, treesHeldAt, heldAt, heldIn}
+use Rattle.layout.specs.Store.{sizeAt, Parts, partsAt, masksIn, treesHeldAt, heldAt, heldIn, mostSplits}
 use Rattle.layout.specs.WholeStore.{placeIn}
 use Rattle.layout.specs.Sound.{Sound}
 use Rattle.store.specs.Lent.{Holds}
@@ -28,7 +28,7 @@ use Rattle.recording.specs.declared.finding.Found.{Found}
 use Rattle.recording.specs.declared.finding.Found.the-variants.{Row, Nothing}
 
 pub record SplitsOf (s : List ℕ) (n : ℕ) (rs : List ℕ) : Type 0 where
-  pub few : n ≤ 62
+  pub few : n ≤ mostSplits
   pub reach : wide * n ≤ length rs
   pub good : goodTree (numbersAt s .taxa) (masksOf n rs) ≡ true
   pub placed : (j : ℕ) → j < n → getD rs (wide * j + 1) 0 ≡ placeIn s (getD rs (wide * j) 0)

@@ -2,7 +2,7 @@
 ghost use Prim.Native.Nat.{_≤_, _<_};
 ghost use lib.ListN.{length, take};
 ghost use Rattle.head.specs.Head.{numbersAt, openingAt};
-ghost use Rattle.layout.specs.Store.{partsAt, treesHeldAt};
+ghost use Rattle.layout.specs.Store.{partsAt, treesHeldAt, mostSplits};
 ghost use Rattle.layout.specs.WholeFacts.{HeadAt};
 ghost use Rattle.layout.specs.Sound.{Sound};
 ghost use Rattle.recording.specs.Added.{Listed, Rows};
@@ -12,7 +12,7 @@ use answers::Tree;
 pub(crate) fn list_tree(s: &mut [u8], n: usize, rows: &[u64])
     requires { ⌜ HeadAt (now s) × Sound (openingAt (now s)) (partsAt (now s)) ⌝ }
     requires { ⌜ treesHeldAt (now s) < numbersAt (now s) .treeRoom ⌝ }
-    requires { ⌜ (n ≤ 62) × (n ≤ length (now rows)) ⌝ }
+    requires { ⌜ (n ≤ mostSplits) × (n ≤ length (now rows)) ⌝ }
     requires { ⌜ Rows (partsAt (now s)) (take n (now rows)) ⌝ }
     ensures { λ r. ⌜ Listed (now (s .entry)) (take n (now (rows .entry))) (now (s .exit)) ⌝ }
 {

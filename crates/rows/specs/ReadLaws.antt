@@ -10,6 +10,7 @@ use mathlib.Core.Path.{_≡_}
 use mathlib.Core.Bool.{true}
 use mathlib.Core.List.{List}
 use lib.ListN.{length, getD}
+use Rattle.trees.specs.Opening.{headBytes}
 use Rattle.theorems.specs.ListLaws.{mem-getD}
 use Rattle.fields.specs.FieldLaws.{number-below}
 use Rattle.head.specs.Head.{numbersAt}
@@ -34,7 +35,7 @@ module _ (s : List ℕ) (i : ℕ) where
 -- ---- of a whole store
 
 module _ (s : List ℕ) (w : wholeAt s ≡ true) where
-  pub long : 4096 ≤ length s
+  pub long : headBytes ≤ length s
   long = whole-at-facts s w .head .head-there
 
   pub row-below : (k : ℕ) → k < splitsHeldAt s → orderAt s k < splitsHeldAt s

@@ -6,8 +6,9 @@ ghost use mathlib.Core.Path.{_≡_};
 ghost use mathlib.Core.List.{_++_};
 ghost use Prim.Native.Nat.{_+_, _≤_, _<_};
 ghost use lib.ListN.{length, getD, drop};
+ghost use Rattle.trees.specs.Opening.{treeBytes};
 ghost use Rattle.head.specs.Head.{numbersAt};
-ghost use Rattle.layout.specs.Store.{treeFrom, treesHeldAt, splitsHeldAt, maskAt, identifierAt, countAt, linkAt, startAt, orderAt, listAt, treeAt};
+ghost use Rattle.layout.specs.Store.{treeFrom, treesHeldAt, splitsHeldAt, maskAt, identifierAt, countAt, linkAt, startAt, orderAt, listAt, treeAt, mostSplits};
 ghost use Rattle.layout.specs.WholeFacts.{HeadAt};
 ghost use Rattle.rows.specs.Rows.{RowsAt};
 use answers::Split;
@@ -72,7 +73,7 @@ pub fn tree_from(s: &[u8], i: Tree) -> usize
     requires { ⌜ HeadAt (now s) ⌝ }
     requires { ⌜ i .0 < treesHeldAt (now s) ⌝ }
     ensures { λ r. ⌜ r ≡ treeFrom (numbersAt (now (s .entry))) (i .0) ⌝ }
-    ensures { λ r. ⌜ r + 128 ≤ length (now (s .entry)) ⌝ }
+    ensures { λ r. ⌜ r + treeBytes ≤ length (now (s .entry)) ⌝ }
 {
     layout::tree_from(s, i)
 }
@@ -92,7 +93,7 @@ pub fn row_in(s: &[u8], i: Tree, from: usize, j: usize) -> usize
     requires { ⌜ i .0 < treesHeldAt (now s) ⌝ }
     requires { ⌜ from ≡ treeFrom (numbersAt (now s)) (i .0) ⌝ }
     requires { ⌜ j < length (listAt (now s) (i .0)) ⌝ }
-    requires { ⌜ j < 62 ⌝ }
+    requires { ⌜ j < mostSplits ⌝ }
     ensures { λ r. ⌜ r ≡ getD (listAt (now (s .entry)) (i .0)) j 0 ⌝ }
 {
     layout::number16(s, from + 2 + 2 * j)

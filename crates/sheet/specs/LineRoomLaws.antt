@@ -19,7 +19,7 @@ use Rattle.trees.specs.Names.{goodNames}
 use Rattle.trees.specs.Distance.{doubled}
 use Rattle.trees.specs.Consensus.{recorded, count, strict, majority}
 use Rattle.trees.specs.Written.{written}
-use Rattle.trees.specs.Opening.{inRange, goodConstants}
+use Rattle.trees.specs.Opening.{inRange, goodConstants, mostRoom}
 use Rattle.trees.specs.Held.{Held}
 use Rattle.trees.specs.Whole.{goodTree, goodOpening}
 use Rattle.theorems.specs.ListLaws.{Mem, and-right, every-at}
@@ -110,7 +110,7 @@ module _ (s : List ℕ) (w : wholeAt s ≡ true) where
   trees-most : length (h .trees) ≤ 1024
   trees-most = omega (arith, trees-length s, trees-few s (whole-at-facts s w .head))
 
-  splits-most : length (recorded (h .trees)) ≤ 4096
+  splits-most : length (recorded (h .trees)) ≤ mostRoom
   unfolding openingAt
   splits-most = omega (arith, recorded-length s w, whole-at-facts s w .head .splits-fit, opening-facts s w .ranges .most-splits)
 

@@ -17,6 +17,7 @@ use lib.Dec.{leb, eqb}
 use lib.ListN.{length, getD, set, take, replicate, length-set, length-replicate}
 use lib.Seq.{take-suc, take-all, getD-set-same, getD-set-other}
 use borrow.Author.Tests.{eq-eqb, ne-eqb, le-leb}
+use Rattle.trees.specs.Opening.{mostRoom}
 use Rattle.trees.specs.Plain.{member}
 use Rattle.theorems.specs.ListLaws.{Mem, member-not, mem-getD, equal-or-not}
 use Rattle.theorems.specs.RisingLaws.{Rising}
@@ -70,7 +71,7 @@ module _ (s : List ℕ) (t : ℕ) (here : t < treesHeldAt s) where
   part-most j c p x h = omega (arith, p .entries x h, one-most (member x (take j (listAt s t))), listed-most (partsAt s) x t (omega arith))
 
   module _ (j : ℕ) (c : List ℕ) (p : CountedPart s t j c) (r : Rising (treeAt s t)) (h : j < length (listAt s t)) where
-    pub part-more : (x : ℕ) → getD (listAt s t) j 0 ≡ x → x < 4096 → CountedPart s t (j + 1) (set c x (getD c x 0 + 1))
+    pub part-more : (x : ℕ) → getD (listAt s t) j 0 ≡ x → x < mostRoom → CountedPart s t (j + 1) (set c x (getD c x 0 + 1))
     part-more x e f = record { size = length-set c x _ ∙ p .size; entries = λ k l. go k l (equal-or-not k x) }
       where
         go : (k : ℕ) → k < splitsHeldAt s → (k ≡ x) ⊎ (k ≡ x → ⊥)
@@ -89,8 +90,8 @@ module _ (s : List ℕ) (t : ℕ) (here : t < treesHeldAt s) where
             getD-set-other c x k _ 0 q ∙ v
 
 -- no tree is counted yet
-pub counted-none : (s : List ℕ) → Counted s 0 (replicate 4096 0)
-counted-none s = record { size = length-replicate {A = ℕ} 4096 0; entries = λ k h. zeros 4096 k ∙ sym (listed-nil (partsAt s) k) }
+pub counted-none : (s : List ℕ) → Counted s 0 (replicate mostRoom 0)
+counted-none s = record { size = length-replicate {A = ℕ} mostRoom 0; entries = λ k h. zeros mostRoom k ∙ sym (listed-nil (partsAt s) k) }
   where
     zeros : (n k : ℕ) → _≡_ {A = ℕ} (getD (replicate n 0) k 0) 0
     zeros zero k = refl

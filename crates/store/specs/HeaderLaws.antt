@@ -22,7 +22,7 @@ use lib.Seq.{slice, drop-cons}
 use borrow.Author.Tests.{le-leb, lt-leb, eq-eqb}
 use Rattle.trees.specs.Plain.{every, sameBytes, inNames}
 use Rattle.trees.specs.Names.{isName, different, goodNames}
-use Rattle.trees.specs.Opening.{inRange, goodConstants}
+use Rattle.trees.specs.Opening.{inRange, goodConstants, headBytes}
 use Rattle.trees.specs.Whole.{goodOpening}
 use Rattle.theorems.specs.ListLaws.{and-left}
 use Rattle.fields.specs.Field.{number}
@@ -52,11 +52,11 @@ upTo-below f m n z b i =
 -- ---- the head
 
 module _ (s : List ℕ) where
-  pub head-short : length s < 4096 → goodHead s ≡ false
+  pub head-short : length s < headBytes → goodHead s ≡ false
   unfolding goodHead
   head-short h = rw (lt-leb _ _ h)
 
-  module _ (a : 4096 ≤ length s) where
+  module _ (a : headBytes ≤ length s) where
     pub head-refused : goodOpening (openingAt s) ≡ false → goodHead s ≡ false
     unfolding goodHead
     head-refused e = rw (le-leb _ _ a, e)

@@ -26,7 +26,7 @@ use Rattle.theorems.specs.HeldLaws.{Whole, facts-whole}
 use Rattle.fields.specs.Field.{number}
 use Rattle.head.specs.Head.{numbersAt, openingAt}
 use Rattle.head.specs.HeadLaws.{upTo-at}
-use Rattle.layout.specs.Store.{partsAt, treesHeldAt, laneFrom, treeAt, laneAt, heldAt, heldIn}
+use Rattle.layout.specs.Store.{partsAt, treesHeldAt, laneFrom, treeAt, laneAt, heldAt, heldIn, ranOver}
 use Rattle.layout.specs.StoreLaws.{shaped-at, length-is, lane-is}
 use Rattle.layout.specs.WholeStore.{wholeAt}
 use Rattle.layout.specs.WholeFacts.{WholeAt, whole-at-facts}
@@ -82,10 +82,10 @@ module _ (s : List ℕ) (w : wholeAt s ≡ true) where
   unfolding goodLane
   lane-good l h =
       rw (lane-is s l h)
-      (by-test (λ (x : Lane). goodLane x ≡ true) (eqb (number 2 s (laneFrom l)) 4097) (λ e. refl)
+      (by-test (λ (x : Lane). goodLane x ≡ true) (eqb (number 2 s (laneFrom l)) ranOver) (λ e. refl)
       (λ e.
       let n = length-take (number 2 s (laneFrom l)) (drop (laneFrom l + 8) s) in
-      le-leb (length (take (number 2 s (laneFrom l)) (drop (laneFrom l + 8) s))) mostText (omega (arith, facts .lanes l h, length-is s l h, eqb-false (number 2 s (laneFrom l)) 4097 e))))
+      le-leb (length (take (number 2 s (laneFrom l)) (drop (laneFrom l + 8) s))) mostText (omega (arith, facts .lanes l h, length-is s l h, eqb-false (number 2 s (laneFrom l)) ranOver e))))
 
   held-facts : Whole (heldAt s)
   held-facts =

@@ -20,7 +20,7 @@ use Rattle.theorems.specs.ListLaws.{every-at}
 use Rattle.theorems.specs.RisingLaws.{Rising, rising-true}
 use Rattle.fields.specs.Field.{number}
 use Rattle.head.specs.Head.{numbersAt}
-use Rattle.layout.specs.Store.{laneFrom, partsAt, splitsHeldAt, listAt, treeAt, lengthAt}
+use Rattle.layout.specs.Store.{laneFrom, partsAt, splitsHeldAt, listAt, treeAt, lengthAt, mostSplits, ranOver}
 use Rattle.layout.specs.StoreLaws.{length-is}
 use Rattle.layout.specs.WholeStore.{goodList, goodLaneAt, listGood, laneGood}
 use Rattle.layout.specs.WholeFacts.{list-facts}
@@ -46,36 +46,36 @@ module _ (k : ℕ) (l : List ℕ) (j : ℕ) where
 
 -- ---- a list whose rows are tested
 
-pub rows-tested : (s : List ℕ) (i : ℕ) → length (listAt s i) ≤ 62 → allRows (splitsHeldAt s) (listAt s i) ≡ true → RowsAt s i
+pub rows-tested : (s : List ℕ) (i : ℕ) → length (listAt s i) ≤ mostSplits → allRows (splitsHeldAt s) (listAt s i) ≡ true → RowsAt s i
 unfolding allRows
 rows-tested s i h e = record { few = h; below = λ k m. ltb-true _ _ (every-at (λ j. ltb j (splitsHeldAt s)) (listAt s i) e k m) }
 
 -- ---- a lane
 
 module _ (s : List ℕ) (l from n : ℕ) (h : l < numbersAt s .lanes) (at : from ≡ laneFrom l) (is : n ≡ number 2 s from) where
-  pub lane-long : 4097 < n → goodLaneAt s l ≡ false
+  pub lane-long : ranOver < n → goodLaneAt s l ≡ false
   unfolding laneGood
-  lane-long q = lt-leb (lengthAt s l) 4097 (rw (length-is s l h, ← at, ← is) q)
+  lane-long q = lt-leb (lengthAt s l) ranOver (rw (length-is s l h, ← at, ← is) q)
 
-  pub lane-short : n ≤ 4097 → goodLaneAt s l ≡ true
+  pub lane-short : n ≤ ranOver → goodLaneAt s l ≡ true
   unfolding laneGood
-  lane-short q = le-leb (lengthAt s l) 4097 (rw (length-is s l h, ← at, ← is) q)
+  lane-short q = le-leb (lengthAt s l) ranOver (rw (length-is s l h, ← at, ← is) q)
 
 -- ---- a list's test, in the order of the code
 
 module _ (s : List ℕ) (i : ℕ) where
-  pub list-long : 62 < length (listAt s i) → goodList s i ≡ false
+  pub list-long : mostSplits < length (listAt s i) → goodList s i ≡ false
   unfolding listGood
   list-long h = rw (lt-leb _ _ h)
 
-  list-parts : length (listAt s i) ≤ 62 → goodList s i ≡ (allRows (splitsHeldAt s) (listAt s i) && (rising (treeAt s i) && agreeInPairs (treeAt s i)))
+  list-parts : length (listAt s i) ≤ mostSplits → goodList s i ≡ (allRows (splitsHeldAt s) (listAt s i) && (rising (treeAt s i) && agreeInPairs (treeAt s i)))
   unfolding listGood allRows
   list-parts h = rw (le-leb _ _ h)
 
-  pub list-foreign : length (listAt s i) ≤ 62 → allRows (splitsHeldAt s) (listAt s i) ≡ false → goodList s i ≡ false
+  pub list-foreign : length (listAt s i) ≤ mostSplits → allRows (splitsHeldAt s) (listAt s i) ≡ false → goodList s i ≡ false
   list-foreign h e = list-parts h ∙ rw e
 
-  module _ (h : length (listAt s i) ≤ 62) (e : allRows (splitsHeldAt s) (listAt s i) ≡ true) where
+  module _ (h : length (listAt s i) ≤ mostSplits) (e : allRows (splitsHeldAt s) (listAt s i) ≡ true) where
     pub list-falls : rising (treeAt s i) ≡ false → goodList s i ≡ false
     list-falls f = list-parts h ∙ rw (e, f)
 

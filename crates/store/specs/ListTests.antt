@@ -9,6 +9,7 @@ use mathlib.Core.Bool.{Bool}
 use mathlib.Core.List.{List}
 use lib.Dec.{ltb}
 use lib.ListN.{length, getD, take}
+use Rattle.trees.specs.Opening.{mostRoom}
 use Rattle.trees.specs.Plain.{every, member}
 use Rattle.layout.specs.Store.{splitsHeldAt, listAt}
 use Rattle.layout.specs.WholeStore.{listed}
@@ -21,9 +22,9 @@ allRows k l = every (λ x. ltb x k) l
 -- ---- the counts, in a list of 4,096
 
 pub record CountedPart (s : List ℕ) (t j : ℕ) (c : List ℕ) : Type 0 where
-  pub size : length c ≡ 4096
+  pub size : length c ≡ mostRoom
   pub entries : (k : ℕ) → k < splitsHeldAt s → getD c k 0 ≡ listed s k t + oneIf (member k (take j (listAt s t)))
 
 pub record Counted (s : List ℕ) (t : ℕ) (c : List ℕ) : Type 0 where
-  pub size : length c ≡ 4096
+  pub size : length c ≡ mostRoom
   pub entries : (k : ℕ) → k < splitsHeldAt s → getD c k 0 ≡ listed s k t

@@ -6,18 +6,19 @@ ghost use Prim.Native.Nat.{_+_, _*_, _≤_, _<_};
 ghost use lib.ListN.{length, getD, drop};
 ghost use Rattle.trees.specs.Plain.{every, sameBytes, inNames};
 ghost use Rattle.trees.specs.Names.{isName, different, goodNames};
-ghost use Rattle.trees.specs.Opening.{inRange, goodConstants};
+ghost use Rattle.trees.specs.Opening.{inRange, goodConstants, headBytes};
 ghost use Rattle.trees.specs.Whole.{goodOpening};
 ghost use Rattle.head.specs.Head.{numbersAt, nameAt, namesAt, firstAt, secondAt, openingAt};
 ghost use Rattle.layout.specs.Store.{sizeAt};
 ghost use Rattle.layout.specs.WholeStore.{goodHead};
 use answers::Taxon;
+use layout::HEAD_BYTES;
 
 // Whether the head is there and in order, the lent bytes reach its size, and its rooms hold.
 pub(crate) fn head_good(s: &[u8]) -> bool
     ensures { λ r. ⌜ r ≡ goodHead (now (s .entry)) ⌝ }
 {
-    if s.len() < 4096 {
+    if s.len() < HEAD_BYTES {
         return false;
     }
     if !opening_good(s) {
@@ -34,7 +35,7 @@ pub(crate) fn head_good(s: &[u8]) -> bool
 
 // Whether the opening that the head holds passes its checks.
 fn opening_good(s: &[u8]) -> bool
-    requires { ⌜ 4096 ≤ length (now s) ⌝ }
+    requires { ⌜ headBytes ≤ length (now s) ⌝ }
     ensures { λ r. ⌜ r ≡ goodOpening (openingAt (now (s .entry))) ⌝ }
 {
     if !numbers_good(s) {
@@ -48,7 +49,7 @@ fn opening_good(s: &[u8]) -> bool
 
 // Whether the five numbers are in their ranges.
 fn numbers_good(s: &[u8]) -> bool
-    requires { ⌜ 4096 ≤ length (now s) ⌝ }
+    requires { ⌜ headBytes ≤ length (now s) ⌝ }
     ensures { λ r. ⌜ r ≡ inRange (numbersAt (now (s .entry))) ⌝ }
 {
     opening::numbers_in_range(
@@ -62,7 +63,7 @@ fn numbers_good(s: &[u8]) -> bool
 
 // The size of the store, by its numbers.
 fn store_size(s: &[u8]) -> usize
-    requires { ⌜ 4096 ≤ length (now s) ⌝ }
+    requires { ⌜ headBytes ≤ length (now s) ⌝ }
     requires { ⌜ inRange (numbersAt (now s)) ≡ true ⌝ }
     ensures { λ r. ⌜ r ≡ sizeAt (now (s .entry)) ⌝ }
 {
@@ -77,7 +78,7 @@ fn store_size(s: &[u8]) -> usize
 
 // Whether the first list's constants are below the number of places; the second's are any.
 fn constants_good(s: &[u8]) -> bool
-    requires { ⌜ 4096 ≤ length (now s) ⌝ }
+    requires { ⌜ headBytes ≤ length (now s) ⌝ }
     requires { ⌜ numbersAt (now s) .taxa ≤ 64 ⌝ }
     ensures { λ r. ⌜ r ≡ goodConstants (numbersAt (now (s .entry))) (firstAt (now (s .entry))) (secondAt (now (s .entry))) ⌝ }
 {
@@ -95,7 +96,7 @@ fn constants_good(s: &[u8]) -> bool
 
 // Whether the names are 1 to 32 label bytes each, and all different.
 fn names_good(s: &[u8]) -> bool
-    requires { ⌜ 4096 ≤ length (now s) ⌝ }
+    requires { ⌜ headBytes ≤ length (now s) ⌝ }
     requires { ⌜ numbersAt (now s) .taxa ≤ 64 ⌝ }
     ensures { λ r. ⌜ r ≡ goodNames (numbersAt (now (s .entry)) .taxa) (namesAt (now (s .entry))) ⌝ }
 {
@@ -107,7 +108,7 @@ fn names_good(s: &[u8]) -> bool
 
 // Whether each name is 1 to 32 label bytes.
 fn all_names(s: &[u8]) -> bool
-    requires { ⌜ 4096 ≤ length (now s) ⌝ }
+    requires { ⌜ headBytes ≤ length (now s) ⌝ }
     requires { ⌜ numbersAt (now s) .taxa ≤ 64 ⌝ }
     ensures { λ r. ⌜ r ≡ every isName (namesAt (now (s .entry))) ⌝ }
 {
@@ -124,7 +125,7 @@ fn all_names(s: &[u8]) -> bool
 
 // Whether the name of taxon i is 1 to 32 label bytes.
 fn is_name(s: &[u8], i: usize) -> bool
-    requires { ⌜ 4096 ≤ length (now s) ⌝ }
+    requires { ⌜ headBytes ≤ length (now s) ⌝ }
     requires { ⌜ i < 64 ⌝ }
     ensures { λ r. ⌜ r ≡ isName (nameAt (now (s .entry)) i) ⌝ }
 {
@@ -135,7 +136,7 @@ fn is_name(s: &[u8], i: usize) -> bool
 
 // Whether no name comes twice.
 fn all_different(s: &[u8]) -> bool
-    requires { ⌜ 4096 ≤ length (now s) ⌝ }
+    requires { ⌜ headBytes ≤ length (now s) ⌝ }
     requires { ⌜ numbersAt (now s) .taxa ≤ 64 ⌝ }
     ensures { λ r. ⌜ r ≡ different (namesAt (now (s .entry))) ⌝ }
 {
@@ -152,7 +153,7 @@ fn all_different(s: &[u8]) -> bool
 
 // Whether the name of taxon i is one of those behind it.
 fn comes_again(s: &[u8], i: usize) -> bool
-    requires { ⌜ 4096 ≤ length (now s) ⌝ }
+    requires { ⌜ headBytes ≤ length (now s) ⌝ }
     requires { ⌜ numbersAt (now s) .taxa ≤ 64 ⌝ }
     requires { ⌜ i < numbersAt (now s) .taxa ⌝ }
     ensures { λ r. ⌜ r ≡ inNames (nameAt (now (s .entry)) i) (drop (i + 1) (namesAt (now (s .entry)))) ⌝ }
@@ -170,7 +171,7 @@ fn comes_again(s: &[u8], i: usize) -> bool
 
 // Whether the names of taxa i and j are the same.
 fn same_names(s: &[u8], i: usize, j: usize) -> bool
-    requires { ⌜ 4096 ≤ length (now s) ⌝ }
+    requires { ⌜ headBytes ≤ length (now s) ⌝ }
     requires { ⌜ i < 64 ⌝ }
     requires { ⌜ j < 64 ⌝ }
     ensures { λ r. ⌜ r ≡ sameBytes (nameAt (now (s .entry)) i) (nameAt (now (s .entry)) j) ⌝ }
@@ -184,7 +185,7 @@ fn same_names(s: &[u8], i: usize, j: usize) -> bool
 
 // The length of the name of taxon i.
 fn name_length(s: &[u8], i: usize) -> usize
-    requires { ⌜ 4096 ≤ length (now s) ⌝ }
+    requires { ⌜ headBytes ≤ length (now s) ⌝ }
     requires { ⌜ i < 64 ⌝ }
     ensures { λ r. ⌜ (r ≡ getD (now (s .entry)) (16 + 33 * i) 0) × (r < 256) ⌝ }
 {

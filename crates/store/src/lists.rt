@@ -2,6 +2,9 @@
 // tests of `specs/WholeStore.antt`, exactly.
 use answers::Lane;
 use answers::Tree;
+use layout::MOST_ROOM;
+use layout::MOST_SPLITS;
+use layout::RAN_OVER;
 ghost use mathlib.Core.Path.{_≡_};
 ghost use mathlib.Core.Bool.{true};
 ghost use Prim.Native.Nat.{_+_, _≤_, _<_};
@@ -9,7 +12,7 @@ ghost use lib.ListN.{length, take};
 ghost use lib.Bits.{bitAnd};
 ghost use Rattle.trees.specs.Whole.{rising, agreeInPairs};
 ghost use Rattle.head.specs.Head.{numbersAt};
-ghost use Rattle.layout.specs.Store.{treesHeldAt, splitsHeldAt, listAt};
+ghost use Rattle.layout.specs.Store.{treesHeldAt, splitsHeldAt, listAt, mostSplits};
 ghost use Rattle.layout.specs.WholeStore.{allBelow, goodList, goodCount, goodLaneAt};
 ghost use Rattle.layout.specs.WholeFacts.{HeadAt};
 ghost use Rattle.store.specs.ListTests.{allRows, Counted};
@@ -38,7 +41,7 @@ pub(crate) fn list_good(s: &[u8], i: usize) -> bool
     ensures { λ r. ⌜ r ≡ goodList (now (s .entry)) i ⌝ }
 {
     let n = rows::splits_in(s, Tree(i));
-    if 62 < n {
+    if MOST_SPLITS < n {
         return false;
     }
     if !rows_below(s, i, n) {
@@ -57,7 +60,7 @@ fn rows_below(s: &[u8], i: usize, n: usize) -> bool
     requires { ⌜ HeadAt (now s) ⌝ }
     requires { ⌜ i < treesHeldAt (now s) ⌝ }
     requires { ⌜ n ≡ length (listAt (now s) i) ⌝ }
-    requires { ⌜ n ≤ 62 ⌝ }
+    requires { ⌜ n ≤ mostSplits ⌝ }
     ensures { λ r. ⌜ r ≡ allRows (splitsHeldAt (now (s .entry))) (listAt (now (s .entry)) i) ⌝ }
 {
     let from = rows::tree_from(s, Tree(i));
@@ -145,13 +148,13 @@ pub(crate) fn counts_good(s: &[u8]) -> bool
     requires { ⌜ allBelow (goodList (now s)) (treesHeldAt (now s)) ≡ true ⌝ }
     ensures { λ r. ⌜ r ≡ allBelow (goodCount (now (s .entry))) (splitsHeldAt (now (s .entry))) ⌝ }
 {
-    let mut counts = [0; 4096];
+    let mut counts = [0; MOST_ROOM];
     count_lists(s, &mut counts);
     counts_match(s, &counts)
 }
 
 // Adds up, for each split, how many trees list it.
-fn count_lists(s: &[u8], counts: &mut [u16; 4096])
+fn count_lists(s: &[u8], counts: &mut [u16; MOST_ROOM])
     requires { ⌜ HeadAt (now s) ⌝ }
     requires { ⌜ allBelow (goodList (now s)) (treesHeldAt (now s)) ≡ true ⌝ }
     requires { ⌜ Counted (now s) 0 (now counts) ⌝ }
@@ -166,7 +169,7 @@ fn count_lists(s: &[u8], counts: &mut [u16; 4096])
 }
 
 // Adds one to the count of each split that tree i lists.
-fn count_list(s: &[u8], i: usize, counts: &mut [u16; 4096])
+fn count_list(s: &[u8], i: usize, counts: &mut [u16; MOST_ROOM])
     requires { ⌜ HeadAt (now s) ⌝ }
     requires { ⌜ i < treesHeldAt (now s) ⌝ }
     requires { ⌜ goodList (now s) i ≡ true ⌝ }
@@ -184,7 +187,7 @@ fn count_list(s: &[u8], i: usize, counts: &mut [u16; 4096])
 }
 
 // Whether every split's count is the one that was added up, at least 1.
-fn counts_match(s: &[u8], counts: &[u16; 4096]) -> bool
+fn counts_match(s: &[u8], counts: &[u16; MOST_ROOM]) -> bool
     requires { ⌜ HeadAt (now s) ⌝ }
     requires { ⌜ Counted (now s) (treesHeldAt (now s)) (now counts) ⌝ }
     ensures { λ r. ⌜ r ≡ allBelow (goodCount (now (s .entry))) (splitsHeldAt (now (s .entry))) ⌝ }
@@ -213,7 +216,7 @@ pub(crate) fn lanes_good(s: &[u8]) -> bool
     let mut l = 0;
     while l < lanes {
         let from = layout::lane_from(Lane(l));
-        if 4097 < layout::number16(s, from) {
+        if RAN_OVER < layout::number16(s, from) {
             return false;
         }
         l += 1;

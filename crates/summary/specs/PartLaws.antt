@@ -39,7 +39,7 @@ use Rattle.feeding.specs.BatchLaws.{none-front, none-back}
 use Rattle.feeding.specs.EndLaws.{semicolons-append}
 use Rattle.feeding.specs.CutLaws.{LaneThere, joined, batching-opening, batching-append}
 use Rattle.summary.specs.Summary.{refusedIn}
-use Rattle.summary.specs.Texts.{capped, textsFed, textsCount, TextsAs}
+use Rattle.summary.specs.Texts.{part, capped, textsFed, textsCount, TextsAs}
 use Rattle.summary.specs.TextsLaws.{capped-more}
 
 -- ---- a whole store has a lane 0
@@ -74,7 +74,7 @@ pub counted : (s : List ℕ) (n : ℕ) (p : List ℕ) → wholeAt s ≡ true →
 unfolding textsCount
 counted s n p w = when-whole s (λ h. gives (capped (n + refusedIn (textsFed h p .verdicts)))) w
 
-module _ (s p : List ℕ) (room : ℕ) (e : room ≡ 4096) (few : length p ≤ 4096) where
+module _ (s p : List ℕ) (room : ℕ) (e : room ≡ part) (few : length p ≤ part) where
   batch-whole : wholeAt s ≡ true → batchOf s 0 p room ≡ gives (textsFed (heldAt s) p)
   unfolding batch
   batch-whole w =

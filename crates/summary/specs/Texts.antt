@@ -1,5 +1,6 @@
 -- The texts behind the first line: how the refused ones are counted.
 --
+--   part                   how many bytes are fed at once
 --   capped n               n, as far as 64 bits can count
 --   textsFed h p           what feeding the texts of the piece p to lane 0 comes to
 --   textsCount s n p       the answer of that feeding, behind n refused texts
@@ -21,6 +22,9 @@ use Rattle.layout.specs.WholeStore.{wholeAt}
 use Rattle.store.specs.Lent.{ifWhole, Holds}
 use Rattle.feeding.specs.Feeding.{SameOutside, noneAccepted}
 use Rattle.summary.specs.Summary.{refusedIn, refusedAfter}
+
+abbrev pub part : ℕ
+part = 4096
 
 -- 2 ^ 64 - 1 at most
 unfoldable pub capped : ℕ → ℕ

@@ -6,36 +6,39 @@ ghost use Prim.Native.Nat.{_+_, _≤_};
 ghost use lib.ListN.{length, take};
 ghost use Rattle.answers.specs.Answers.{finishGiven};
 ghost use Rattle.summary.specs.Summary.{refusedIn, refusedAfter};
-ghost use Rattle.summary.specs.Texts.{capped, TextsAs, ClosedAs};
+ghost use Rattle.summary.specs.Texts.{part, capped, TextsAs, ClosedAs};
 use answers::Finish;
 use answers::Lane;
 use answers::Number;
 use answers::Refusal;
 
+// How many bytes are fed at once.
+const PART: usize = 4096;
+
 // Feeds a piece of the input, behind `refused` refused texts, and answers how many there are then. The piece is
-// fed by parts of 4,096 bytes: no part ends more texts than there is room for verdicts.
+// fed by parts: none ends more texts than there is room for verdicts.
 pub(crate) fn take_texts(s: &mut [u8], refused: usize, piece: &[u8]) -> Number
     ensures { λ r. ⌜ TextsAs (now (s .entry)) refused (now (piece .entry)) r (now (s .exit)) ⌝ }
 {
     let mut all = refused;
     let mut at = 0;
-    while 4096 < piece.len() - at {
-        let answer = take_part(s, all, &piece[at..at + 4096]);
+    while PART < piece.len() - at {
+        let answer = take_part(s, all, &piece[at..at + PART]);
         match answer {
             Number::Gives(n) => all = n,
             Number::Refused(why) => return Number::Refused(why),
         }
-        at += 4096;
+        at += PART;
     }
     take_part(s, all, &piece[at..])
 }
 
-// The same for at most 4,096 bytes, in one batch.
+// The same for at most one part, in one batch.
 fn take_part(s: &mut [u8], refused: usize, piece: &[u8]) -> Number
-    requires { ⌜ length (now piece) ≤ 4096 ⌝ }
+    requires { ⌜ length (now piece) ≤ part ⌝ }
     ensures { λ r. ⌜ TextsAs (now (s .entry)) refused (now (piece .entry)) r (now (s .exit)) ⌝ }
 {
-    let mut verdicts = [0u32; 4096];
+    let mut verdicts = [0u32; PART];
     let answer = feeding::batch(s, Lane(0), piece, &mut verdicts);
     match answer {
         Number::Gives(n) => {

@@ -7,7 +7,7 @@ use Prim.Native.Nat.{ℕ, _+_, _*_, _≤_, _<_}
 use mathlib.Core.Path.{_≡_}
 use mathlib.Core.List.{List, []}
 use lib.ListN.{length, getD, replicate}
-use Rattle.trees.specs.Opening.{Numbers}
+use Rattle.trees.specs.Opening.{Numbers, headBytes}
 use Rattle.trees.specs.Held.{holding}
 use Rattle.fields.specs.Field.{number}
 use Rattle.head.specs.Head.{numbersAt}
@@ -29,13 +29,13 @@ emptyParts n = record {
 
 pub record LanesEmptied (s : List ℕ) (n : ℕ) (t : List ℕ) : Type 0 where
   pub size : length t ≡ length s
-  pub head : (i : ℕ) → i < 4096 → getD s i 0 ≡ getD t i 0
+  pub head : (i : ℕ) → i < headBytes → getD s i 0 ≡ getD t i 0
   pub lanes : (l : ℕ) → l < n → number 2 t (laneFrom l) ≡ 0
   pub behind : (i : ℕ) → laneFrom n ≤ i → getD t i 0 ≡ getD s i 0
 
 pub record Emptied (s t : List ℕ) : Type 0 where
   pub size : length t ≡ length s
-  pub head : (i : ℕ) → i < 4096 → getD s i 0 ≡ getD t i 0
+  pub head : (i : ℕ) → i < headBytes → getD s i 0 ≡ getD t i 0
   pub lanes : (l : ℕ) → l < numbersAt s .lanes → number 2 t (laneFrom l) ≡ 0
   pub starts : (q : ℕ) → q < numbersAt s .places → number 2 t (placesFrom (numbersAt s) + 2 * q) ≡ 0
   pub behind : (i : ℕ) → sizeAt s ≤ i → getD t i 0 ≡ getD s i 0

@@ -15,7 +15,7 @@ use lib.ListN.{length, getD, replicate, length-replicate, getD-replicate}
 use lib.Seq.{ext-getD}
 use Rattle.theorems.specs.ListLaws.{less-or-not}
 use Rattle.trees.specs.Plain.{every}
-use Rattle.trees.specs.Opening.{Opening}
+use Rattle.trees.specs.Opening.{Opening, headBytes}
 use Rattle.trees.specs.Held.{holding, opened}
 use Rattle.trees.specs.Whole.{rising}
 use Rattle.fields.specs.Field.{number, put}
@@ -70,7 +70,7 @@ module _ (s t : List ℕ) (p : LanesEmptied s (numbersAt s .lanes) t) (f : sizeA
   places-end : placesFrom (numbersAt s) + 2 * numbersAt s .places ≡ sizeAt s
   places-end = omega (arith, places-from (numbersAt s), size-is s)
 
-  pub head-inside : 4096 ≤ length t
+  pub head-inside : headBytes ≤ length t
   head-inside = omega (arith, p .size, masks-from (numbersAt s), size-is s)
 
   pub places-inside : placesFrom (numbersAt t) + 2 * numbersAt t .places ≤ length t
@@ -122,8 +122,8 @@ module _ (s t : List ℕ) (p : Emptied s t) (h : HeadAt s) (trees : number 2 s 1
   same-numbers : numbersAt t ≡ numbersAt s
   same-numbers = sym (numbers-same s t (p .head))
 
-  same-held : (a : ℕ) → a + 2 ≤ 4096 → number 2 t a ≡ number 2 s a
-  same-held a h = number-kept s t 0 4096 (λ i q l. sym (p .head i l)) 2 a (omega arith) h
+  same-held : (a : ℕ) → a + 2 ≤ headBytes → number 2 t a ≡ number 2 s a
+  same-held a h = number-kept s t 0 headBytes (λ i q l. sym (p .head i l)) 2 a (omega arith) h
 
   no-column : (w a : ℕ) → columnAt w a (number 2 t 12) t ≡ []
   unfolding columnAt upTo fromTo

@@ -16,7 +16,7 @@ use lib.Seq.{getD-drop}
 use borrow.Author.Tests.{le-leb, lt-leb}
 use Rattle.trees.specs.Plain.{Answer, refused, gives}
 use Rattle.trees.specs.Names.{namesIn, goodNames}
-use Rattle.trees.specs.Opening.{Numbers, Opening, inRange, goodConstants, storeSize, sizing, opening}
+use Rattle.trees.specs.Opening.{Numbers, Opening, inRange, goodConstants, storeSize, sizing, opening, headBytes}
 use Rattle.trees.specs.Held.{opened}
 use Rattle.trees.specs.Whole.{goodOpening}
 use Rattle.theorems.specs.ListLaws.{and-true}
@@ -90,7 +90,7 @@ done-as a o s t e h = rw e (refl, h)
 
 -- ---- the head is written and the rest emptied
 
-pub lent-head : (x : Numbers) (lent : ℕ) → storeSize x ≤ lent → 4096 ≤ lent
+pub lent-head : (x : Numbers) (lent : ℕ) → storeSize x ≤ lent → headBytes ≤ lent
 lent-head x lent h = omega (arith, size-least x)
 
 module _ (s t : List ℕ) (o : Opening) (e : openingAt t ≡ o) (n : length t ≡ length s) (f : storeSize (o .numbers) ≤ length s) where
@@ -111,11 +111,11 @@ module _ (s t : List ℕ) (o : Opening) (e : openingAt t ≡ o) (n : length t �
         splits-fit = omega (arith, splits-held-is t);
       }
 
-  module _ (z : drop 4096 t ≡ drop 4096 s) where
-    past-head : (i : ℕ) → 4096 ≤ i → getD t i 0 ≡ getD s i 0
+  module _ (z : drop headBytes t ≡ drop headBytes s) where
+    past-head : (i : ℕ) → headBytes ≤ i → getD t i 0 ≡ getD s i 0
     past-head i h =
-        let q : 4096 + (i - 4096) ≡ i = omega arith in
-        rw (getD-drop 4096 t, getD-drop 4096 s, q) at (ap (λ (l : List ℕ). getD l (i - 4096) 0) z)
+        let q : headBytes + (i - headBytes) ≡ i = omega arith in
+        rw (getD-drop headBytes t, getD-drop headBytes s, q) at (ap (λ (l : List ℕ). getD l (i - headBytes) 0) z)
 
     pub head-then-rest : (u : List ℕ) → goodOpening o ≡ true → number 2 t 10 ≡ 0 → number 2 t 12 ≡ 0 → ((i : ℕ) → getD t i 0 < 256) → Emptied t u → Holds (opened o) s u
     unfolding opened

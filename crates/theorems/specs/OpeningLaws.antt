@@ -15,7 +15,7 @@ use lib.ListN.{length, getD}
 use borrow.Author.Tests.{leb-true, ltb-true, lt-ltb, eqb-true}
 use Rattle.trees.specs.Plain.{every}
 use Rattle.trees.specs.Names.{isName, different, goodNames}
-use Rattle.trees.specs.Opening.{Numbers, Opening, between, inRange, storeSize, goodConstants}
+use Rattle.trees.specs.Opening.{Numbers, Opening, between, inRange, storeSize, goodConstants, mostRoom}
 use Rattle.trees.specs.Whole.{goodOpening}
 use Rattle.theorems.specs.ListLaws.{and-left, and-right}
 
@@ -44,7 +44,7 @@ pub record InRange (x : Numbers) : Type 0 where
   pub least-trees : 1 ≤ x .treeRoom
   pub most-trees : x .treeRoom ≤ 1024
   pub least-splits : 1 ≤ x .splitRoom
-  pub most-splits : x .splitRoom ≤ 4096
+  pub most-splits : x .splitRoom ≤ mostRoom
   pub least-places : 1 ≤ x .places
   pub most-places : x .places ≤ 2 * x .splitRoom
 
@@ -54,11 +54,11 @@ in-range x e =
     let a = both (between 4 64 (x .taxa)) _ e in
     let b = both (between 1 8 (x .lanes)) _ (a .1) in
     let c = both (between 1 1024 (x .treeRoom)) _ (b .1) in
-    let d = both (between 1 4096 (x .splitRoom)) (between 1 (2 * x .splitRoom) (x .places)) (c .1) in
+    let d = both (between 1 mostRoom (x .splitRoom)) (between 1 (2 * x .splitRoom) (x .places)) (c .1) in
     let n = between-true 4 64 (x .taxa) (a .0) in
     let l = between-true 1 8 (x .lanes) (b .0) in
     let t = between-true 1 1024 (x .treeRoom) (c .0) in
-    let s = between-true 1 4096 (x .splitRoom) (d .0) in
+    let s = between-true 1 mostRoom (x .splitRoom) (d .0) in
     let m = between-true 1 (2 * x .splitRoom) (x .places) (d .1) in
     record {
       least-taxa = n .0;

@@ -1,7 +1,9 @@
 -- Opening a collection: its numbers, names and constants, and what is refused.
 --
 --   Numbers            the numbers that an opening takes
+--   mostRoom           the largest split room
 --   inRange x          all of them are in their ranges
+--   headBytes, laneBytes, treeBytes     what a head, a lane and a tree take of a store
 --   storeSize x        how many bytes must be lent for a collection of these numbers
 --   sizing x           the answer of the call that tells it
 --   Opening            what an accepted opening fixes
@@ -24,18 +26,32 @@ pub record Numbers : Type 0 where
 abbrev pub between : ℕ → ℕ → ℕ → Bool
 between least most x = leb least x && leb x most
 
+-- the largest split room
+abbrev pub mostRoom : ℕ
+mostRoom = 4096
+
 -- the table of "What the collection holds"
 unfoldable pub inRange : Numbers → Bool
 inRange x =
     between 4 64 (x .taxa)
     && (between 1 8 (x .lanes)
     && (between 1 1024 (x .treeRoom)
-    && (between 1 4096 (x .splitRoom)
+    && (between 1 mostRoom (x .splitRoom)
     && between 1 (2 * x .splitRoom) (x .places))))
+
+-- the bytes of the head, of a lane (a text and 8 bytes before it) and of a tree
+abbrev pub headBytes : ℕ
+headBytes = 4096
+
+abbrev pub laneBytes : ℕ
+laneBytes = 4104
+
+abbrev pub treeBytes : ℕ
+treeBytes = 128
 
 -- "at most 64 bytes per split of room, 256 per tree of room, 8,192 per lane and 8,192 besides"; at most two places go with a split
 unfoldable pub storeSize : Numbers → ℕ
-storeSize x = 4096 + 4104 * x .lanes + 128 * x .treeRoom + 24 * x .splitRoom + 2 * x .places
+storeSize x = headBytes + laneBytes * x .lanes + treeBytes * x .treeRoom + 24 * x .splitRoom + 2 * x .places
 
 -- "numbers out of range it refuses with 2"
 unfoldable pub sizing : Numbers → Answer ℕ

@@ -8,6 +8,7 @@ ghost use mathlib.Core.Path.{_≡_};
 ghost use Prim.Native.Nat.{_+_, _≤_, _<_};
 ghost use mathlib.Core.Bool.{true};
 ghost use lib.ListN.{length, set, take};
+ghost use Rattle.trees.specs.Opening.{headBytes};
 ghost use Rattle.trees.specs.Written.{wider, widest, written};
 ghost use Rattle.trees.specs.Whole.{goodTree, goodOpening};
 ghost use Rattle.head.specs.Head.{numbersAt, nameAt, namesAt, openingAt};
@@ -23,7 +24,7 @@ pub enum Text {
 
 // Writes the tree of the first k splits of the list, or nothing where out is too short for it.
 pub fn write_tree(head: &[u8], list: &[u64], k: usize, out: &mut [u8]) -> Text
-    requires { ⌜ 4096 ≤ length (now head) ⌝ }
+    requires { ⌜ headBytes ≤ length (now head) ⌝ }
     requires { ⌜ goodOpening (openingAt (now head)) ≡ true ⌝ }
     requires { ⌜ k ≤ length (now list) ⌝ }
     requires { ⌜ goodTree (openingAt (now head) .numbers .taxa) (take k (now list)) ≡ true ⌝ }
@@ -40,7 +41,7 @@ pub fn write_tree(head: &[u8], list: &[u64], k: usize, out: &mut [u8]) -> Text
 
 // Writes the tree from the start of out, as far as out reaches, and answers its length.
 fn write_root(head: &[u8], list: &[u64], k: usize, out: &mut [u8]) -> usize
-    requires { ⌜ 4096 ≤ length (now head) ⌝ }
+    requires { ⌜ headBytes ≤ length (now head) ⌝ }
     requires { ⌜ goodOpening (openingAt (now head)) ≡ true ⌝ }
     requires { ⌜ k ≤ length (now list) ⌝ }
     requires { ⌜ goodTree (openingAt (now head) .numbers .taxa) (take k (now list)) ≡ true ⌝ }
@@ -65,7 +66,7 @@ fn write_branches(
     out: &mut [u8],
     at: usize,
 ) -> usize
-    requires { ⌜ 4096 ≤ length (now head) ⌝ }
+    requires { ⌜ headBytes ≤ length (now head) ⌝ }
     requires { ⌜ k ≤ length (now list) ⌝ }
     requires { ⌜ Ready (numbersAt (now head) .taxa) (namesAt (now head)) (take k (now list)) m r ⌝ }
     requires { ⌜ at + length (branchText (namesAt (now head)) (take k (now list)) m r) ≤ 65536 ⌝ }
@@ -95,7 +96,7 @@ fn write_child(
     out: &mut [u8],
     at: usize,
 ) -> usize
-    requires { ⌜ 4096 ≤ length (now head) ⌝ }
+    requires { ⌜ headBytes ≤ length (now head) ⌝ }
     requires { ⌜ k ≤ length (now list) ⌝ }
     requires { ⌜ i .0 < 64 ⌝ }
     requires { ⌜ Child (numbersAt (now head) .taxa) (namesAt (now head)) (take k (now list)) (i .0) x ⌝ }
@@ -154,7 +155,7 @@ fn wider_of(best: u64, x: u64, m: u64, i: Taxon) -> u64
 
 // Writes the name of taxon i, as far as out reaches, and answers where it ends.
 fn write_name(head: &[u8], i: Taxon, out: &mut [u8], at: usize) -> usize
-    requires { ⌜ 4096 ≤ length (now head) ⌝ }
+    requires { ⌜ headBytes ≤ length (now head) ⌝ }
     requires { ⌜ i .0 < 64 ⌝ }
     requires { ⌜ at ≤ 65536 ⌝ }
     ensures { λ e. ⌜ Put (now (out .entry)) at (nameAt (now (head .entry)) (i .0)) (now (out .exit)) e ⌝ }

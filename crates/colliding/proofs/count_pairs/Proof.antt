@@ -3,6 +3,7 @@
 use Prim.Native.Nat.{_+_, _-_, _*_, _≤_}
 use mathlib.Core.Path.{_≡_, ap}
 use native.Mathlib.Omega.{arith}
+use Rattle.trees.specs.Opening.{mostRoom}
 use Rattle.colliding.specs.Collisions.{pairsFrom}
 use Rattle.colliding.specs.CollisionLaws.{count-most, pairs-more, pairs-done}
 use Rattle.colliding.proofs.count_pairs.Statement.{statement}
@@ -10,7 +11,7 @@ use Rattle.colliding.proofs.count_pairs.Tie as tie
 
 abbrev Inv-loop : tie.InvT-loop
 Inv-loop places identifiers n sum₀ k₀ sum k =
-    (k ≤ n) × (sum + pairsFrom places identifiers k (n - k) ≡ pairsFrom places identifiers 0 n) × (sum ≤ 4096 * k)
+    (k ≤ n) × (sum + pairsFrom places identifiers k (n - k) ≡ pairsFrom places identifiers 0 n) × (sum ≤ mostRoom * k)
 
 abbrev μ-loop : tie.MeasureT-loop
 μ-loop places identifiers n sum₀ k₀ sum k = n - k

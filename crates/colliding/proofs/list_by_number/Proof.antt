@@ -2,6 +2,7 @@
 use Prim.Native.Nat.{_-_, _≤_}
 use mathlib.Core.Path.{_≡_}
 use native.Mathlib.Omega.{arith}
+use Rattle.trees.specs.Opening.{mostRoom}
 use Rattle.layout.specs.Store.{splitsHeldAt}
 use Rattle.colliding.specs.Collisions.{Numbered}
 use Rattle.colliding.specs.PlacedLaws.{head-at, held-most}
@@ -11,7 +12,7 @@ use Rattle.colliding.proofs.list_by_number.Tie as tie
 
 abbrev Inv-loop : tie.InvT-loop
 Inv-loop s rows places₀ identifiers₀ held k₀ places identifiers k =
-    (k ≤ held) × (held ≡ splitsHeldAt s) × (held ≤ 4096) × Numbered s k places identifiers
+    (k ≤ held) × (held ≡ splitsHeldAt s) × (held ≤ mostRoom) × Numbered s k places identifiers
 
 abbrev μ-loop : tie.MeasureT-loop
 μ-loop s rows places₀ identifiers₀ held k₀ places identifiers k = held - k

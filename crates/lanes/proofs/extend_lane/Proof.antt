@@ -64,6 +64,7 @@ extend-lane-spec =
     returns
     few
     (λ c. search needs)
+    (λ c. omega arith)
     inside-over
     (λ c. search needs)
     returns-2

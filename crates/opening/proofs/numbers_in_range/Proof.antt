@@ -2,6 +2,7 @@
 use mathlib.Core.Path.{sym, _∙_}
 use native.Mathlib.Omega.{arith}
 use borrow.Author.Needs.{needs}
+use Rattle.trees.specs.Opening.{mostRoom}
 use Rattle.opening.specs.GivenLaws.{failed, passed, between-most, range-not-taxa, range-not-lanes, range-not-trees, range-not-splits, range-places}
 use Rattle.opening.proofs.numbers_in_range.Statement.{statement}
 use Rattle.opening.proofs.numbers_in_range.Tie as tie
@@ -33,7 +34,7 @@ returns-4 c =
 mul-is-between : tie.Need-mul-is-between
 mul-is-between c =
     let a = c .before .before .before .before .before .before .before .before .args in
-    let m = between-most 1 4096 (a .split-room) (passed _ _ (c .before .is-between4 .ensures) (c .if4 .left)) in
+    let m = between-most 1 mostRoom (a .split-room) (passed _ _ (c .before .is-between4 .ensures) (c .if4 .left)) in
     omega arith
 
 returns-5 : tie.Need-returns-5
@@ -57,6 +58,7 @@ numbers-in-range-spec =
     returns-2
     (λ c κs. search needs)
     returns-3
+    (λ c. omega arith)
     (λ c κs. search needs)
     returns-4
     mul-is-between

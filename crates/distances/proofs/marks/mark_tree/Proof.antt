@@ -3,6 +3,7 @@ use Prim.Native.Nat.{_≤_, _-_}
 use mathlib.Core.Path.{_≡_, refl, sym, _∙_}
 use native.Mathlib.Omega.{arith}
 use lib.ListN.{length, drop, length-set}
+use Rattle.trees.specs.Opening.{mostRoom}
 use Rattle.layout.specs.Store.{listAt}
 use Rattle.distances.specs.Marks.{marked}
 use Rattle.distances.specs.MarkLaws.{marked-more, marked-end}
@@ -12,7 +13,7 @@ use Rattle.distances.proofs.marks.mark_tree.Tie as tie
 
 abbrev Inv-loop : tie.InvT-loop
 Inv-loop s i v marks₀ from n j₀ marks j =
-    (j ≤ n) × (length marks ≡ 4096) × (marked v (listAt s i) marks₀ ≡ marked v (drop j (listAt s i)) marks)
+    (j ≤ n) × (length marks ≡ mostRoom) × (marked v (listAt s i) marks₀ ≡ marked v (drop j (listAt s i)) marks)
 
 abbrev μ-loop : tie.MeasureT-loop
 μ-loop s i v marks₀ from n j₀ marks j = n - j

@@ -4,7 +4,7 @@ use mathlib.Core.Path.{_≡_}
 use native.Mathlib.Omega.{arith}
 use borrow.Author.Needs.{needs}
 use lib.ListN.{drop}
-use Rattle.layout.specs.Store.{listAt}
+use Rattle.layout.specs.Store.{listAt, mostSplits}
 use Rattle.distances.specs.Marks.{markSum}
 use Rattle.distances.specs.MarkLaws.{sum-more, sum-end}
 use Rattle.distances.specs.WholeTreeLaws.{head-at, list-few, row-small}
@@ -13,7 +13,7 @@ use Rattle.distances.proofs.marks.sum_marks.Tie as tie
 
 abbrev Inv-loop : tie.InvT-loop
 Inv-loop s marks j from n sum₀ at₀ sum at =
-    (at ≤ n) × (n ≤ 62) × (sum ≤ 256 * at) × (markSum marks (listAt s j) ≡ sum + markSum marks (drop at (listAt s j)))
+    (at ≤ n) × (n ≤ mostSplits) × (sum ≤ 256 * at) × (markSum marks (listAt s j) ≡ sum + markSum marks (drop at (listAt s j)))
 
 abbrev μ-loop : tie.MeasureT-loop
 μ-loop s marks j from n sum₀ at₀ sum at = n - at

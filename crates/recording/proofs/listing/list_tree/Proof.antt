@@ -6,6 +6,7 @@ use mathlib.Core.List.{List}
 use lib.ListN.{length, getD, take}
 use lib.Seq.{getD-take, length-take-le}
 use borrow.Author.Needs.{needs}
+use Rattle.trees.specs.Opening.{headBytes, treeBytes}
 use Rattle.fields.specs.Field.{number, put}
 use Rattle.fields.specs.FieldLaws.{put-length}
 use Rattle.head.specs.Head.{numbersAt, openingAt}
@@ -34,7 +35,7 @@ abbrev μ-loop : tie.MeasureT-loop
 
 module _ {s rows : List ℕ} {n trees from counts : ℕ} (g : Given s rows n trees from counts) (j : ℕ) (u : List ℕ) (e : Entering s (take n rows) j u) where
   -- the list lies inside
-  inside : (4096 ≤ from) × (from + 128 ≤ length u)
+  inside : (headBytes ≤ from) × (from + treeBytes ≤ length u)
   inside = (omega (arith, g .from-is, g .room .list), omega (arith, g .from-is, g .room, e .size))
 
   -- one turn of the loop

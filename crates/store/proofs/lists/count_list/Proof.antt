@@ -5,7 +5,8 @@ use mathlib.Core.Bool.{true}
 use mathlib.Core.List.{List}
 use native.Mathlib.Omega.{arith}
 use lib.ListN.{length, getD}
-use Rattle.layout.specs.Store.{splitsHeldAt, listAt}
+use Rattle.trees.specs.Opening.{mostRoom}
+use Rattle.layout.specs.Store.{splitsHeldAt, listAt, mostSplits}
 use Rattle.layout.specs.StoreLaws.{list-length}
 use Rattle.layout.specs.WholeStore.{goodList}
 use Rattle.layout.specs.WholeFacts.{HeadAt}
@@ -18,7 +19,7 @@ use Rattle.store.proofs.lists.count_list.Statement.{statement}
 use Rattle.store.proofs.lists.count_list.Tie as tie
 
 abbrev Inv-loop : tie.InvT-loop
-Inv-loop s i counts₀ from n j₀ counts j = (j ≤ n) × (n ≡ length (listAt s i)) × (n ≤ 62) × CountedPart s i j counts
+Inv-loop s i counts₀ from n j₀ counts j = (j ≤ n) × (n ≡ length (listAt s i)) × (n ≤ mostSplits) × CountedPart s i j counts
 
 abbrev μ-loop : tie.MeasureT-loop
 μ-loop s i counts₀ from n j₀ counts j = n - j
@@ -31,7 +32,7 @@ loop-holds c =
     (omega arith, n, omega (arith, n, list-rows _ _ (p .1 .1 .0) .few), part-none _ _ (p .1 .0) _ (p .1 .1 .1))
 
 -- the row that is read is a split's, of which there are at most 4,096
-recorded : (s : List ℕ) (i j k : ℕ) → HeadAt s → goodList s i ≡ true → j < length (listAt s i) → k ≡ getD (listAt s i) j 0 → (k < splitsHeldAt s) × (k < 4096)
+recorded : (s : List ℕ) (i j k : ℕ) → HeadAt s → goodList s i ≡ true → j < length (listAt s i) → k ≡ getD (listAt s i) j 0 → (k < splitsHeldAt s) × (k < mostRoom)
 recorded s i j k h g l e =
     let r = row-in-list s i j l (list-rows s i g) in
     (omega (arith, e, r), omega (arith, e, r, splits-few s h))

@@ -4,6 +4,7 @@ use mathlib.Core.Path.{_≡_, sym}
 use mathlib.Core.Bool.{true}
 use native.Mathlib.Omega.{arith}
 use borrow.Author.Needs.{needs}
+use Rattle.trees.specs.Opening.{mostRoom}
 use Rattle.layout.specs.Store.{splitsHeldAt}
 use Rattle.layout.specs.WholeStore.{allBelow, goodCount}
 use Rattle.layout.specs.AllLaws.{all-none, all-more, all-fails}
@@ -13,7 +14,7 @@ use Rattle.store.proofs.lists.counts_match.Statement.{statement}
 use Rattle.store.proofs.lists.counts_match.Tie as tie
 
 abbrev Inv-loop : tie.InvT-loop
-Inv-loop s counts splits k₀ k = (k ≤ splits) × (splits ≡ splitsHeldAt s) × (splits ≤ 4096) × (allBelow (goodCount s) k ≡ true)
+Inv-loop s counts splits k₀ k = (k ≤ splits) × (splits ≡ splitsHeldAt s) × (splits ≤ mostRoom) × (allBelow (goodCount s) k ≡ true)
 
 abbrev μ-loop : tie.MeasureT-loop
 μ-loop s counts splits k₀ k = splits - k

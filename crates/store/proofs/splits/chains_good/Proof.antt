@@ -6,6 +6,7 @@ use mathlib.Core.Bool.{true, false}
 use mathlib.Core.List.{List}
 use native.Mathlib.Omega.{arith}
 use lib.ListN.{length, length-set}
+use Rattle.trees.specs.Opening.{mostRoom}
 use Rattle.layout.specs.Store.{splitsHeldAt}
 use Rattle.layout.specs.WholeStore.{allBelow, placeIn, goodLink}
 use Rattle.layout.specs.WholeFacts.{HeadAt}
@@ -18,7 +19,7 @@ use Rattle.store.proofs.splits.chains_good.Tie as tie
 
 abbrev Inv-loop : tie.InvT-loop
 Inv-loop s sums held highest₀ k₀ highest k =
-    (k ≤ held) × (held ≤ 4096) × (length highest ≡ 8192) × Highest s k highest × (allBelow (goodLink s) k ≡ true)
+    (k ≤ held) × (held ≤ mostRoom) × (length highest ≡ 8192) × Highest s k highest × (allBelow (goodLink s) k ≡ true)
 
 abbrev μ-loop : tie.MeasureT-loop
 μ-loop s sums held highest₀ k₀ highest k = held - k

@@ -4,6 +4,7 @@ use mathlib.Core.Path.{_∙_}
 use native.Mathlib.Omega.{arith}
 use lib.ListN.{length}
 use borrow.Author.Needs.{needs}
+use Rattle.summary.specs.Texts.{part}
 use Rattle.summary.specs.PartLaws.{texts-size, Rest, rest-none, rest-more, rest-refused, rest-last}
 use Rattle.summary.proofs.texts.take_texts.Statement.{statement}
 use Rattle.summary.proofs.texts.take_texts.Tie as tie
@@ -20,12 +21,12 @@ same-length c = texts-size _ _ _ _ _ (c .before .before .before .before .before 
 returns : tie.Need-returns Inv-loop μ-loop
 returns c =
     let at = c .before .before .before .before .before .before .before .before .before .loop .at in
-    rest-refused _ _ _ _ _ at ((at + 4096) - at) (c .before .before .before .before .before .before .before .before .before .loop .inv) _ _ (c .before .before .before .before .before .take-part .ensures) _ (c .before .answer2 .given .1)
+    rest-refused _ _ _ _ _ at ((at + part) - at) (c .before .before .before .before .before .before .before .before .before .loop .inv) _ _ (c .before .before .before .before .before .take-part .ensures) _ (c .before .answer2 .given .1)
 
 loop-again : tie.Need-loop-again Inv-loop μ-loop
 loop-again c =
     let at = c .before .before .before .before .before .before .before .before .before .loop .at in
-    rest-more _ _ _ _ _ at ((at + 4096) - at) (c .before .before .before .before .before .before .before .before .before .loop .inv) _ _ (c .before .before .before .before .before .take-part .ensures) _ (c .before .answer .given .1) _ (omega arith) (omega arith)
+    rest-more _ _ _ _ _ at ((at + part) - at) (c .before .before .before .before .before .before .before .before .before .loop .inv) _ _ (c .before .before .before .before .before .take-part .ensures) _ (c .before .answer .given .1) _ (omega arith) (omega arith)
 
 same-length-2 : tie.Need-same-length-2 Inv-loop μ-loop
 same-length-2 c = texts-size _ _ _ _ _ (c .before .before .take-part2 .ensures) ∙ c .before .before .before .before .before .before .loop .inv .size
