@@ -80,7 +80,7 @@ fn masks_rise(masks: &[u64; 64], n: usize) -> bool
 {
     let mut j = 1;
     while j < n {
-        if masks[j] <= masks[j - 1] {
+        if !masks::comes_before(masks[j - 1], masks[j]) {
             return false;
         }
         j += 1;
