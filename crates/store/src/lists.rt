@@ -104,7 +104,7 @@ fn pairs_agree(masks: &[u64; 64], n: usize) -> bool
     while j < n {
         let x = masks[j];
         let inner = union_at(&outer, common(heads, x));
-        if common(covered, x) != inner {
+        if !masks::is_same(common(covered, x), inner) {
             return false;
         }
         let head = masks::lowest_taxon(x);
