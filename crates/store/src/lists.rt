@@ -83,7 +83,7 @@ fn masks_rise(masks: &[u64; 64], n: usize) -> bool
 {
     let mut j = 1;
     while j < n {
-        if masks[j] <= masks[j - 1] {
+        if !masks::comes_before(masks[j - 1], masks[j]) {
             return false;
         }
         j += 1;
@@ -107,7 +107,7 @@ fn pairs_agree(masks: &[u64; 64], n: usize) -> bool
     while j < n {
         let x = masks[j];
         let inner = union_at(&outer, common(heads, x));
-        if common(covered, x) != inner {
+        if !masks::is_same(common(covered, x), inner) {
             return false;
         }
         let head = masks::lowest_taxon(x);

@@ -1,10 +1,11 @@
 -- `store::lists::masks_rise` meets its contract. The loop's invariant: the masks up to j rise from each to the next. Assumes nothing.
 use Prim.Native.Nat.{ℕ, suc, _+_, _≤_, _<_, _-_}
-use mathlib.Core.Path.{_≡_, sym}
+use mathlib.Core.Path.{_≡_, sym, _∙_}
 use mathlib.Core.Logic.{_⊎_, inl, inr}
 use mathlib.Core.List.{List}
 use native.Mathlib.Omega.{arith}
 use lib.ListN.{getD}
+use borrow.Author.Tests.{ltb-true, ltb-false, not-true, not-false}
 use Rattle.theorems.specs.ListLaws.{less-or-not}
 use Rattle.store.specs.NeighbourLaws.{front-rises, front-falls}
 use Rattle.store.proofs.lists.masks_rise.Statement.{statement}
@@ -32,16 +33,18 @@ more masks j a f l i h = go (less-or-not (suc i) j)
 
 returns : tie.Need-returns Inv-loop μ-loop
 returns c =
-    let l = c .before .before .before .before .loop in
-    let a = c .before .before .before .before .before .args in
+    let l = c .before .before .before .before .before .loop in
+    let a = c .before .before .before .before .before .before .args in
+    let t = sym (c .before .comes-before .ensures) in
     let e : suc (l .j - 1) ≡ l .j = omega arith in
-    sym (front-falls (a .masks .now) (a .n) (omega arith) (l .j - 1) (omega arith) (rw e (omega arith)))
+    sym (front-falls (a .masks .now) (a .n) (omega arith) (l .j - 1) (omega arith) (rw e (ltb-false _ _ (t ∙ not-true _ (c .if1 .taken)))))
 
 loop-again : tie.Need-loop-again Inv-loop μ-loop
 loop-again c =
-    let l = c .before .before .before .before .loop in
-    let a = c .before .before .before .before .before .args in
-    (omega arith, more (a .masks .now) (l .j) (l .inv .0) (l .inv .1) (omega arith))
+    let l = c .before .before .before .before .before .loop in
+    let a = c .before .before .before .before .before .before .args in
+    let t = sym (c .before .comes-before .ensures) in
+    (omega arith, more (a .masks .now) (l .j) (l .inv .0) (l .inv .1) (ltb-true _ _ (t ∙ not-false _ (c .if1 .left))))
 
 returns-2 : tie.Need-returns-2 Inv-loop μ-loop
 returns-2 c =
@@ -60,6 +63,7 @@ masks-rise-spec =
     (λ c. omega arith)
     (λ c. omega arith)
     (λ c. omega arith)
+    (λ c κs. tt)
     returns
     (λ c. omega arith)
     (λ c. omega arith)

@@ -4,6 +4,7 @@ use Prim.Native.Nat.{_≤_, _-_}
 use mathlib.Core.Path.{_≡_, ap, sym, _∙_}
 use native.Mathlib.Omega.{arith}
 use borrow.Author.Needs.{needs}
+use borrow.Author.Tests.{eqb-true, eqb-false, not-true, not-false}
 use lib.ListN.{length, take, length-set}
 use Rattle.trees.specs.Whole.{agreeInPairs}
 use Rattle.store.specs.Outer.{Outer}
@@ -19,24 +20,27 @@ abbrev μ-loop : tie.MeasureT-loop
 
 returns : tie.Need-returns Inv-loop μ-loop
 returns c =
-    let b = c .before .before .before .before .before .before .before in
+    let b = c .before .before .before .before .before .before .before .before in
     let a = b .before .args in
     let p = b .before .pre in
     sym (outer-not (a .masks .now) _ (a .n) (b .loop .j) _ _ _ _ _ (omega arith) (omega arith) (p .1 .1) (b .loop .inv .2)
-    (c .before .before .before .common .ensures) (c .before .before .union-at .ensures) (c .before .common2 .ensures) (c .if1 .taken))
+    (c .before .before .before .before .common .ensures) (c .before .before .before .union-at .ensures) (c .before .before .common2 .ensures)
+    (eqb-false _ _ (sym (c .before .is-same .ensures) ∙ not-true _ (c .if1 .taken))))
 
 loop-again : tie.Need-loop-again Inv-loop μ-loop
 loop-again c =
     let d = c .before .before .before .before .before in
     let f = d .before in
-    let b = f .before .before .before .before .before .before .before in
+    let g = f .before .before .before .before .before .before .before in
+    let b = g .before in
     let a = b .before .args in
     let p = b .before .pre in
-    let m = outer-more (a .masks .now) _ (a .n) (b .loop .j) _ _ _ _ _ (omega arith) (omega arith) (p .1 .1) (b .loop .inv .2)
-    (f .before .before .before .common .ensures) (f .before .before .union-at .ensures) (f .before .common2 .ensures) (f .if1 .left)
+    let m = outer-more (a .masks .now) _ (a .n) (b .loop .j) _ _ _ _ _ (omega (arith, g .loop-test .taken)) (omega arith) (p .1 .1) (b .loop .inv .2)
+    (f .before .before .before .before .common .ensures) (f .before .before .before .union-at .ensures) (f .before .before .common2 .ensures)
+    (eqb-true _ _ (sym (f .before .is-same .ensures) ∙ not-false _ (f .if1 .left)))
     _ _ _ _ _ (d .lowest-taxon .ensures .0) (omega arith) (c .before .before .before .taxa-without .ensures)
     (c .before .before .only-taxon .ensures) (c .before .union-of .ensures) (c .union-of2 .ensures) in
-    (omega arith, simp length-set (b .loop .inv .1), m)
+    (omega (arith, g .loop-test .taken), simp length-set (b .loop .inv .1), m)
 
 returns-2 : tie.Need-returns-2 Inv-loop μ-loop
 returns-2 c =
@@ -56,6 +60,7 @@ pairs-agree-spec =
     (λ c κs. search needs)
     (λ c κs. search needs)
     (λ c κs. search needs)
+    (λ c κs. tt)
     returns
     (λ c κs. search needs)
     (λ c. search needs)
