@@ -1,6 +1,5 @@
 -- However the bytes of a lane are cut, they are fed alike. Assumes nothing.
 --
---   semicolons-append      the texts that two pieces end
 --   LaneThere h l          the collection h has a lane l
 --   fed-open               a piece that ends no text
 --   takenMore n f          the outcome f of a feeding, with n bytes more taken
@@ -14,7 +13,7 @@ use native.Mathlib.Omega.{arith}
 use mathlib.Core.Path.{_≡_, refl, sym, ap, ap₂, _∙_}
 use mathlib.Core.Bool.{Bool, true, false}
 use mathlib.Core.List.{List, [], _∷_, _++_}
-use lib.Dec.{ltb, eqb}
+use lib.Dec.{ltb}
 use lib.ListN.{length, set, drop, length-append, length-set}
 use lib.Seq.{set-set, getD-set-same, drop-append-le, drop-append-add}
 use borrow.Author.Tests.{lt-ltb}
@@ -26,13 +25,7 @@ use Rattle.theorems.specs.PieceLaws.{longer-longer}
 use Rattle.theorems.specs.OwnLaneLaws.{lanesAfter, laneAfter, feeding-opening, feeding-texts}
 use Rattle.theorems.specs.WrittenFedLaws.{feedingBy, feeding-by}
 use Rattle.feeding.specs.EndLaws.{end-inside, one-text, has-text, lacks-text}
-use Rattle.feeding.specs.SeamLaws.{member-left, member-right, text-left, text-right, keep-append}
-
--- ---- the semicolons of two pieces
-
-pub semicolons-append : (p q : List ℕ) → semicolons (p ++ q) ≡ semicolons p + semicolons q
-unfolding semicolons
-semicolons-append p q = keep-append (eqb 59) p q
+use Rattle.feeding.specs.SeamLaws.{member-left, member-right, text-left, text-right}
 
 -- ---- a lane that is there
 

@@ -6,6 +6,7 @@
 --   before-take        the bytes before it are the piece's first
 --   ended, unended, end-inside, end-all     a piece has a semicolon exactly where they are not all
 --   texts-here, texts-more, texts-none     how many semicolons there are
+--   semicolons-append  those of two pieces
 --   texts-skip         those of a block, and those behind it
 --   one-text           behind the first text there is one fewer
 --   no-text            a piece without a semicolon has none
@@ -16,15 +17,15 @@ use native.Mathlib.Numerals.{add-one}
 use native.Mathlib.Omega.{arith}
 use mathlib.Core.Path.{_≡_, refl, sym, ap, _∙_}
 use mathlib.Core.Bool.{Bool, true, false, _||_, true≢false}
-use mathlib.Core.List.{List, [], _∷_}
+use mathlib.Core.List.{List, [], _∷_, _++_}
 use lib.Dec.{eqb}
-use lib.ListN.{length, getD, take, drop, length-drop, drop-of-length-le}
+use lib.ListN.{length, getD, take, drop, length-append, length-drop, drop-of-length-le, take-append-drop}
 use lib.Seq.{drop-cons, drop-drop}
 use borrow.Author.Tests.{eqb-true, eqb-false, eq-eqb, ne-eqb}
 use Rattle.trees.specs.Plain.{if_then_else_, keep, member}
 use Rattle.trees.specs.Held.{beforeSemicolon}
 use Rattle.trees.specs.Batch.{semicolons}
-use Rattle.theorems.specs.ListLaws.{if-true, if-false}
+use Rattle.theorems.specs.ListLaws.{if-true, if-false, keep-append}
 
 -- ---- the first semicolon
 
@@ -172,17 +173,12 @@ module _ (p : List ℕ) (i : ℕ) where
   unfolding semicolons keep
   texts-none h = rw (drop-of-length-le p h)
 
+pub semicolons-append : (p q : List ℕ) → semicolons (p ++ q) ≡ semicolons p + semicolons q
+unfolding semicolons
+semicolons-append p q = ap length (keep-append (eqb 59) p q) ∙ length-append (keep (eqb 59) p) (keep (eqb 59) q)
+
 texts-parts : (k : ℕ) (p : List ℕ) → semicolons p ≡ semicolons (take k p) + semicolons (drop k p)
-unfolding semicolons keep
-texts-parts zero p = omega arith
-texts-parts (suc k) [] = refl
-texts-parts (suc k) (b ∷ p) = go (eqb 59 b) (texts-parts k p)
-  where
-    go : (t : Bool) → semicolons p ≡ semicolons (take k p) + semicolons (drop k p)
-        → length (if t then b ∷ keep (eqb 59) p else keep (eqb 59) p)
-        ≡ length (if t then b ∷ keep (eqb 59) (take k p) else keep (eqb 59) (take k p)) + semicolons (drop k p)
-    go true e = omega arith
-    go false e = e
+texts-parts k p = ap semicolons (sym (take-append-drop k p)) ∙ semicolons-append (take k p) (drop k p)
 
 pub texts-skip : (p : List ℕ) (i j : ℕ) → i ≤ j → semicolons (drop i p) ≡ semicolons (take (j - i) (drop i p)) + semicolons (drop j p)
 texts-skip p i j h =

@@ -30,7 +30,7 @@ use Rattle.fields.specs.Field.{number}
 use Rattle.records.specs.Records.{wide, recordOf, recordsOf, withRecords, masksOf}
 use Rattle.records.specs.RecordLaws.{records-length, record-at, masks-records}
 use Rattle.head.specs.Head.{numbersAt, firstAt, secondAt, openingAt}
-use Rattle.layout.specs.Store.{treesHeldAt, laneFrom, sizeAt, heldAt, heldIn}
+use Rattle.layout.specs.Store.{treesHeldAt, laneFrom, heldAt, heldIn}
 use Rattle.layout.specs.WholeStore.{wholeAt}
 use Rattle.store.specs.RecordedAtLaws.{trees-length}
 use Rattle.store.specs.HeldWholeLaws.{opening-facts}
@@ -40,7 +40,7 @@ use Rattle.newick.specs.Judge.{JudgedAs}
 use Rattle.newick.specs.declared.Judged.{Judged}
 use Rattle.newick.specs.declared.Judged.the-variants.{Refused, Splits}
 use Rattle.store.specs.Lent.{Holds}
-use Rattle.recording.specs.Recording.{Recorded, SplitsOf, Accepts}
+use Rattle.recording.specs.Recording.{SplitsOf, Accepts}
 use Rattle.feeding.specs.Feeding.{isAccepted}
 use Rattle.feeding.specs.Texts.{verdictOn, Finished}
 use Rattle.feeding.specs.HoldLaws.{size-held, lane-below, lane-holds}
@@ -99,10 +99,6 @@ module _ (s : List ℕ) (l : ℕ) (y : Lane) (u : List ℕ) (c : LaneIs s l y u)
   unfolding withLane
   trees-kept = sym (trees-length u) ∙ ap (λ (h : Held). length (h .trees)) (c .held)
 
-  size-kept : sizeAt u ≡ sizeAt s
-  unfolding sizeAt openingAt
-  size-kept = ap (λ (o : Opening). storeSize (o .numbers)) opening-kept
-
 -- ---- the records of splits at the front of a list
 
 pub front-tree : (o : Opening) (x : List ℕ) (k : ℕ) (old new : List ℕ) → k ≡ length x → new ≡ withRecords o x old → masksOf k new ≡ x
@@ -158,7 +154,7 @@ module _ (s : List ℕ) (l : ℕ) (h : l < numbersAt s .lanes) (u : List ℕ) (c
     left = rw v (record { holds = lane-holds s l (holding []) u h c; outside = λ z. c .outside });
   }
 
-  recorded-holds : (x t : List ℕ) → Recorded u x t → Holds (withLane (withTree (heldAt s) x) l (holding [])) s t
+  recorded-holds : (x t : List ℕ) → Holds (withTree (heldAt u) x) u t → Holds (withLane (withTree (heldAt s) x) l (holding [])) s t
   unfolding withLane withTree
   recorded-holds x t g = record {
     whole = g .whole;
@@ -166,7 +162,7 @@ module _ (s : List ℕ) (l : ℕ) (h : l < numbersAt s .lanes) (u : List ℕ) (c
     size = g .size ∙ c .size;
     behind = λ i b.
         let p = size-held s in
-        let q = size-kept s l (holding []) u c in
+        let q = ap (λ (z : Held). storeSize (z .opening .numbers)) (c .held) in
         g .behind i (omega arith) ∙ c .outside i (inr (omega (arith, lane-below s l h)));
   }
 

@@ -4,15 +4,12 @@
 --   member-left, member-right     a byte that is in the first piece, and one that is not
 --   before-left, before-right     what stands before it
 --   text-left, text-right         what stands before the first semicolon
---   keep-append                   how many bytes pass a test
 use Prim.Native.Nat.{ℕ, _+_}
-use native.Mathlib.Omega.{arith}
 use mathlib.Core.Path.{_≡_, refl, sym, ap, _∙_}
 use mathlib.Core.Bool.{Bool, true, false, _||_, true≢false}
 use mathlib.Core.List.{List, [], _∷_, _++_}
 use lib.Dec.{eqb}
-use lib.ListN.{length}
-use Rattle.trees.specs.Plain.{if_then_else_, keep, member}
+use Rattle.trees.specs.Plain.{if_then_else_, member}
 use Rattle.trees.specs.Held.{beforeSemicolon}
 use Rattle.feeding.specs.EndLaws.{eqb-flip}
 
@@ -72,15 +69,3 @@ module _ (p q : List ℕ) where
 
   pub text-right : member 59 p ≡ false → beforeSemicolon (p ++ q) ≡ p ++ beforeSemicolon q
   text-right e = before-text (p ++ q) ∙ before-right 59 p q e ∙ ap (λ (v : List ℕ). p ++ v) (sym (before-text q))
-
--- ---- how many bytes pass a test
-
-pub keep-append : (f : ℕ → Bool) (p q : List ℕ) → length (keep f (p ++ q)) ≡ length (keep f p) + length (keep f q)
-unfolding keep
-keep-append f [] q = omega arith
-keep-append f (b ∷ p) q = go (f b) (keep-append f p q)
-  where
-    go : (t : Bool) → length (keep f (p ++ q)) ≡ length (keep f p) + length (keep f q)
-        → length (if t then b ∷ keep f (p ++ q) else keep f (p ++ q)) ≡ length (if t then b ∷ keep f p else keep f p) + length (keep f q)
-    go true e = omega arith
-    go false e = e

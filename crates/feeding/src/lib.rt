@@ -2,7 +2,6 @@
 //
 // Read `specs/Feeding.antt` for what the calls promise; what they mean is said in crate trees,
 // `specs/Held.antt` and `specs/Batch.antt`. `specs/Texts.antt` has the steps.
-ghost use mathlib.Core.Path.{_≡_};
 ghost use Rattle.feeding.specs.Feeding.{FedAs, ClosedAs, batchOf, BatchedAs};
 ghost use lib.ListN.{length};
 use answers::Fed;

@@ -2,7 +2,7 @@
 // verdict, then 11 and 12; an accepted tree is recorded.
 ghost use mathlib.Core.Path.{_≡_};
 ghost use mathlib.Core.Bool.{true};
-ghost use Prim.Native.Nat.{_+_, _*_, _≤_, _<_};
+ghost use Prim.Native.Nat.{_+_, _≤_, _<_};
 ghost use lib.ListN.{length, take, drop};
 ghost use Rattle.head.specs.Head.{numbersAt, namesAt, openingAt};
 ghost use Rattle.head.specs.Index.{Indexed};
@@ -52,6 +52,5 @@ fn judge_lane(
     requires { ⌜ 192 ≤ length (now records) ⌝ }
     ensures { λ r. ⌜ JudgedAs (openingAt (now (s .entry))) (take n (drop (laneFrom (l .0) + 8) (now (s .entry)))) r (now (records .entry)) (now (records .exit)) ⌝ }
 {
-    let from = 4104 + 4104 * l.0;
-    newick::judge(s, starts, links, &s[from..from + n], records)
+    newick::judge(s, starts, links, lanes::text_of(s, l, n), records)
 }

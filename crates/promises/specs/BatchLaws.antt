@@ -28,7 +28,7 @@ use Rattle.theorems.specs.OwnLaneLaws.{feeding-opening}
 use Rattle.theorems.specs.PieceLaws.{before-unended, before-end, has-end}
 use Rattle.theorems.specs.RunLaws.{more-exactly}
 use Rattle.answers.specs.Filled.{lengthGiven, front}
-use Rattle.feeding.specs.EndLaws.{no-text, one-text}
+use Rattle.feeding.specs.EndLaws.{one-text, has-text, lacks-text}
 use Rattle.promises.specs.Calls.{Question, reply, Made, one, many, ask, reopen, Told, heard, batched, replied, numbersIn, afterBatch, told, after, cut, handed, verdictOf, verdictsTold}
 
 -- ---- verdicts as numbers
@@ -120,20 +120,6 @@ pub record BatchIs (n : ℕ) (h : Held) (l : ℕ) (p : List ℕ) : Type 0 where
   pub hears : batching n h l p .verdicts ≡ take n (map heardNumber (answers h (feedings l n p)))
   pub judges : map verdictOf (batching n h l p .verdicts) ≡ finals (answers h (feedings l n p))
 
-has-text : (p : List ℕ) (n : ℕ) → semicolons p ≡ suc n → member 59 p ≡ true
-has-text p n e = go (member 59 p) refl
-  where
-    go : (b : Bool) → member 59 p ≡ b → b ≡ true
-    go true d = refl
-    go false d = absurd (omega (arith, e, no-text p d))
-
-has-none : (p : List ℕ) → semicolons p ≡ 0 → member 59 p ≡ false
-has-none p e = go (member 59 p) refl
-  where
-    go : (b : Bool) → member 59 p ≡ b → b ≡ false
-    go true d = absurd (omega (arith, e, one-text p d))
-    go false d = refl
-
 -- what is heard of a feeding, and then of the calls cs on what it leaves
 abbrev heardThen : Fed → List Call → List Heard
 heardThen f cs = fed (f .taken) (f .answer) ∷ answers (f .after) cs
@@ -169,10 +155,10 @@ unfolding batching cut ending next answers answer heardNumber finals
 batch-is zero h l p lane e = record {
   ends = refl;
   hears = refl;
-  judges = sym (ap (λ (a : Answer Progress). finals (fed (feeding h l p .taken) a ∷ [])) (more-exactly h l p lane .1 (has-none p e)));
+  judges = sym (ap (λ (a : Answer Progress). finals (fed (feeding h l p .taken) a ∷ [])) (more-exactly h l p lane .1 (lacks-text p e)));
 }
 batch-is (suc n) h l p lane e =
-    let m = has-text p n e in
+    let m = has-text p (omega (arith, e)) in
     batch-more n h l p lane m (batch-is n (feeding h l p .after) l (behind n h l p lane m) (lane-stays n h l p lane m) (omega (arith, e, one-text p m)))
 
 -- ---- every call, by what it hands in

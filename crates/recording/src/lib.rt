@@ -52,7 +52,13 @@ fn add_new(s: &mut [u8], n: usize, records: &[u64], rows: &[u64])
     let mut j = 0;
     while j < n {
         if held <= rows[j] {
-            adding::add_split(s, records[3 * j], records[3 * j + 1], records[3 * j + 2]);
+            let m = records::mask_of(records, j);
+            adding::add_split(
+                s,
+                m,
+                records::place_of(records, j),
+                records::identifier_of(records, j),
+            );
         }
         j += 1;
     }

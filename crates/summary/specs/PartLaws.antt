@@ -1,7 +1,6 @@
 -- The texts of a piece, fed part by part and piece by piece. Assumes nothing.
 --
 --   lane-whole, lane-there           a whole store has a lane 0
---   keep-most                        what passes a test is no more than there is
 --   part-refused, part-given, verdicts-there     a part that is one batch
 --   counted, given-whole, given-count     the answer of a feeding on whole bytes
 --   refused-append                   the refusals among two runs of verdicts
@@ -11,19 +10,20 @@
 --   texts-size                       the lent bytes stay as many
 --   Rest ..                          part after part: what is left of the piece decides
 --   rest-none, rest-more, rest-refused, rest-last     no part yet, one more, a refusal, and the last
-use Prim.Native.Nat.{ℕ, suc, _+_, _-_, _≤_, _<_}
+use Prim.Native.Nat.{ℕ, _+_, _-_, _≤_, _<_}
 use native.Mathlib.Omega.{arith}
 use mathlib.Core.Path.{_≡_, refl, sym, ap, subst, _∙_}
 use mathlib.Core.Bool.{Bool, true, false, true≢false}
-use mathlib.Core.List.{List, [], _∷_, _++_}
+use mathlib.Core.List.{List, _++_}
 use lib.Dec.{eqb}
 use lib.ListN.{length, getD, take, drop, length-append, length-drop, take-append-drop}
 use lib.Seq.{take-at, take-all, drop-drop}
 use borrow.Author.Tests.{lt-ltb, le-ltb}
-use Rattle.trees.specs.Plain.{if_then_else_, keep, Answer, refused, gives}
+use Rattle.trees.specs.Plain.{keep, Answer, refused, gives}
 use Rattle.trees.specs.Opening.{Numbers}
 use Rattle.trees.specs.Held.{Held}
 use Rattle.trees.specs.Batch.{semicolons, Batched, batching, batch}
+use Rattle.theorems.specs.ListLaws.{keep-append, keep-most}
 use Rattle.answers.specs.declared.Number.{Number}
 use Rattle.answers.specs.declared.Number.the-variants as number
 use Rattle.answers.specs.declared.Refusal.{Refusal}
@@ -36,8 +36,8 @@ use Rattle.store.specs.Lent.{Holds}
 use Rattle.store.specs.LentLaws.{not-whole, when-whole}
 use Rattle.feeding.specs.Feeding.{batchOf, isRefusal, BatchedAs}
 use Rattle.feeding.specs.BatchLaws.{none-front, none-back}
-use Rattle.feeding.specs.SeamLaws.{keep-append}
-use Rattle.feeding.specs.CutLaws.{LaneThere, joined, semicolons-append, batching-opening, batching-append}
+use Rattle.feeding.specs.EndLaws.{semicolons-append}
+use Rattle.feeding.specs.CutLaws.{LaneThere, joined, batching-opening, batching-append}
 use Rattle.summary.specs.Summary.{refusedIn}
 use Rattle.summary.specs.Texts.{capped, textsFed, textsCount, TextsAs}
 use Rattle.summary.specs.TextsLaws.{capped-more}
@@ -52,15 +52,6 @@ pub lane-there : (s : List ℕ) → wholeAt s ≡ true → LaneThere (heldAt s) 
 lane-there s w = record { counted = lane-whole s w; text = omega (arith, lane-whole s w, texts-length s, ap (λ (x : Numbers). x .lanes) (held-numbers s)) }
 
 -- ---- at most 4,096 bytes: one batch
-
-pub keep-most : (f : ℕ → Bool) (v : List ℕ) → length (keep f v) ≤ length v
-unfolding keep
-keep-most f [] = omega arith
-keep-most f (b ∷ v) = go (f b) (keep-most f v)
-  where
-    go : (t : Bool) → length (keep f v) ≤ length v → length (if t then b ∷ keep f v else keep f v) ≤ suc (length v)
-    go true e = omega arith
-    go false e = omega arith
 
 texts-most : (p : List ℕ) → semicolons p ≤ length p
 unfolding semicolons
@@ -136,7 +127,7 @@ module _ (s p : List ℕ) (room : ℕ) (e : room ≡ 4096) (few : length p ≤ 4
 
 pub refused-append : (v w : List ℕ) → refusedIn (v ++ w) ≡ refusedIn v + refusedIn w
 unfolding refusedIn
-refused-append v w = keep-append isRefusal v w
+refused-append v w = ap length (keep-append isRefusal v w) ∙ length-append (keep isRefusal v) (keep isRefusal w)
 
 pub fed-more : (h : Held) → LaneThere h 0 → (p q : List ℕ) → textsFed h (p ++ q) ≡ joined (textsFed h p) (textsFed (textsFed h p .after) q)
 fed-more h here p q =
