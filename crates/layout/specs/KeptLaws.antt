@@ -4,10 +4,12 @@
 --   number-kept, list-kept, text-kept     a number, a tree's list and a lane that lie there
 --   lists-kept, lengths-kept, texts-kept     those of all trees and lanes
 --   numbers-kept, opening-kept            the opening's numbers, where the first 10 bytes are kept; the opening, where those from 16 on are too
+--   numbers-put                           the numbers where something is put behind them
 --   run-same                              equal bytes, in two lists and at two places
 use Prim.Native.Nat.{ℕ, _+_, _*_, _≤_, _<_}
 use native.Mathlib.Omega.{arith}
 use mathlib.Core.Path.{_≡_, refl, sym, ap, _∙_}
+use mathlib.Core.Logic.{inl}
 use mathlib.Core.Bool.{Bool, true, false}
 use mathlib.Core.List.{List}
 use lib.Dec.{eqb}
@@ -17,8 +19,8 @@ use borrow.Author.Tests.{eqb-false}
 use Rattle.trees.specs.Plain.{if_then_else_}
 use Rattle.trees.specs.Opening.{Numbers}
 use Rattle.trees.specs.Held.{holding, overrun}
-use Rattle.fields.specs.Field.{number}
-use Rattle.fields.specs.FieldLaws.{number-same}
+use Rattle.fields.specs.Field.{number, put}
+use Rattle.fields.specs.FieldLaws.{put-outside, number-same}
 use Rattle.head.specs.Head.{upTo, numbersAt, nameAt, namesAt, firstAt, secondAt, openingAt}
 use Rattle.head.specs.HeadLaws.{upTo-same}
 use Rattle.layout.specs.Columns.{columnAt, column-same}
@@ -103,3 +105,6 @@ module _ (s t : List ℕ) (front : Kept s t 0 10) where
           column-same 2 2128 (number 2 s 0) t s (λ i g h. back i (omega arith) (omega arith)),
           column-same 8 2256 (number 2 s 0) t s (λ i g h. back i (omega arith) (omega arith)),
         )
+
+pub numbers-put : (j at v : ℕ) (s : List ℕ) → 10 ≤ at → numbersAt (put j s at v) ≡ numbersAt s
+numbers-put j at v s h = numbers-kept s _ (λ b g l. put-outside j s at v b (inl (omega arith)))

@@ -3,7 +3,7 @@
 --   masks-length, number-mask, masks-numbered     the recorded masks, by the splits' numbers
 -- where the splits are in order:
 --   row-below                     the rows in the order are rows of the splits
---   splits-rise, splits-up        the masks rise with the splits' numbers
+--   splits-up                     the masks rise with the splits' numbers
 --   row-numbered                  every row is that of one number
 --   masks-mem, mem-masks          the recorded masks are those of the rows
 --   mask-same                     "all different"
@@ -43,7 +43,7 @@ module _ (p : Parts) (long : length (p .order) ≡ splitsIn p) where
     pub masks-rise : Rising (masksIn p)
     masks-rise = rising-true (masksIn p) (f .masks-rising)
 
-    pub splits-rise : (i j : ℕ) → i < j → j < splitsIn p → splitIn p i < splitIn p j
+    splits-rise : (i j : ℕ) → i < j → j < splitsIn p → splitIn p i < splitIn p j
     splits-rise i j a b =
         omega (arith, rising-at (masksIn p) masks-rise i j a (omega (arith, masks-length)), number-mask i (omega arith), number-mask j b)
 

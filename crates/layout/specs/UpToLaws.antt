@@ -1,7 +1,6 @@
 -- Laws of the lists that a store's bytes are read as: members, order, one more at the end. Assumes nothing.
 --
 --   upTo-mem, mem-upTo            the members of a list made by `upTo`
---   upTo-rises                    where such a list rises, the function does
 --   length-map, map-at, map-mem, mem-map     a list with a function on each
 --   mem-at                        each member stands somewhere
 --   one-more, each-more           a list with one more at its end: how long it is, and what holds of each
@@ -75,20 +74,6 @@ module _ {A : Type 0} (f : ℕ → A) where
   mem-upTo n i h = mem-from 0 n i (omega arith) (omega arith)
 
 -- ---- order
-
-module _ (f : ℕ → ℕ) where
-  from-rises : (k n : ℕ) → Rising (fromTo f k n) → (i j : ℕ) → k ≤ i → i < j → j < k + n → f i < f j
-  unfolding fromTo
-  from-rises k zero r i j a b c = absurd (omega arith)
-  from-rises k (suc n) r i j a b c = go (less-or-not k i) (from-rises (suc k) n (r .1) i j)
-    where
-      go : (k < i) ⊎ (i ≤ k) → (suc k ≤ i → i < j → j < suc k + n → f i < f j) → f i < f j
-      go (inl l) g = g l b (omega arith)
-      go (inr l) g = let e : i ≡ k = omega arith in rw e (r .0 (f j) (mem-from f (suc k) n j (omega arith) (omega arith)))
-
-  pub upTo-rises : (n : ℕ) → Rising (upTo f n) → (i j : ℕ) → i < j → j < n → f i < f j
-  unfolding upTo
-  upTo-rises n r i j a b = from-rises 0 n r i j (omega arith) a (omega arith)
 
 pub rising-at : (l : List ℕ) → Rising l → (i j : ℕ) → i < j → j < length l → getD l i 0 < getD l j 0
 rising-at [] r i j a b = absurd (omega arith)

@@ -9,12 +9,12 @@ use native.Mathlib.Omega.{arith}
 use mathlib.Core.Path.{_≡_, refl, sym, ap, ap₂, _∙_, subst}
 use mathlib.Core.Logic.{_⊎_, inl, inr}
 use mathlib.Core.Bool.{true}
-use mathlib.Core.List.{List, [], _∷_, _++_, map}
+use mathlib.Core.List.{List, _++_, map}
 use lib.Dec.{ltb, eqb}
 use lib.ListN.{length, getD, take}
 use lib.Seq.{length-take-le, getD-take, ext-getD}
 use borrow.Author.Tests.{lt-ltb, le-ltb, eq-eqb, ne-eqb}
-use Rattle.trees.specs.Plain.{if_then_else_, every, member, lacking, Answer, refused, gives}
+use Rattle.trees.specs.Plain.{if_then_else_, every, Answer, refused, gives}
 use Rattle.trees.specs.Mask.{proper}
 use Rattle.trees.specs.Consensus.{count}
 use Rattle.trees.specs.Opening.{storeSize}
@@ -28,7 +28,7 @@ use Rattle.answers.specs.Answers.{progressGiven}
 use Rattle.records.specs.Records.{masksOf}
 use Rattle.records.specs.RecordLaws.{masks-length, masks-at}
 use Rattle.head.specs.Head.{numbersAt, openingAt}
-use Rattle.layout.specs.Store.{sizeAt, Parts, partsAt, maskIn, countIn, treesHeldAt, splitsHeldAt, masksAt, heldAt}
+use Rattle.layout.specs.Store.{sizeAt, partsAt, maskIn, countIn, treesHeldAt, splitsHeldAt, masksAt, heldAt}
 use Rattle.layout.specs.WholeStore.{listedIn, wholeAt}
 use Rattle.layout.specs.WholeFacts.{HeadAt, whole-at-facts}
 use Rattle.layout.specs.Sound.{parts-whole}
@@ -38,7 +38,7 @@ use Rattle.layout.specs.OpeningKeptLaws.{numbers-held, size-held}
 use Rattle.store.specs.RecordedAtLaws.{trees-length, recorded-at, recorded-length}
 use Rattle.store.specs.HeldWholeLaws.{held-numbers}
 use Rattle.store.specs.Lent.{Holds}
-use Rattle.recording.specs.Listed.{withList, Rows, Listed}
+use Rattle.recording.specs.Added.{withList, Rows, Listed}
 use Rattle.recording.specs.ListSoundLaws.{list-counted, list-sound, list-held}
 use Rattle.recording.specs.Recording.{SplitsOf, newIn, Stands, RowsOf, Grown, Accepts}
 use Rattle.recording.specs.NewLaws.{mem-mask, stands-new}
@@ -46,15 +46,11 @@ use Rattle.recording.specs.NewLaws.{mem-mask, stands-new}
 -- ---- the verdict
 
 module _ (s t : List ℕ) (w : wholeAt s ≡ true) where
-  new-same : newSplits (heldAt s) t ≡ newIn (partsAt s) t
-  unfolding newSplits
-  new-same = ap (lacking t) (recorded-at s w)
-
   room : roomFor (heldAt s) t
       ≡ (if eqb (treesHeldAt s) (numbersAt s .treeRoom) then refused 11
       else if ltb (numbersAt s .splitRoom) (splitsHeldAt s + length (newIn (partsAt s) t)) then refused 12 else gives t)
-  unfolding roomFor
-  room = rw (trees-length s, recorded-length s w, held-numbers s, new-same)
+  unfolding roomFor newSplits
+  room = rw (trees-length s, recorded-length s w, held-numbers s, recorded-at s w)
 
   pub no-tree-room : treesHeldAt s ≡ numbersAt s .treeRoom → roomFor (heldAt s) t ≡ refused 11
   no-tree-room e = room ∙ rw (eq-eqb _ _ e)
@@ -74,11 +70,8 @@ refuses a s r k e q = rw e (q, refl)
 
 module _ (s : List ℕ) (whole : wholeAt s ≡ true) (n : ℕ) (rs : List ℕ) (t : SplitsOf s n rs) (d : treesHeldAt s ≡ numbersAt s .treeRoom → ⊥)
     (rows : List ℕ) (r : RowsOf (partsAt s) n rs rows) (u : List ℕ) (g : Grown s (newIn (partsAt s) (masksOf n rs)) u) where
-  trees : treesHeldAt u ≡ treesHeldAt s
-  trees = ap length (g .lists)
-
   pub trees-in : treesHeldAt u < numbersAt u .treeRoom
-  trees-in = rw (numbers-held s u (g .opening)) (omega (arith, d, trees, whole-at-facts s whole .head .trees-fit))
+  trees-in = rw (numbers-held s u (g .opening)) (omega (arith, d, ap length (g .lists), whole-at-facts s whole .head .trees-fit))
 
   rows-length : length (take n rows) ≡ n
   rows-length = length-take-le n rows (r .reach)
@@ -114,7 +107,7 @@ module _ (s : List ℕ) (whole : wholeAt s ≡ true) (n : ℕ) (rs : List ℕ) (
   new-row : (k : ℕ) → k < splitsHeldAt u → splitsHeldAt s ≤ k → Mem k (take n rows)
   new-row k h b =
       let f : Stands (partsAt s .masks ++ newIn (partsAt s) (masksOf n rs)) k (maskIn (partsAt u) k) = rw (← g .masks) (h, refl) in
-      let m = lacking-mem (masksAt s) (masksOf n rs) (maskIn (partsAt u) k) (stands-new (partsAt s .masks) (newIn (partsAt s) (masksOf n rs)) k (maskIn (partsAt u) k) f b) .0 in
+      let m = lacking-mem (masksAt s) (masksOf n rs) (maskIn (partsAt u) k) (stands-new (partsAt s .masks) (newIn (partsAt s) (masksOf n rs)) _ _ f b) .0 in
       let j = mem-mask n rs (maskIn (partsAt u) k) m in
       let y = stands (j .0) (j .1) in
       let e : getD (take n rows) (j .0) 0 ≡ k = mask-same (partsAt u) (g .sound .shaped .order) (g .sound .splits) _ k (y .0) h (y .1 ∙ sym (j .2)) in

@@ -33,7 +33,7 @@ use Rattle.layout.specs.Sound.{Sound}
 use Rattle.layout.specs.UpToLaws.{mem-map, oneIf, listed-most}
 use Rattle.layout.specs.InsideLaws.{ranges}
 use Rattle.layout.specs.KeptLaws.{Kept, number-kept, lists-kept, lengths-kept, texts-kept, numbers-kept, opening-kept}
-use Rattle.recording.specs.Listed.{withList, Rows, Listed}
+use Rattle.recording.specs.Added.{withList, Rows, Listed}
 
 -- ---- where things lie
 
@@ -53,7 +53,6 @@ pub room-is : (s : List ℕ) → HeadAt s → treesHeldAt s < numbersAt s .treeR
 room-is s g h =
     let n = numbersAt s in
     let r = ranges s g in
-    let f = g .splits-fit in
     let a = tree-from n (treesHeldAt s) in
     record {
       few = (r .most-taxa, omega (arith, r .most-trees), omega (arith, r .most-splits));
@@ -113,14 +112,14 @@ module _ (s rs : List ℕ) (z : Room s) (f : Sound (openingAt s) (partsAt s)) (r
       abbrev w : List ℕ
       w = put 4 (put 2 u to x) at (v + 1)
 
-      one-more : (k : ℕ) (b : Bool) → eqb k x ≡ b → number 4 w (countsFrom n + 4 * k) + oneIf (member k ys) ≡ number 4 u (countsFrom n + 4 * k) + oneIf (b || member k ys)
+      counted-more : (k : ℕ) (b : Bool) → eqb k x ≡ b → number 4 w (countsFrom n + 4 * k) + oneIf (member k ys) ≡ number 4 u (countsFrom n + 4 * k) + oneIf (b || member k ys)
       unfolding oneIf
-      one-more k true y =
+      counted-more k true y =
           let a = eqb-true k x y in
           let m = member-not k ys (λ l. omega (arith, (rw rest at (e .rises)) .0 (maskAt s k) (mem-map (maskAt s) ys k l), ap (maskAt s) a)) in
           let c = number-put 4 (put 2 u to x) at (v + 1) (omega (arith, entering-fits .1, put-length 2 u to x, e .size)) (omega (arith, entering-fits .2)) in
           rw (m, a, ← p) (omega (arith, c, beside at (omega arith)))
-      one-more k false y =
+      counted-more k false y =
           let c : (countsFrom n + 4 * k + 4 ≤ at) ⊎ (at + 4 ≤ countsFrom n + 4 * k) = ⊎-map (λ l. omega arith) (λ l. omega (arith, eqb-false k x y)) (less-or-not k x) in
           rw (number-put-outside 4 4 (put 2 u to x) at (v + 1) (countsFrom n + 4 * k) c, beside (countsFrom n + 4 * k) (omega arith))
 
@@ -133,7 +132,7 @@ module _ (s rs : List ℕ) (z : Room s) (f : Sound (openingAt s) (partsAt s)) (r
                 rw (add-one j, take-suc rs j 0 h, ← d, ← e .rows)
                 (column-beside 2 (nextFrom s + 2) (suc j) 4 at (v + 1) _ (inr (omega (arith, z, r .few)))
                 ∙ rw o (column-more 2 (nextFrom s + 2) j x u (entering-fits .0) (omega (arith, e .size, z, r .few))));
-            counts = λ k l. rw (add-one j) (one-more k (eqb k x) refl ∙ rw rest at (e .counts k l));
+            counts = λ k l. rw (add-one j) (counted-more k (eqb k x) refl ∙ rw rest at (e .counts k l));
             rises = rw (add-one j) ((rw rest at (e .rises)) .1);
             outside =
                 λ i a b.

@@ -8,7 +8,7 @@
 use Prim.Native.Nat.{ℕ, _+_, _-_, _*_, _≤_, _<_}
 use native.Mathlib.Omega.{arith}
 use mathlib.Core.Path.{_≡_, refl, sym, ap, _∙_, subst}
-use mathlib.Core.Logic.{_⊎_, inl, inr}
+use mathlib.Core.Logic.{⊎-elim}
 use mathlib.Core.Bool.{true, false, true≢false}
 use mathlib.Core.List.{List, [], _∷_, _++_, append-assoc, append-nil}
 use lib.ListN.{length, getD, length-append}
@@ -27,7 +27,7 @@ use Rattle.layout.specs.Store.{Parts, partsAt, splitsHeldAt, masksAt}
 use Rattle.layout.specs.WholeStore.{wholeAt, placeIn}
 use Rattle.layout.specs.WholeFacts.{HeadAt, whole-at-facts}
 use Rattle.layout.specs.Sound.{Sound, whole-sound}
-use Rattle.layout.specs.UpToLaws.{mem-at, rising-at}
+use Rattle.layout.specs.UpToLaws.{mem-at, one-more, rising-at}
 use Rattle.layout.specs.OrderLaws.{masks-mem}
 use Rattle.layout.specs.OpeningKeptLaws.{numbers-held, first-held, second-held, size-held, head-held}
 use Rattle.recording.specs.Added.{Added, withSplit}
@@ -51,13 +51,14 @@ module _ (s : List ℕ) (whole : wholeAt s ≡ true) (n : ℕ) (rs : List ℕ) w
   }
 
   module _ (room : splitsHeldAt s + length (newIn (partsAt s) (masksOf n rs)) ≤ numbersAt s .splitRoom) (j : ℕ) (u : List ℕ) (g : Grown s (newIn (partsAt s) (masksOf j rs)) u) where
-    pub grown-number : splitsHeldAt u ≡ splitsHeldAt s + length (newIn (partsAt s) (masksOf j rs))
+    grown-number : splitsHeldAt u ≡ splitsHeldAt s + length (newIn (partsAt s) (masksOf j rs))
     grown-number = ap length (g .masks) ∙ length-append (partsAt s .masks) (new j)
 
     pub grown-head : j ≤ n → HeadAt u
     grown-head b =
         let h = whole-at-facts s whole .head in
-        head-held s u (g .opening) h (g .size) (omega (arith, ap length (g .lists), h .trees-fit)) (omega (arith, grown-number, room, new-within (partsAt s) rs (n - j) j n (omega arith)))
+        head-held s u (g .opening) h (g .size) (omega (arith, ap length (g .lists), h .trees-fit))
+        (omega (arith, grown-number, room, new-within (partsAt s) rs (n - j) j n (omega arith)))
 
     module _ (t : SplitsOf s n rs) (rows : List ℕ) (r : RowsOf (partsAt s) n rs rows) (h : j < n) where
       abbrev next : ℕ
@@ -88,13 +89,11 @@ module _ (s : List ℕ) (whole : wholeAt s ≡ true) (n : ℕ) (rs : List ℕ) w
         next-new =
             member-not next (masksAt u) (λ q.
             let k = masks-mem (partsAt u) (g .sound .shaped .order) (g .sound .splits) next q in
-            go (mem-cases next (partsAt s .masks) (new j) (subst (Mem next) (g .masks) (rw (k .2) (mem-getD (partsAt u .masks) (k .0) (k .1))))))
-          where
-            go : Mem next (partsAt s .masks) ⊎ Mem next (new j) → ⊥
-            go (inl q) =
-                let i = mem-at (partsAt s .masks) next q in
-                true≢false (sym (row-recorded s whole (i .0) next (i .1) (i .2)) ∙ row-unknown s whole n rs rows r j h b)
-            go (inr q) = not-before q
+            let old : Mem next (partsAt s .masks) → ⊥ =
+            λ a.
+            let i = mem-at (partsAt s .masks) next a in
+            true≢false (sym (row-recorded s whole (i .0) next (i .1) (i .2)) ∙ row-unknown s whole n rs rows r j h b) in
+            ⊎-elim old not-before (mem-cases next (partsAt s .masks) (new j) (subst (Mem next) (g .masks) (rw (k .2) (mem-getD (partsAt u .masks) (k .0) (k .1))))))
 
         pub next-asks : (HeadAt u × Sound (openingAt u) (partsAt u))
             × ((splitsHeldAt u < numbersAt u .splitRoom)
@@ -102,14 +101,11 @@ module _ (s : List ℕ) (whole : wholeAt s ≡ true) (n : ℕ) (rs : List ℕ) w
             × ((member (getD rs (3 * j) 0) (masksAt u) ≡ false)
             × ((getD rs (3 * j + 1) 0 ≡ placeIn u (getD rs (3 * j) 0)) × (getD rs (3 * j + 2) 0 ≡ identifier (secondAt u) (getD rs (3 * j) 0))))))
         next-asks =
+            let e = numbers-held s u (g .opening) in
             let a = new-within (partsAt s) rs (n - (j + 1)) (j + 1) n (omega arith) in
-            let c = ap length more ∙ length-append (new j) (next ∷ []) in (
-              (grown-head (omega arith), g .sound),
-              (
-                rw (numbers-held s u (g .opening)) (omega (arith, grown-number, room, a, c)),
-                (next-proper, (next-new, (rw (first-held s u (g .opening), numbers-held s u (g .opening)) (t .placed j h), rw (second-held s u (g .opening)) (t .identified j h)))),
-              ),
-            )
+            let left : splitsHeldAt u < numbersAt u .splitRoom = rw e (omega (arith, grown-number, room, a, ap length more, one-more (new j) next)) in
+            let placed : getD rs (3 * j + 1) 0 ≡ placeIn u next = rw (first-held s u (g .opening), e) (t .placed j h) in
+            ((grown-head (omega arith), g .sound), (left, (next-proper, (next-new, (placed, rw (second-held s u (g .opening)) (t .identified j h))))))
 
         pub grown-new : (v : List ℕ) → Added u (getD rs (3 * j) 0) v → Grown s (newIn (partsAt s) (masksOf (j + 1) rs)) v
         unfolding withSplit

@@ -1,15 +1,12 @@
 -- The definitions that the contracts cite, and their laws.
 pub mod Added
-pub mod Listed
 pub mod ListSoundLaws
 pub mod EnteringLaws
 pub mod Recording
 pub mod RowLaws
-pub mod NumberLaws
 pub mod AddedLaws
 pub mod SplitSoundLaws
 pub mod WalkLaws
 pub mod NewLaws
-pub mod FillLaws
 pub mod GrownLaws
 pub mod AcceptLaws

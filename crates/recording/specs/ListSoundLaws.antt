@@ -4,8 +4,8 @@
 --   list-counted     each split of the tree counts one more
 --   list-sound       sound parts stay sound
 use Prim.Native.Nat.{ℕ, _+_, _<_}
-use mathlib.Core.Path.{_≡_, refl, sym, ap, _∙_}
-use mathlib.Core.List.{List, [], _∷_, _++_, map}
+use mathlib.Core.Path.{_≡_, refl, sym, _∙_}
+use mathlib.Core.List.{List, [], _∷_, _++_, map, map-append}
 use lib.Seq.{take-length}
 use Rattle.trees.specs.Plain.{member}
 use Rattle.trees.specs.Consensus.{count}
@@ -19,7 +19,7 @@ use Rattle.layout.specs.WholeFacts.{ListIn}
 use Rattle.layout.specs.Sound.{Sound}
 use Rattle.layout.specs.UpToLaws.{one-more, each-more, count-append, oneIf, one-if}
 use Rattle.layout.specs.HighestLaws.{highest-same}
-use Rattle.recording.specs.Listed.{withList, Rows}
+use Rattle.recording.specs.Added.{withList, Rows}
 
 module _ (rs : List ℕ) (p : Parts) where
   pub list-counted : (k : ℕ) → k < splitsIn p → countIn (withList rs p) k ≡ countIn p k + oneIf (member k rs)
@@ -41,11 +41,7 @@ module _ (rs : List ℕ) (p : Parts) where
 module _ (o : Opening) (rs : List ℕ) (p : Parts) where
   pub list-held : heldIn o (withList rs p) ≡ withTree (heldIn o p) (map (maskIn p) rs)
   unfolding heldIn withList withTree
-  list-held i = record { opening = o; trees = trees (p .lists) i; texts = p .texts }
-    where
-      trees : (l : List (List ℕ)) → map (map (maskIn p)) (l ++ rs ∷ []) ≡ map (map (maskIn p)) l ++ map (maskIn p) rs ∷ []
-      trees [] = refl
-      trees (x ∷ l) = ap (λ (k : List (List ℕ)). map (maskIn p) x ∷ k) (trees l)
+  list-held i = record { opening = o; trees = map-append (map (maskIn p)) (p .lists) (rs ∷ []) i; texts = p .texts }
 
   pub list-sound : Sound o p → Rows p rs → Sound o (withList rs p)
   unfolding withList

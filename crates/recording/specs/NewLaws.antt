@@ -1,4 +1,4 @@
--- Which of a tree's splits are new to a store, and the rows of masks. Assumes nothing.
+-- Which of a tree's splits are new to a store, and their rows, filled in a split at a time. Assumes nothing.
 --
 --   mask-mem, mem-mask          the masks of the records
 --   new-none, new-old, new-next     the new ones of the first masks, a mask at a time
@@ -6,16 +6,20 @@
 --   new-most                    and no more than masks
 --   stands-more, stands-new     a mask still stands in its row where there are more behind; a row behind the first is one of those
 --   row-recorded, row-known, row-unknown     a row of whole bytes is that of a recorded mask, a row behind them that of a new one
+--   Filled p rs rows j new r     r, as long as rows, has the rows of the first j records' masks, of which `new` are new
+--   filled-none                  at first there are none
+--   filled-found, filled-missing     one more
 use Prim.Native.Nat.{ℕ, zero, suc, _+_, _-_, _*_, _≤_, _<_}
 use native.Mathlib.Numerals.{add-one}
 use native.Mathlib.Omega.{arith}
-use mathlib.Core.Path.{_≡_, sym, ap, _∙_, subst}
+use mathlib.Core.Path.{_≡_, refl, sym, ap, _∙_, subst}
+use mathlib.Core.Logic.{⊎-elim}
 use mathlib.Core.Bool.{true, false, not}
-use mathlib.Core.List.{List, [], _∷_, _++_}
-use lib.ListN.{length, getD, length-append, List·getD-append}
-use lib.Seq.{getD-append-add}
+use mathlib.Core.List.{List, [], _∷_, _++_, append-assoc, append-nil}
+use lib.ListN.{length, getD, set, length-append, length-set, List·getD-append}
+use lib.Seq.{getD-append-add, getD-set-same, getD-set-other, getD-at}
 use Rattle.trees.specs.Plain.{member, lacking}
-use Rattle.theorems.specs.ListLaws.{Mem, mem-member, keep-most, mem-getD}
+use Rattle.theorems.specs.ListLaws.{less-or-not, Mem, mem-member, keep-most, mem-getD}
 use Rattle.theorems.specs.LackingLaws.{lacking-append, lacking-none, lacking-old, lacking-new, lacking-mem}
 use Rattle.records.specs.Records.{masksOf}
 use Rattle.records.specs.RecordLaws.{masks-length, masks-at, masks-more}
@@ -23,9 +27,11 @@ use Rattle.layout.specs.Store.{Parts, partsAt, masksIn, splitsHeldAt, maskAt, m
 use Rattle.layout.specs.StoreLaws.{shaped-at}
 use Rattle.layout.specs.WholeStore.{wholeAt}
 use Rattle.layout.specs.WholeFacts.{whole-at-facts}
-use Rattle.layout.specs.UpToLaws.{mem-at}
+use Rattle.layout.specs.UpToLaws.{mem-at, one-more}
 use Rattle.layout.specs.OrderLaws.{mem-masks}
-use Rattle.recording.specs.Recording.{newIn, Stands, RowsOf}
+use Rattle.recording.specs.declared.finding.Found.{Found}
+use Rattle.recording.specs.declared.finding.Found.the-variants.{Row, Nothing}
+use Rattle.recording.specs.Recording.{newIn, Stands, FoundAs, RowsOf}
 
 module _ (n : ℕ) (rs : List ℕ) where
   pub mask-mem : (j : ℕ) → j < n → Mem (getD rs (3 * j) 0) (masksOf n rs)
@@ -83,8 +89,54 @@ module _ (s : List ℕ) (whole : wholeAt s ≡ true) where
 
   module _ (n : ℕ) (rs rows : List ℕ) (r : RowsOf (partsAt s) n rs rows) (j : ℕ) (h : j < n) where
     pub row-known : getD rows j 0 < splitsHeldAt s → member (getD rs (3 * j) 0) (masksAt s) ≡ true
-    row-known a = row-recorded (getD rows j 0) (getD rs (3 * j) 0) a (sym (List·getD-append (partsAt s .masks) (newIn (partsAt s) (masksOf n rs)) 0 (getD rows j 0) a) ∙ r .each j h .1)
+    row-known a =
+        row-recorded (getD rows j 0) (getD rs (3 * j) 0) a (sym (List·getD-append (partsAt s .masks) (newIn (partsAt s) (masksOf n rs)) 0 (getD rows j 0) a) ∙ r .each j h .1)
 
     pub row-unknown : splitsHeldAt s ≤ getD rows j 0 → member (getD rs (3 * j) 0) (masksAt s) ≡ false
     row-unknown a =
-        lacking-mem (masksAt s) (masksOf n rs) (getD rs (3 * j) 0) (stands-new (partsAt s .masks) (newIn (partsAt s) (masksOf n rs)) (getD rows j 0) (getD rs (3 * j) 0) (r .each j h) a) .1
+        lacking-mem (masksAt s) (masksOf n rs) (getD rs (3 * j) 0) (stands-new (partsAt s .masks) (newIn (partsAt s) (masksOf n rs)) _ _ (r .each j h) a) .1
+
+-- ---- the rows of all
+
+pub record Filled (p : Parts) (rs rows : List ℕ) (j new : ℕ) (r : List ℕ) : Type 0 where
+  pub same-length : length r ≡ length rows
+  pub counted : new ≡ length (newIn p (masksOf j rs))
+  pub each : (i : ℕ) → i < j → Stands (p .masks ++ newIn p (masksOf j rs)) (getD r i 0) (getD rs (3 * i) 0)
+
+pub filled-none : (p : Parts) (rs rows : List ℕ) → Filled p rs rows 0 0 rows
+filled-none p rs rows = record { same-length = refl; counted = sym (ap length (new-none p rs)); each = λ i h. absurd (omega arith) }
+
+module _ (s : List ℕ) (whole : wholeAt s ≡ true) (rs rows : List ℕ) (j new : ℕ) (r : List ℕ) (f : Filled (partsAt s) rs rows j new r) (b : j < length rows)
+    (x : Found) (d : FoundAs (partsAt s) (getD rs (3 * j) 0) x) (new′ : ℕ) (u : List ℕ) where
+  abbrev m : ℕ
+  m = getD rs (3 * j) 0
+
+  abbrev ns : List ℕ
+  ns = newIn (partsAt s) (masksOf j rs)
+
+  -- the next mask's row k, with the masks `more` new
+  filled-next : (k : ℕ) (more : List ℕ) → newIn (partsAt s) (masksOf (j + 1) rs) ≡ ns ++ more → Stands ((partsAt s .masks ++ ns) ++ more) k m
+      → u ≡ set r j k → new′ ≡ new + length more → Filled (partsAt s) rs rows (j + 1) new′ u
+  filled-next k more e y q c = record {
+    same-length = rw q (length-set r j k ∙ f .same-length);
+    counted = rw e (omega (arith, length-append ns more, f .counted));
+    each =
+        λ i h.
+        rw (e, q, ← append-assoc (partsAt s .masks) ns more)
+        (⊎-elim (λ l. rw (getD-set-other r j i k 0 (λ g. omega arith)) (stands-more (partsAt s .masks ++ ns) more _ _ (f .each i l)))
+        (λ l. let g : i ≡ j = omega arith in rw (g, getD-set-same r j k 0 (omega (arith, f .same-length))) y) (less-or-not i j));
+  }
+
+  pub filled-found : (k : ℕ) → x ≡ Row k → u ≡ set r j k → new′ ≡ new → Filled (partsAt s) rs rows (j + 1) new′ u
+  unfolding FoundAs
+  filled-found k e q c =
+      let y : Stands (partsAt s .masks) k m = rw e at d in
+      let z = new-old (partsAt s) rs j (row-recorded s whole k m (y .0) (y .1)) in
+      filled-next k [] (z ∙ sym (append-nil ns)) (stands-more (partsAt s .masks ++ ns) [] k m (stands-more (partsAt s .masks) ns k m y)) q (omega arith)
+
+  pub filled-missing : (held : ℕ) → held ≡ splitsHeldAt s → x ≡ Nothing → u ≡ set r j (held + new) → new′ ≡ new + 1 → Filled (partsAt s) rs rows (j + 1) new′ u
+  unfolding FoundAs
+  filled-missing held h e q c =
+      let i : length (partsAt s .masks ++ ns) ≡ held + new = omega (arith, length-append (partsAt s .masks) ns, f .counted) in
+      filled-next (held + new) (m ∷ []) (new-next (partsAt s) rs j (rw e at d))
+      (omega (arith, i, one-more (partsAt s .masks ++ ns) m), getD-at (partsAt s .masks ++ ns) m [] 0 (held + new) i) q (omega arith)

@@ -18,7 +18,7 @@ use Rattle.trees.specs.Held.{withTree, accepted}
 use Rattle.trees.specs.Whole.{goodTree}
 use Rattle.answers.specs.Answers.{progressGiven}
 use Rattle.answers.specs.declared.Progress.{Progress}
-use Rattle.records.specs.Records.{masksOf}
+use Rattle.records.specs.Records.{wide, masksOf}
 use Rattle.head.specs.Head.{numbersAt, secondAt, openingAt}
 use Rattle.layout.specs.Store.{sizeAt, Parts, partsAt, masksIn, treesHeldAt, heldAt, heldIn}
 use Rattle.layout.specs.WholeStore.{placeIn}
@@ -29,10 +29,10 @@ use Rattle.recording.specs.declared.finding.Found.the-variants.{Row, Not
 
 pub record SplitsOf (s : List ℕ) (n : ℕ) (rs : List ℕ) : Type 0 where
   pub few : n ≤ 62
-  pub reach : 3 * n ≤ length rs
+  pub reach : wide * n ≤ length rs
   pub good : goodTree (numbersAt s .taxa) (masksOf n rs) ≡ true
-  pub placed : (j : ℕ) → j < n → getD rs (3 * j + 1) 0 ≡ placeIn s (getD rs (3 * j) 0)
-  pub identified : (j : ℕ) → j < n → getD rs (3 * j + 2) 0 ≡ identifier (secondAt s) (getD rs (3 * j) 0)
+  pub placed : (j : ℕ) → j < n → getD rs (wide * j + 1) 0 ≡ placeIn s (getD rs (wide * j) 0)
+  pub identified : (j : ℕ) → j < n → getD rs (wide * j + 2) 0 ≡ identifier (secondAt s) (getD rs (wide * j) 0)
 
 abbrev pub newIn : Parts → List ℕ → List ℕ
 newIn p ms = lacking ms (masksIn p)
@@ -46,7 +46,7 @@ FoundAs p m Nothing = member m (masksIn p) ≡ false
 
 pub record RowsOf (p : Parts) (n : ℕ) (rs rows : List ℕ) : Type 0 where
   pub reach : n ≤ length rows
-  pub each : (j : ℕ) → j < n → Stands (p .masks ++ newIn p (masksOf n rs)) (getD rows j 0) (getD rs (3 * j) 0)
+  pub each : (j : ℕ) → j < n → Stands (p .masks ++ newIn p (masksOf n rs)) (getD rows j 0) (getD rs (wide * j) 0)
 
 pub record Grown (s ms u : List ℕ) : Type 0 where
   pub sound : Sound (openingAt u) (partsAt u)

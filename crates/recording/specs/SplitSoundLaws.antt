@@ -1,29 +1,27 @@
 -- Parts with one split more are sound, and hold what they held. Assumes nothing.
 --
---   split-number     there is one split more
---   split-masks      their masks are the masks with the new one
 --   split-held       nothing that is held changes
 --   split-sound      they are sound
 use Prim.Native.Nat.{ℕ, zero, suc, _≤_, _<_}
 use native.Mathlib.Nat.{mod-lt}
 use native.Mathlib.Omega.{arith}
 use mathlib.Core.Path.{_≡_, refl, sym, ap, _∙_}
-use mathlib.Core.Logic.{_⊎_, inl, inr}
+use mathlib.Core.Logic.{⊎-elim}
 use mathlib.Core.Bool.{true, false}
-use mathlib.Core.List.{List, [], _∷_, _++_, map}
-use lib.ListN.{getD, set, length-set, length-map, List·getD-append, List·getD-map}
+use mathlib.Core.List.{[], map}
+use lib.ListN.{length-set, length-map, List·getD-append, List·getD-map}
 use lib.Seq.{ext-getD, getD-at, getD-set-same, getD-set-other}
 use Rattle.trees.specs.Plain.{member}
 use Rattle.trees.specs.Mask.{proper}
 use Rattle.trees.specs.Hash.{place, identifier}
 use Rattle.trees.specs.Opening.{Opening}
 use Rattle.trees.specs.Splits.{insert}
-use Rattle.theorems.specs.ListLaws.{equal-or-not, if-false, Mem, member-not, not-member, every-at, every-intro, mem-getD, map-same}
+use Rattle.theorems.specs.ListLaws.{equal-or-not, if-false, member-not, not-member, every-at, every-intro, mem-getD, map-same}
 use Rattle.theorems.specs.RisingLaws.{rising-true, true-rising, insert-mem, insert-rising}
 use Rattle.layout.specs.Store.{Parts, splitsIn, treesIn, maskIn, identifierIn, countIn, linkIn, startIn, orderIn, masksIn, listIn, treeIn, heldIn}
 use Rattle.layout.specs.StoreLaws.{Shaped}
 use Rattle.layout.specs.WholeStore.{listedIn, highestIn}
-use Rattle.layout.specs.WholeFacts.{SplitsIn, ListIn, ChainsIn}
+use Rattle.layout.specs.WholeFacts.{SplitsIn, ListIn}
 use Rattle.layout.specs.Sound.{Sound}
 use Rattle.layout.specs.UpToLaws.{one-more, each-more, listed-nil, listed-next}
 use Rattle.layout.specs.HighestLaws.{highest-same, highest-here, highest-lower}
@@ -35,7 +33,7 @@ module _ (o : Opening) (m : ℕ) (p : Parts) (f : Sound o p) where
   abbrev new : Parts
   new = withSplit o m p
 
-  pub split-number : splitsIn new ≡ suc (splitsIn p)
+  split-number : splitsIn new ≡ suc (splitsIn p)
   unfolding withSplit
   split-number = one-more (p .masks) m
 
@@ -64,10 +62,11 @@ module _ (o : Opening) (m : ℕ) (p : Parts) (f : Sound o p) where
       List·getD-map F (p .lists) i [] ∙ tree-same i (omega (arith, length-map (p .lists) F)) ∙ sym (List·getD-map G (p .lists) i [])) in
       rw e
 
-  pub split-masks : member m (masksIn p) ≡ false → masksIn new ≡ insert m (masksIn p)
+  split-masks : member m (masksIn p) ≡ false → masksIn new ≡ insert m (masksIn p)
   unfolding withSplit
   split-masks other =
-      row-masks (maskIn p) m (splitsIn p) (maskIn new) mask-new (p .order) (λ r h. mask-old r (row-below p (f .shaped .order) (f .splits) r h)) (not-member m (masksIn p) other)
+      row-masks (maskIn p) m (splitsIn p) (maskIn new) mask-new (p .order) (λ r h. mask-old r (row-below p (f .shaped .order) (f .splits) r h))
+      (not-member m (masksIn p) other)
 
   -- ---- the splits
 
@@ -75,11 +74,8 @@ module _ (o : Opening) (m : ℕ) (p : Parts) (f : Sound o p) where
   unfolding withSplit
   row-new j h =
       let l = row-length (maskIn p) m (splitsIn p) (p .order) in
-      below (row-mem (maskIn p) m (splitsIn p) (p .order) _ (mem-getD (insertRow (maskIn p) m (splitsIn p) (p .order)) j (omega (arith, l, f .shaped .order))))
-    where
-      below : {r : ℕ} → (r ≡ splitsIn p) ⊎ Mem r (p .order) → r < suc (splitsIn p)
-      below (inl e) = omega arith
-      below {r} (inr q) = omega (arith, row-below p (f .shaped .order) (f .splits) r q)
+      ⊎-elim (λ e. omega arith) (λ q. omega (arith, row-below p (f .shaped .order) (f .splits) _ q))
+      (row-mem (maskIn p) m (splitsIn p) (p .order) _ (mem-getD (insertRow (maskIn p) m (splitsIn p) (p .order)) j (omega (arith, l, f .shaped .order))))
 
   identifier-new : (j : ℕ) → j < suc (splitsIn p) → identifierIn new j ≡ identifier (o .second) (maskIn new j)
   unfolding withSplit
@@ -93,14 +89,12 @@ module _ (o : Opening) (m : ℕ) (p : Parts) (f : Sound o p) where
       let d = split-masks other in
       record {
         rows-below = λ j h. rw e (row-new j (rw e at h));
-        masks-proper = rw d (every-intro (proper (o .numbers .taxa)) (insert m (masksIn p)) (λ y h. each y (insert-mem m (masksIn p) y h)));
+        masks-proper =
+            rw d (every-intro (proper (o .numbers .taxa)) (insert m (masksIn p)) (λ y h.
+            ⊎-elim (λ e. rw e good) (λ q. every-at (proper (o .numbers .taxa)) (masksIn p) (f .splits .masks-proper) y q) (insert-mem m (masksIn p) y h)));
         masks-rising = rw d (true-rising _ (insert-rising m (masksIn p) (rising-true (masksIn p) (f .splits .masks-rising))));
         identifiers = λ j h. identifier-new j (rw e at h);
       }
-    where
-      each : (y : ℕ) → (y ≡ m) ⊎ Mem y (masksIn p) → proper (o .numbers .taxa) y ≡ true
-      each y (inl e) = rw e good
-      each y (inr q) = every-at (proper (o .numbers .taxa)) (masksIn p) (f .splits .masks-proper) y q
 
   -- ---- the trees, and how many list each split
 
@@ -146,16 +140,10 @@ module _ (o : Opening) (m : ℕ) (p : Parts) (f : Sound o p) where
 
     start-new : (q : ℕ) → q < o .numbers .places → startIn new q ≡ highestIn h new q (suc (splitsIn p))
     unfolding withSplit
-    start-new q l = go (equal-or-not (h m) q)
-      where
-        go : (h m ≡ q) ⊎ (h m ≡ q → ⊥) → getD (set (p .starts) (h m) (suc (splitsIn p))) q 0 ≡ highestIn h new q (suc (splitsIn p))
-        go (inl e) = rw (highest-here h new q (splitsIn p) (ap h mask-new ∙ e), ← e) (getD-set-same (p .starts) (h m) _ 0 (omega (arith, f .shaped .starts, below)))
-        go (inr d) =
-            getD-set-other (p .starts) (h m) q _ 0 (λ e. d (sym e)) ∙ f .chains .starts q l
-            ∙ sym (highest-lower h new q (splitsIn p) (λ e. d (ap h (sym mask-new) ∙ e)) ∙ high-old q (splitsIn p) (omega arith))
-
-    chains-new : ChainsIn h (o .numbers .places) new
-    chains-new = let e = split-number in record { links = λ k l. link-new k (rw e at l); starts = λ q l. rw e (start-new q l) }
+    start-new q l =
+        ⊎-elim (λ e. rw (highest-here h new q (splitsIn p) (ap h mask-new ∙ e), ← e) (getD-set-same (p .starts) (h m) _ 0 (omega (arith, f .shaped .starts, below))))
+        (λ d. getD-set-other (p .starts) (h m) q _ 0 (λ e. d (sym e)) ∙ f .chains .starts q l
+        ∙ sym (highest-lower h new q (splitsIn p) (λ e. d (ap h (sym mask-new) ∙ e)) ∙ high-old q (splitsIn p) (omega arith))) (equal-or-not (h m) q)
 
   -- ---- all of it
 
@@ -176,11 +164,14 @@ module _ (o : Opening) (m : ℕ) (p : Parts) (f : Sound o p) where
 
   pub split-sound : proper (o .numbers .taxa) m ≡ true → member m (masksIn p) ≡ false → 1 ≤ o .numbers .places → Sound o new
   unfolding withSplit place
-  split-sound good other some = record {
-    shaped = shaped-new;
-    splits = splits-new good other;
-    lists = list-new;
-    counts = λ k l. count-new k (rw split-number at l);
-    chains = chains-new (mod-lt _ some);
-    lanes = f .lanes;
-  }
+  split-sound good other some =
+      let e = split-number in
+      let below = mod-lt _ some in
+      record {
+        shaped = shaped-new;
+        splits = splits-new good other;
+        lists = list-new;
+        counts = λ k l. count-new k (rw e at l);
+        chains = record { links = λ k l. link-new below k (rw e at l); starts = λ q l. rw e (start-new below q l) };
+        lanes = f .lanes;
+      }

@@ -8,7 +8,7 @@
 use Prim.Native.Nat.{ℕ, suc, _-_, _≤_, _<_}
 use native.Mathlib.Omega.{arith}
 use mathlib.Core.Path.{_≡_, sym, ap, _∙_}
-use mathlib.Core.Logic.{_⊎_, inl, inr}
+use mathlib.Core.Logic.{⊎-elim}
 use mathlib.Core.Bool.{true, false}
 use mathlib.Core.List.{List}
 use Rattle.trees.specs.Plain.{member}
@@ -41,14 +41,14 @@ module _ (s : List ℕ) (m : ℕ) (whole : wholeAt s ≡ true) where
 
   module _ (e : ℕ) (walk : Walk s m e) where
     apart : (k : ℕ) → e ≤ k → k < splitsHeldAt s → maskAt s k ≡ m → ⊥
-    apart k a b d = go (less-or-not k (walk .below))
-      where
-        go : (k < walk .below) ⊎ (walk .below ≤ k) → ⊥
-        go (inl l) = highest-above (placeIn s) (partsAt s) (placeIn s m) (walk .below) k (omega (arith, walk .entry)) l (ap (placeIn s) d)
-        go (inr l) = walk .passed k l b d
+    apart k a b d =
+        ⊎-elim (λ l. highest-above (placeIn s) (partsAt s) (placeIn s m) (walk .below) k (omega (arith, walk .entry)) l (ap (placeIn s) d))
+        (λ l. walk .passed k l b d) (less-or-not k (walk .below))
 
     pub walk-ends : e ≡ 0 → member m (masksAt s) ≡ false
-    walk-ends z = member-not m (masksAt s) (λ h. let k = masks-mem (partsAt s) (shaped-at s .order) (facts .splits) m h in apart (k .0) (omega arith) (k .1) (sym (k .2)))
+    walk-ends z =
+        member-not m (masksAt s) (λ h.
+        let k = masks-mem (partsAt s) (shaped-at s .order) (facts .splits) m h in apart (k .0) (omega arith) (k .1) (sym (k .2)))
 
     module _ (more : e ≡ 0 → ⊥) where
       pub walk-row : e - 1 < splitsHeldAt s
@@ -69,9 +69,5 @@ module _ (s : List ℕ) (m : ℕ) (whole : wholeAt s ≡ true) where
         below = e - 1;
         inside = omega (arith, walk-row);
         entry = next;
-        passed = λ k b c i. go k c i (less-or-not k e) b;
+        passed = λ k b c i. ⊎-elim (λ l. let j : e - 1 ≡ k = omega arith in d (ap (maskAt s) j ∙ i)) (λ l. apart k l c i) (less-or-not k e);
       }
-        where
-          go : (k : ℕ) → k < splitsHeldAt s → maskAt s k ≡ m → (k < e) ⊎ (e ≤ k) → e - 1 ≤ k → ⊥
-          go k c i (inl b) z = let j : e - 1 ≡ k = omega arith in d (ap (maskAt s) j ∙ i)
-          go k c i (inr b) z = apart k b c i

@@ -44,7 +44,11 @@ pub(crate) fn find_rows(s: &[u8], n: usize, records: &[u64], rows: &mut [u64]) -
     let mut new = 0;
     let mut j = 0;
     while j < n {
-        let found = find_row(s, records[3 * j + 1], records[3 * j]);
+        let found = find_row(
+            s,
+            records::place_of(records, j),
+            records::mask_of(records, j),
+        );
         match found {
             Found::Row(k) => {
                 rows[j] = k as u64;

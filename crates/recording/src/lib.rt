@@ -1,8 +1,7 @@
 // The tree of a text that was judged: whether there is room for it and for its new splits, and recording it. Whether there is
 // room is known before the first byte is stored.
 //
-// Its contracts cite `specs/Recording.antt`; what one split more and one tree more make of a store's parts stands in `specs/Added.antt`
-// and `specs/Listed.antt`.
+// Its contracts cite `specs/Recording.antt`; what one split more and one tree more make of a store's parts stands in `specs/Added.antt`.
 ghost use mathlib.Core.Path.{_≡_};
 ghost use mathlib.Core.Bool.{true};
 ghost use Prim.Native.Nat.{_+_, _≤_};
@@ -53,7 +52,13 @@ fn add_new(s: &mut [u8], n: usize, records: &[u64], rows: &[u64])
     let mut j = 0;
     while j < n {
         if held <= rows[j] {
-            adding::add_split(s, records[3 * j], records[3 * j + 1], records[3 * j + 2]);
+            let m = records::mask_of(records, j);
+            adding::add_split(
+                s,
+                m,
+                records::place_of(records, j),
+                records::identifier_of(records, j),
+            );
         }
         j += 1;
     }

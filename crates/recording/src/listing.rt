@@ -1,12 +1,11 @@
 // Entering one more tree, given by the rows of its splits, into a store in lent bytes.
-ghost use mathlib.Core.Path.{_≡_};
 ghost use Prim.Native.Nat.{_≤_, _<_};
 ghost use lib.ListN.{length, take};
 ghost use Rattle.head.specs.Head.{numbersAt, openingAt};
 ghost use Rattle.layout.specs.Store.{partsAt, treesHeldAt};
 ghost use Rattle.layout.specs.WholeFacts.{HeadAt};
 ghost use Rattle.layout.specs.Sound.{Sound};
-ghost use Rattle.recording.specs.Listed.{Listed, Rows};
+ghost use Rattle.recording.specs.Added.{Listed, Rows};
 use answers::Tree;
 
 // Enters the tree whose splits stand in the first n of the rows.

@@ -16,6 +16,7 @@ use Rattle.trees.specs.Plain.{Answer, refused, gives}
 use Rattle.trees.specs.Opening.{Opening}
 use Rattle.trees.specs.Held.{Held, holding, Fed, opened, laneOf, withLane, longer, closing}
 use Rattle.trees.specs.Batch.{semicolons, Batched, batching}
+use Rattle.theorems.specs.ListLaws.{keep-most}
 use Rattle.theorems.specs.PieceLaws.{set-replicate, getD-all}
 use Rattle.answers.specs.declared.Number.{Number}
 use Rattle.answers.specs.declared.Number.the-variants as number
@@ -33,7 +34,7 @@ use Rattle.summary.specs.declared.Summing.the-variants as summing
 use Rattle.summary.specs.Summary.{refusedIn, refusedAfter}
 use Rattle.summary.specs.Texts.{capped, textsFed, TextsAs, closedCount, ClosedAs}
 use Rattle.summary.specs.TextsLaws.{capped-more}
-use Rattle.summary.specs.PartLaws.{lane-whole, keep-most, counted, refused-append, fed-more}
+use Rattle.summary.specs.PartLaws.{lane-whole, counted, refused-append, fed-more}
 use Rattle.summary.specs.Summing.{allFed, refusedTexts, FedSoFar, fedState, FeedsAs}
 
 -- ---- nothing yet

@@ -1,7 +1,6 @@
 -- The texts of a piece, fed part by part and piece by piece. Assumes nothing.
 --
 --   lane-whole, lane-there           a whole store has a lane 0
---   keep-most                        what passes a test is no more than there is
 --   part-refused, part-given, verdicts-there     a part that is one batch
 --   counted, given-whole, given-count     the answer of a feeding on whole bytes
 --   refused-append                   the refusals among two runs of verdicts
@@ -11,20 +10,20 @@
 --   texts-size                       the lent bytes stay as many
 --   Rest ..                          part after part: what is left of the piece decides
 --   rest-none, rest-more, rest-refused, rest-last     no part yet, one more, a refusal, and the last
-use Prim.Native.Nat.{ℕ, suc, _+_, _-_, _≤_, _<_}
+use Prim.Native.Nat.{ℕ, _+_, _-_, _≤_, _<_}
 use native.Mathlib.Omega.{arith}
 use mathlib.Core.Path.{_≡_, refl, sym, ap, subst, _∙_}
 use mathlib.Core.Bool.{Bool, true, false, true≢false}
-use mathlib.Core.List.{List, [], _∷_, _++_}
+use mathlib.Core.List.{List, _++_}
 use lib.Dec.{eqb}
 use lib.ListN.{length, getD, take, drop, length-append, length-drop, take-append-drop}
 use lib.Seq.{take-at, take-all, drop-drop}
 use borrow.Author.Tests.{lt-ltb, le-ltb}
-use Rattle.trees.specs.Plain.{if_then_else_, keep, Answer, refused, gives}
+use Rattle.trees.specs.Plain.{keep, Answer, refused, gives}
 use Rattle.trees.specs.Opening.{Numbers}
 use Rattle.trees.specs.Held.{Held}
 use Rattle.trees.specs.Batch.{semicolons, Batched, batching, batch}
-use Rattle.theorems.specs.ListLaws.{keep-append}
+use Rattle.theorems.specs.ListLaws.{keep-append, keep-most}
 use Rattle.answers.specs.declared.Number.{Number}
 use Rattle.answers.specs.declared.Number.the-variants as number
 use Rattle.answers.specs.declared.Refusal.{Refusal}
@@ -53,15 +52,6 @@ pub lane-there : (s : List ℕ) → wholeAt s ≡ true → LaneThere (heldAt s) 
 lane-there s w = record { counted = lane-whole s w; text = omega (arith, lane-whole s w, texts-length s, ap (λ (x : Numbers). x .lanes) (held-numbers s)) }
 
 -- ---- at most 4,096 bytes: one batch
-
-pub keep-most : (f : ℕ → Bool) (v : List ℕ) → length (keep f v) ≤ length v
-unfolding keep
-keep-most f [] = omega arith
-keep-most f (b ∷ v) = go (f b) (keep-most f v)
-  where
-    go : (t : Bool) → length (keep f v) ≤ length v → length (if t then b ∷ keep f v else keep f v) ≤ suc (length v)
-    go true e = omega arith
-    go false e = omega arith
 
 texts-most : (p : List ℕ) → semicolons p ≤ length p
 unfolding semicolons

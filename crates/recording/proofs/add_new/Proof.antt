@@ -21,14 +21,15 @@ asked : tie.Need-add-split-requires Inv-loop μ-loop
 asked c κs =
     let l = c .before .before .before .before .before .before .before .loop in
     let p = c .before .before .before .before .before .before .before .before .before .before .before .before .before .pre in
-    next-asks _ (p .0) _ _ (p .1 .1 .1) (l .j) _ (l .inv .1) (p .1 .0) _ (p .1 .1 .0) (omega arith) (omega arith)
+    rw (c .before .before .before .mask-of .ensures, c .before .place-of .ensures, c .identifier-of .ensures)
+    (next-asks _ (p .0) _ _ (p .1 .1 .1) (l .j) _ (l .inv .1) (p .1 .0) _ (p .1 .1 .0) (omega arith) (omega arith))
 
 loop-again : tie.Need-loop-again Inv-loop μ-loop
 loop-again c =
     let l = c .before .before .before .loop in
     let p = c .before .before .before .before .before .before .before .before .before .pre in
     ⊎-elim
-    (λ q. (omega arith, rw (q .8) (grown-new _ (p .0) _ _ (p .1 .1 .1) (l .j) _ (l .inv .1) (p .1 .0) _ (p .1 .1 .0) (omega arith) (omega (arith, q .0 .taken)) _ (q .5 .ensures))))
+    (λ q. (omega arith, rw (q .8) (grown-new _ (p .0) _ _ (p .1 .1 .1) (l .j) _ (l .inv .1) (p .1 .0) _ (p .1 .1 .0) (omega arith) (omega (arith, q .0 .taken)) _ (rw (q .1 .ensures) at (q .5 .ensures)))))
     (λ q. (omega arith, rw (q .1) (grown-old _ (p .0) _ _ (p .1 .1 .1) (l .j) _ (l .inv .1) (p .1 .0) _ (p .1 .1 .0) (omega arith) (omega (arith, q .0 .left)))))
     (c .if1 .came)
 
@@ -47,17 +48,9 @@ add-new-spec =
     (λ c. (omega arith, let d = c .before .before .before .before .before in grown-none _ (d .pre .0) (d .args .n) _))
     (λ c. omega (arith, c .before .before .before .before .before .before .before .pre .1 .0 .few))
     (λ c. omega (arith, c .before .before .before .before .before .before .before .before .pre .1 .1 .0 .reach))
-    (λ c. omega (arith, c .before .before .before .before .before .before .before .before .before .before .pre .1 .0 .few))
-    (λ c. omega (arith, c .before .before .before .before .before .before .before .before .before .before .pre .1 .0 .few))
-    (λ c. omega (arith, c .before .before .before .before .before .before .before .before .before .before .before .pre .1 .0 .reach))
-    (λ c. omega (arith, c .before .before .before .before .before .before .before .before .before .before .before .pre .1 .0 .few))
-    (λ c. omega (arith, c .before .before .before .before .before .before .before .before .before .before .before .pre .1 .0 .few))
-    (λ c. omega (arith, c .before .before .before .before .before .before .before .before .before .before .before .pre .1 .0 .few))
-    (λ c. omega (arith, c .before .before .before .before .before .before .before .before .before .before .before .before .pre .1 .0 .reach))
-    (λ c. omega (arith, c .before .before .before .before .before .before .before .before .before .before .before .before .pre .1 .0 .few))
-    (λ c. omega (arith, c .before .before .before .before .before .before .before .before .before .before .before .before .pre .1 .0 .few))
-    (λ c. omega (arith, c .before .before .before .before .before .before .before .before .before .before .before .before .pre .1 .0 .few))
-    (λ c. omega (arith, c .before .before .before .before .before .before .before .before .before .before .before .before .before .pre .1 .0 .reach))
+    (λ c κs. omega (arith, c .before .before .before .before .before .before .before .before .before .pre .1 .0 .reach))
+    (λ c κs. omega (arith, c .before .before .before .before .before .before .before .before .before .before .before .pre .1 .0 .reach))
+    (λ c κs. omega (arith, c .before .before .before .before .before .before .before .before .before .before .before .before .pre .1 .0 .reach))
     asked
     (λ c. omega (arith, c .before .before .before .before .before .before .before .before .before .pre .1 .0 .few))
     (λ c. omega arith)

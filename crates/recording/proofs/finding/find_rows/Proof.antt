@@ -5,8 +5,7 @@ use mathlib.Core.Logic.{⊎-elim}
 use native.Mathlib.Omega.{arith}
 use Rattle.layout.specs.Store.{partsAt}
 use Rattle.layout.specs.WholeFacts.{whole-at-facts}
-use Rattle.recording.specs.NewLaws.{new-most}
-use Rattle.recording.specs.FillLaws.{Filled, filled-none, filled-found, filled-missing, filled-all}
+use Rattle.recording.specs.NewLaws.{new-most, Filled, filled-none, filled-found, filled-missing}
 use Rattle.recording.proofs.finding.find_rows.Statement.{statement}
 use Rattle.recording.proofs.finding.find_rows.Tie as tie
 
@@ -20,7 +19,7 @@ loop-again : tie.Need-loop-again Inv-loop μ-loop
 loop-again c =
     let d = c .before .before .before .before .before .before .before .before .before .before in
     let v = c .before .before .before .before .before .loop .inv .1 in
-    let f = c .before .find-row .ensures in
+    let f = rw (c .before .before .mask-of .ensures) at (c .before .find-row .ensures) in
     ⊎-elim
     (λ w. (omega arith, filled-found _ (d .pre .0) _ _ _ _ _ v (omega arith) _ f _ _ _ (w .1 .given .1) (w .3) (w .4)))
     (λ w. (omega arith, filled-missing _ (d .pre .0) _ _ _ _ _ v (omega arith) _ f _ _ _ (omega arith) (w .1 .given .1) (w .2) (w .3)))
@@ -31,7 +30,7 @@ returns c =
     let d = c .before .before .before .before .before .before in
     let e : c .before .loop .j ≡ d .args .n = omega arith in
     let f = c .before .loop .inv .1 in
-    (filled-all _ _ _ _ _ _ (d .pre .1 .1) (rw e at f), rw e at (f .counted))
+    (record { reach = omega (arith, f .same-length, d .pre .1 .1); each = rw e at (f .each) }, rw e at (f .counted))
 
 few-new : tie.Need-add-rows Inv-loop μ-loop
 few-new c =
@@ -53,14 +52,9 @@ find-rows-spec =
     μ-loop
     (λ c κs. whole-at-facts _ (c .before .before .before .pre .0) .head .head-there)
     (λ c. (omega arith, filled-none _ _ _))
-    (λ c. omega (arith, c .before .before .before .before .before .before .pre .1 .0 .few))
-    (λ c. omega (arith, c .before .before .before .before .before .before .pre .1 .0 .few))
-    (λ c. omega (arith, c .before .before .before .before .before .before .pre .1 .0 .few))
-    (λ c. omega (arith, c .before .before .before .before .before .before .before .pre .1 .0 .reach))
-    (λ c. omega (arith, c .before .before .before .before .before .before .before .pre .1 .0 .few))
-    (λ c. omega (arith, c .before .before .before .before .before .before .before .pre .1 .0 .few))
-    (λ c. omega (arith, c .before .before .before .before .before .before .before .before .pre .1 .0 .reach))
-    (λ c κs. let p = c .before .before .before .before .before .before .before .before .pre in (p .0, p .1 .0 .placed _ (omega arith)))
+    (λ c κs. omega (arith, c .before .before .before .before .before .before .pre .1 .0 .reach))
+    (λ c κs. omega (arith, c .before .before .before .before .before .before .before .pre .1 .0 .reach))
+    (λ c κs. let p = c .before .before .before .before .before .before .before .before .pre in (p .0, rw (c .before .place-of .ensures, c .mask-of .ensures) (p .1 .0 .placed _ (omega arith))))
     (λ c. c .match .keys1)
     (λ c. omega (arith, c .before .before .before .before .before .before .before .before .before .before .before .before .pre .1 .0 .few))
     (λ c. omega arith)

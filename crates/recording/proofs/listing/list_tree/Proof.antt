@@ -11,7 +11,7 @@ use Rattle.fields.specs.FieldLaws.{put-length}
 use Rattle.head.specs.Head.{numbersAt, openingAt}
 use Rattle.layout.specs.Store.{treeFrom, countsFrom, partsAt, treesHeldAt}
 use Rattle.layout.specs.Sound.{Sound}
-use Rattle.recording.specs.Listed.{Rows}
+use Rattle.recording.specs.Added.{Rows}
 use Rattle.recording.specs.EnteringLaws.{nextFrom, Room, room-is, Entering, entering-none, entering-fits, entering-more, entered}
 use Rattle.recording.proofs.listing.list_tree.Statement.{statement}
 use Rattle.recording.proofs.listing.list_tree.Tie as tie
