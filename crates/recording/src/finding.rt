@@ -24,7 +24,7 @@ pub(crate) fn find_row(s: &[u8], p: u64, m: u64) -> Found
     let mut entry = rows::start_at(s, p as usize);
     while entry != 0 {
         let k = entry - 1;
-        if rows::mask_at(s, k) == m {
+        if masks::is_same(rows::mask_at(s, k), m) {
             return Found::Row(k);
         }
         entry = rows::link_at(s, k);

@@ -2,6 +2,7 @@
 -- have other masks. The measure is the entry, for links fall. Assumes nothing.
 use native.Mathlib.Omega.{arith}
 use mathlib.Core.Path.{sym, _∙_}
+use borrow.Author.Tests.{eqb-true, eqb-false}
 use Rattle.layout.specs.WholeFacts.{whole-at-facts}
 use Rattle.layout.specs.InsideLaws.{place-below}
 use Rattle.recording.specs.Recording.{FoundAs}
@@ -26,15 +27,28 @@ loop-holds c = let d = c .before .before in rw (c .start-at .ensures, d .pre .1)
 
 returns : tie.Need-returns Inv-loop μ-loop
 unfolding FoundAs
-returns c = (walk-row _ _ (c .before .before .before .before .before .before .pre .0) _ (c .before .before .before .loop .inv) (c .before .before .loop-test .taken), sym (c .before .mask-at .ensures) ∙ c .if1 .taken)
+returns c =
+    let g = c .before .before .before in
+    let e = eqb-true _ _ (sym (c .before .is-same .ensures) ∙ c .if1 .taken) in
+    (walk-row _ _ (g .before .before .before .before .pre .0) _ (g .before .loop .inv) (g .loop-test .taken), sym (c .before .before .mask-at .ensures) ∙ e)
+
+link-asks : tie.Need-link-at-requires Inv-loop μ-loop
+link-asks c κs =
+    let g = c .before .before .before in
+    let w = g .before .before .before .before .pre .0 in
+    (whole-at-facts _ w .head, walk-row _ _ w _ (g .before .loop .inv) (g .loop-test .taken))
 
 loop-less : tie.Need-loop-less Inv-loop μ-loop
-loop-less c = omega (arith, c .link-at .ensures, walk-falls _ _ (c .before .before .before .before .before .before .before .pre .0) _ (c .before .before .before .before .loop .inv) (c .before .before .before .loop-test .taken))
+loop-less c =
+    let g = c .before .before .before .before in
+    omega (arith, c .link-at .ensures, walk-falls _ _ (g .before .before .before .before .pre .0) _ (g .before .loop .inv) (g .loop-test .taken))
 
 loop-again : tie.Need-loop-again Inv-loop μ-loop
 loop-again c =
+    let g = c .before .before .before .before in
+    let n = eqb-false _ _ (sym (c .before .before .is-same .ensures) ∙ c .before .if1 .left) in
     rw (c .link-at .ensures)
-    (walk-next _ _ (c .before .before .before .before .before .before .before .pre .0) _ (c .before .before .before .before .loop .inv) (c .before .before .before .loop-test .taken) (λ e. c .before .if1 .left (c .before .before .mask-at .ensures ∙ e)))
+    (walk-next _ _ (g .before .before .before .before .pre .0) _ (g .before .loop .inv) (g .loop-test .taken) (λ e. n (c .before .before .before .mask-at .ensures ∙ e)))
 
 returns-2 : tie.Need-returns-2 Inv-loop μ-loop
 unfolding FoundAs
@@ -50,8 +64,9 @@ find-row-spec =
     loop-holds
     (λ c. omega arith)
     (λ c κs. let w = c .before .before .before .before .pre .0 in (whole-at-facts _ w .head, walk-row _ _ w _ (c .before .loop .inv) (c .loop-test .taken)))
+    (λ c κs. tt)
     returns
-    (λ c κs. let w = c .before .before .before .before .before .before .pre .0 in (whole-at-facts _ w .head, walk-row _ _ w _ (c .before .before .before .loop .inv) (c .before .before .loop-test .taken)))
+    link-asks
     loop-less
     loop-again
     returns-2)
