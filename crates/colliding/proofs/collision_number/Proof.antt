@@ -9,7 +9,8 @@ use Rattle.colliding.proofs.collision_number.Tie as tie
 
 few : tie.Need-count-pairs-requires
 few c κs =
-    let d = c .before .before .before .before .before .before .before .before .before .before in
+    let back = c .before .before .before .before .before in
+    let d = back .before .before .before .before .before in
     omega (arith, held-most _ (d .pre), c .splits-held .ensures .0)
 
 returns : tie.Need-returns
@@ -22,7 +23,7 @@ collision-number-spec =
     tie.close
     (tie.spec
     (λ c κs. (c .before .before .pre, placed-none _))
-    (λ c κs. (c .before .before .before .before .before .before .pre, (c .before .before .before .note-places .ensures, numbered-none _)))
-    (λ c κs. head-at _ (c .before .before .before .before .before .before .before .before .before .pre) .head-there)
+    (λ c κs. let back = c .before .before .before .before .before in (back .before .pre, (c .before .before .before .note-places .ensures, numbered-none _)))
+    (λ c κs. let back = c .before .before .before .before .before in head-at _ (back .before .before .before .before .pre) .head-there)
     few
     returns)

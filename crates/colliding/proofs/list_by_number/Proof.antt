@@ -29,12 +29,14 @@ row-inside c =
 
 identifier-there : tie.Need-identifier-at-requires Inv-loop μ-loop
 identifier-there c κs =
-    let p = c .before .before .before .before .before .before .pre in
+    let back = c .before .before .before .before .before in
+    let p = back .before .pre in
     (head-at _ (p .0), row-below _ (p .0) (c .before .before .before .loop .k) _ (omega arith) (c .before .row-of .ensures))
 
 loop-again : tie.Need-loop-again Inv-loop μ-loop
 loop-again c =
-    let p = c .before .before .before .before .before .before .before .pre in
+    let back = c .before .before .before .before .before in
+    let p = back .before .before .pre in
     let l = c .before .before .before .before .loop in
     (omega arith, l .inv .1, l .inv .2, numbered-more _ (p .0) _ _ _ (l .k) _ _ (p .1 .0) (l .inv .3) (omega arith) (c .before .before .row-of .ensures) (c .identifier-at .ensures))
 

@@ -27,7 +27,8 @@ inner-requires c κs =
 
 returns-4 : tie.Need-returns-4
 returns-4 c =
-    let d = c .before .before .before .before .before .before in
+    let back = c .before .before .before .before .before in
+    let d = back .before in
     both-there doubled _ (passed _ _ (d .before .is-whole .ensures) (d .if1 .left)) _ _ _ (doubled-pair _ _ _) (omega arith) (omega arith) _ (c .doubled .ensures)
 
 pub doubled-spec : {M : Type 1} → statement M

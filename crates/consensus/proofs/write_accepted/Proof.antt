@@ -25,12 +25,14 @@ copy-tree-requires c κs =
 
 splits-in-requires : tie.Need-splits-in-requires
 splits-in-requires c κs =
-    let d = c .before .before .before .before .before .before in
+    let back = c .before .before .before .before .before in
+    let d = back .before in
     (whole-at-facts _ (passed _ _ (d .before .is-whole .ensures) (d .if1 .left)) .head, omega arith)
 
 write-list-requires : tie.Need-write-list-requires
 write-list-requires c κs =
-    let d = c .before .before .before .before .before .before .before .before .before in
+    let back = c .before .before .before .before .before in
+    let d = back .before .before .before .before in
     let w = passed _ _ (d .before .is-whole .ensures) (d .if1 .left) in
     let n = c .before .before .splits-in .ensures in
     let l = c .before .before .before .before .copy-tree .ensures in
@@ -39,7 +41,8 @@ write-list-requires c κs =
 returns-3 : tie.Need-returns-3
 returns-3 c =
     let a = c .before .before .before in
-    let d = a .before .before .before .before .before .before .before .before .before in
+    let back = a .before .before .before .before .before in
+    let d = back .before .before .before .before in
     let out = d .before .before .before .before .args .out .now in
     let w = passed _ _ (d .before .is-whole .ensures) (d .if1 .left) in
     let l = tree-copied _ _ _ _ _ (a .before .before .splits-in .ensures) (a .before .before .before .before .copy-tree .ensures) in

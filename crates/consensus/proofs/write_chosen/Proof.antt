@@ -11,7 +11,8 @@ choose-requires c κs = let p = c .before .before .before .pre in (p .0, (refl, 
 
 write-list-requires : tie.Need-write-list-requires
 write-list-requires c κs =
-    let p = c .before .before .before .before .before .before .pre in
+    let back = c .before .before .before .before .before in
+    let p = back .before .pre in
     let l = c .before .before .choose .ensures in
     (p .0, (l .1, rw (l .0) (p .1)))
 

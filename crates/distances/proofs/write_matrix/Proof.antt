@@ -28,29 +28,35 @@ loop-holds c = (c .trees-held .ensures, refl, filled-none _ _, refl, refl)
 mark-tree-requires : tie.Need-mark-tree-requires Inv-loop μ-loop
 mark-tree-requires c κs =
     let l = c .before .before .loop in
-    let p = c .before .before .before .before .before .before .pre in
+    let back = c .before .before .before .before .before in
+    let p = back .before .pre in
     (p .0, (omega (arith, l .inv .0), ap length (l .inv .1) ∙ none-length))
 
 write-row-requires : tie.Need-write-row-requires Inv-loop μ-loop
 write-row-requires c κs =
     let l = c .before .before .before .before .before .loop in
-    let p = c .before .before .before .before .before .before .before .before .before .pre in
+    let back = c .before .before .before .before .before in
+    let p = back .before .before .before .before .pre in
     let m = c .before .before .mark-tree .ensures ∙ marks-made _ _ (l .inv .1) in
     (p .0, (omega (arith, l .inv .0), (m, (omega (arith, l .inv .3, p .1), l .inv .2))))
 
 mark-tree-requires-2 : tie.Need-mark-tree-requires-2 Inv-loop μ-loop
 mark-tree-requires-2 c κs =
-    let b = c .before .before .before .before .before .before in
+    let back = c .before .before .before .before .before in
+    let b = back .before in
     let l = b .before .before .before .loop in
-    let p = b .before .before .before .before .before .before .before .pre in
+    let back′ = b .before .before .before .before .before in
+    let p = back′ .before .before .pre in
     let m = b .mark-tree .ensures ∙ marks-made _ _ (l .inv .1) in
     (p .0, (omega (arith, l .inv .0), ap length m ∙ marksOf-length _))
 
 loop-again : tie.Need-loop-again Inv-loop μ-loop
 loop-again c =
-    let b = c .before .before .before .before .before .before .before in
+    let back = c .before .before .before .before .before in
+    let b = back .before .before in
     let l = b .before .before .before .loop in
-    let d = b .before .before .before .before .before .before .before in
+    let back′ = b .before .before .before .before .before in
+    let d = back′ .before .before in
     let w = c .before .before .before .before .write-row .ensures in
     let m = b .mark-tree .ensures ∙ marks-made _ _ (l .inv .1) in
     let e = c .mark-tree2 .ensures ∙ ap (marked 1 (listAt (d .args .s .now) (l .i))) m ∙ marks-gone (listAt (d .args .s .now) (l .i)) in

@@ -35,7 +35,7 @@ close-spec =
     (λ c. search needs)
     (λ c. search needs)
     returns-2
-    (λ c κs. (passed _ _ (c .before .before .before .before .before .before .is-whole .ensures) (c .before .before .before .before .before .if1 .left), omega arith))
-    (λ c κs. (passed _ _ (c .before .before .before .before .before .before .before .before .is-whole .ensures) (c .before .before .before .before .before .before .before .if1 .left), omega arith))
+    (λ c κs. let back = c .before .before .before .before .before in (passed _ _ (back .before .is-whole .ensures) (c .before .before .before .before .before .if1 .left), omega arith))
+    (λ c κs. let back = c .before .before .before .before .before in (passed _ _ (back .before .before .before .is-whole .ensures) (back .before .before .if1 .left), omega arith))
     (λ c. search needs)
     returns-3)

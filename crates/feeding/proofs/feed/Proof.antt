@@ -17,17 +17,22 @@ returns-2 c =
 
 build-index-requires : tie.Need-build-index-requires
 build-index-requires c κs =
-    let w = passed _ _ (c .before .before .before .before .before .before .before .before .is-whole .ensures) (c .before .before .before .before .before .before .before .if1 .left) in
+    let back = c .before .before .before .before .before in
+    let w = passed _ _ (back .before .before .before .is-whole .ensures) (back .before .before .if1 .left) in
     (whole-at-facts _ w .head .head-there, few-taxa _ w)
 
 feed-piece-requires : tie.Need-feed-piece-requires
 feed-piece-requires c κs =
-    let w = passed _ _ (c .before .before .before .before .before .before .before .before .before .before .before .before .is-whole .ensures) (c .before .before .before .before .before .before .before .before .before .before .before .if1 .left) in
+    let back = c .before .before .before .before .before in
+    let far = back .before .before .before .before .before in
+    let w = passed _ _ (far .before .before .is-whole .ensures) (far .before .if1 .left) in
     (w, (omega arith, c .before .before .before .build-index .ensures))
 
 returns-3 : tie.Need-returns-3
 returns-3 c =
-    let w = passed _ _ (c .before .before .before .before .before .before .before .before .before .before .before .before .before .before .before .is-whole .ensures) (c .before .before .before .before .before .before .before .before .before .before .before .before .before .before .if1 .left) in
+    let back = c .before .before .before .before .before in
+    let far = back .before .before .before .before .before in
+    let w = passed _ _ (far .before .before .before .before .before .is-whole .ensures) (far .before .before .before .before .if1 .left) in
     feed-well _ _ _ w _ _ (omega arith) (c .before .before .feed-piece .ensures)
 
 pub feed-spec : {M : Type 1} → statement M

@@ -26,7 +26,8 @@ loop-holds c =
 
 loop-again : tie.Need-loop-again Inv-loop μ-loop
 loop-again c =
-    let s = c .before .before .before .before .before .before .before .before .args .s .now in
+    let back = c .before .before .before .before .before in
+    let s = back .before .before .before .args .s .now in
     let l = c .before .before .before .loop in
     let v = l .inv in
     let n = names-length s in

@@ -39,7 +39,8 @@ loop-holds c =
 
 returns : tie.Need-returns Inv-loop μ-loop
 returns c =
-    let a = c .before .before .before .before .before .before .before .before .args in
+    let back = c .before .before .before .before .before in
+    let a = back .before .before .before .args in
     let l = c .before .before .before .loop in
     let z = c .before .before .loop-test .taken in
     let w = slice (a .b) (a .e) (a .text .now) in
@@ -49,16 +50,18 @@ returns c =
 
 loop-less : tie.Need-loop-less Inv-loop μ-loop
 loop-less c =
-    let a = c .before .before .before .before .before .before .before .before .before .args in
-    let x = c .before .before .before .before .before .before .before .before .before .pre .1 .1 .0 in
+    let back = c .before .before .before .before .before in
+    let a = back .before .before .before .before .args in
+    let x = back .before .before .before .before .pre .1 .1 .0 in
     let l = c .before .before .before .before .loop in
     let n = names-length (a .s .now) in
     sought-less _ _ _ _ x _ (l .inv .1) (c .before .before .before .loop-test .taken) (omega arith)
 
 loop-again : tie.Need-loop-again Inv-loop μ-loop
 loop-again c =
-    let a = c .before .before .before .before .before .before .before .before .before .args in
-    let x = c .before .before .before .before .before .before .before .before .before .pre .1 .1 .0 in
+    let back = c .before .before .before .before .before in
+    let a = back .before .before .before .before .args in
+    let x = back .before .before .before .before .pre .1 .1 .0 in
     let l = c .before .before .before .before .loop in
     let z = c .before .before .before .loop-test .taken in
     let w = slice (a .b) (a .e) (a .text .now) in
@@ -67,7 +70,8 @@ loop-again c =
 
 returns-2 : tie.Need-returns-2 Inv-loop μ-loop
 returns-2 c =
-    let a = c .before .before .before .before .before .before .args in
+    let back = c .before .before .before .before .before in
+    let a = back .before .args in
     let w = slice (a .b) (a .e) (a .text .now) in
     let e = sought-out _ w _ (c .before .loop .inv .1) (c .loop-test .left) in
     (e, found-below _ w _ _ (names-length (a .s .now)) e)

@@ -19,7 +19,8 @@ few c κs = let k = c .before .before .before .before .before in lane-few _ (k .
 inside-over : tie.Need-put16-requires
 inside-over c κs =
     let f = c .before .before in
-    let k = f .before .before .before .before .before .before in
+    let back = f .before .before .before .before .before in
+    let k = back .before in
     omega (arith, f .lane-from .ensures .0, lane-end _ (k .pre .0) _ (k .pre .1))
 
 returns-2 : tie.Need-returns-2
@@ -40,8 +41,10 @@ inside-text c κs =
 
 inside : tie.Need-put16-requires-2
 inside c κs =
-    let f = c .before .before .before .before .before .before in
-    let k = f .before .before .before .before .before .before in
+    let back = c .before .before .before .before .before in
+    let f = back .before in
+    let back′ = f .before .before .before .before .before in
+    let k = back′ .before in
     omega (arith, f .lane-from .ensures .0, lane-end _ (k .pre .0) _ (k .pre .1))
 
 returns-3 : tie.Need-returns-3

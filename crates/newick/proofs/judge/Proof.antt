@@ -25,58 +25,75 @@ next-symbol-requires c κs = (taken-is _ _ _ _ _ _ _ _ (got-as _ _ _ _ _ _ (c .b
 returns-2 : tie.Need-returns-2
 returns-2 c =
     let e = c .before .before in
-    let q = taken-is _ _ _ _ _ _ _ _ (got-as _ _ _ _ _ _ (e .before .before .before .before .got .given .1) (e .before .before .before .before .before .before .before .read-node .ensures)) in
-    judged-unknown _ (prepared-opening _ _ _ (e .before .before .before .before .before .before .before .before .before .before .before .before .before .pre .0)) _ _ _ _ _ _ (q .1) (q .2)
+    let back = e .before .before .before .before .before in
+    let q = taken-is _ _ _ _ _ _ _ _ (got-as _ _ _ _ _ _ (e .before .before .before .before .got .given .1) (back .before .before .read-node .ensures)) in
+    let far = back .before .before .before .before .before in
+    judged-unknown _ (prepared-opening _ _ _ (far .before .before .before .pre .0)) _ _ _ _ _ _ (q .1) (q .2)
     (seen-as _ _ (e .enum-told2 .given .1) (e .before .before .next-symbol .ensures)) (c .if1 .taken) _
 
 returns-3 : tie.Need-returns-3
 returns-3 c =
     let e = c .before .before .before .before in
-    let q = taken-is _ _ _ _ _ _ _ _ (got-as _ _ _ _ _ _ (e .before .before .before .before .got .given .1) (e .before .before .before .before .before .before .before .read-node .ensures)) in
-    judged-repeated _ (prepared-opening _ _ _ (e .before .before .before .before .before .before .before .before .before .before .before .before .before .pre .0)) _ _ _ _ _ _ (q .1) (q .2)
+    let back = e .before .before .before .before .before in
+    let q = taken-is _ _ _ _ _ _ _ _ (got-as _ _ _ _ _ _ (e .before .before .before .before .got .given .1) (back .before .before .read-node .ensures)) in
+    let far = back .before .before .before .before .before in
+    judged-repeated _ (prepared-opening _ _ _ (far .before .before .before .pre .0)) _ _ _ _ _ _ (q .1) (q .2)
     (seen-as _ _ (e .enum-told2 .given .1) (e .before .before .next-symbol .ensures)) (c .if2 .taken) _
 
 every-taxon-requires : tie.Need-every-taxon-requires
 every-taxon-requires c κs =
-    let l = prepared-taxa _ _ _ (c .before .before .before .before .before .before .before .before .before .before .before .before .before .before .before .before .before .before .pre .0) in
+    let back = c .before .before .before .before .before in
+    let far = back .before .before .before .before .before in
+    let first = far .before .before .before .before .before in
+    let l = prepared-taxa _ _ _ (first .before .before .before .pre .0) in
     omega arith
 
 returns-4 : tie.Need-returns-4
 returns-4 c =
     let i = c in
-    let e = i .before .before .before .before .before .before .before .before in
-    let q = taken-is _ _ _ _ _ _ _ _ (got-as _ _ _ _ _ _ (e .before .before .before .before .got .given .1) (e .before .before .before .before .before .before .before .read-node .ensures)) in
+    let back = i .before .before .before .before .before in
+    let e = back .before .before .before in
+    let back′ = e .before .before .before .before .before in
+    let q = taken-is _ _ _ _ _ _ _ _ (got-as _ _ _ _ _ _ (e .before .before .before .before .got .given .1) (back′ .before .before .read-node .ensures)) in
     let all = every-taxon-here _ _ _ (i .before .before .before .taxa .ensures .0) (i .before .before .every-taxon .ensures) in
-    judged-missing _ (prepared-opening _ _ _ (e .before .before .before .before .before .before .before .before .before .before .before .before .before .pre .0)) _ _ _ _ _ _ (q .1) (q .2)
-    (seen-as _ _ (e .enum-told2 .given .1) (e .before .before .next-symbol .ensures)) (i .before .before .before .before .before .before .if1 .left) (i .before .before .before .before .if2 .left)
+    let far = back′ .before .before .before .before .before in
+    judged-missing _ (prepared-opening _ _ _ (far .before .before .before .pre .0)) _ _ _ _ _ _ (q .1) (q .2)
+    (seen-as _ _ (e .enum-told2 .given .1) (e .before .before .next-symbol .ensures)) (back .before .if1 .left) (i .before .before .before .before .if2 .left)
     (λ y. eqb-false _ _ (sym (i .before .is-same .ensures) ∙ not-true _ (i .if3 .taken)) (y ∙ sym all)) _
 
 gather-splits-requires : tie.Need-gather-splits-requires
 gather-splits-requires c κs =
     let i = c .before .before in
-    let e = i .before .before .before .before .before .before .before .before in
-    let q = taken-is _ _ _ _ _ _ _ _ (got-as _ _ _ _ _ _ (e .before .before .before .before .got .given .1) (e .before .before .before .before .before .before .before .read-node .ensures)) in
-    let p = e .before .before .before .before .before .before .before .before .before .before .before .before .before .pre in
+    let back = i .before .before .before .before .before in
+    let e = back .before .before .before in
+    let back′ = e .before .before .before .before .before in
+    let q = taken-is _ _ _ _ _ _ _ _ (got-as _ _ _ _ _ _ (e .before .before .before .before .got .given .1) (back′ .before .before .read-node .ensures)) in
+    let far = back′ .before .before .before .before .before in
+    let p = far .before .before .before .pre in
     let all = every-taxon-here _ _ _ (i .before .before .before .taxa .ensures .0) (i .before .before .every-taxon .ensures) in
     let a =
     gathering-asks _ (prepared-opening _ _ _ (p .0)) _ _ _ _ _ _ (q .1) (q .2)
-    (seen-as _ _ (e .enum-told2 .given .1) (e .before .before .next-symbol .ensures)) (i .before .before .before .before .before .before .if1 .left) (i .before .before .before .before .if2 .left)
+    (seen-as _ _ (e .enum-told2 .given .1) (e .before .before .next-symbol .ensures)) (back .before .if1 .left) (i .before .before .before .before .if2 .left)
     (eqb-true _ _ (sym (i .before .is-same .ensures) ∙ not-false _ (i .if3 .left)) ∙ all) refl in
     ((p .0 .reach, p .0 .good), (a .0, (a .1, (a .2, p .1 .1))))
 
 returns-5 : tie.Need-returns-5
 returns-5 c =
     let i = c .before .before .before .before .before in
-    let e = i .before .before .before .before .before .before .before .before in
-    let q = taken-is _ _ _ _ _ _ _ _ (got-as _ _ _ _ _ _ (e .before .before .before .before .got .given .1) (e .before .before .before .before .before .before .before .read-node .ensures)) in
+    let back = i .before .before .before .before .before in
+    let e = back .before .before .before in
+    let back′ = e .before .before .before .before .before in
+    let q = taken-is _ _ _ _ _ _ _ _ (got-as _ _ _ _ _ _ (e .before .before .before .before .got .given .1) (back′ .before .before .read-node .ensures)) in
     let all = every-taxon-here _ _ _ (i .before .before .before .taxa .ensures .0) (i .before .before .every-taxon .ensures) in
-    judged-splits _ (prepared-opening _ _ _ (e .before .before .before .before .before .before .before .before .before .before .before .before .before .pre .0)) _ _ _ _ _ _ (q .1) (q .2)
-    (seen-as _ _ (e .enum-told2 .given .1) (e .before .before .next-symbol .ensures)) (i .before .before .before .before .before .before .if1 .left) (i .before .before .before .before .if2 .left)
+    let far = back′ .before .before .before .before .before in
+    judged-splits _ (prepared-opening _ _ _ (far .before .before .before .pre .0)) _ _ _ _ _ _ (q .1) (q .2)
+    (seen-as _ _ (e .enum-told2 .given .1) (e .before .before .next-symbol .ensures)) (back .before .if1 .left) (i .before .before .before .before .if2 .left)
     (eqb-true _ _ (sym (i .before .is-same .ensures) ∙ not-false _ (i .if3 .left)) ∙ all) refl _ _ _ (c .before .before .gather-splits .ensures)
 
 returns-6 : tie.Need-returns-6
 returns-6 c =
-    let q = taken-is _ _ _ _ _ _ _ _ (got-as _ _ _ _ _ _ (c .before .before .before .got .given .1) (c .before .before .before .before .before .before .read-node .ensures)) in
+    let back = c .before .before .before .before .before in
+    let q = taken-is _ _ _ _ _ _ _ _ (got-as _ _ _ _ _ _ (c .before .before .before .got .given .1) (back .before .read-node .ensures)) in
     judged-more _ _ _ _ _ _ (q .1) (c .before .next-symbol .ensures) (c .match2 .keys2)
 
 pub judge-spec : {M : Type 1} → statement M

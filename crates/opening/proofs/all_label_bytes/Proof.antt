@@ -19,14 +19,16 @@ abbrev μ-loop : tie.MeasureT-loop
 
 returns : tie.Need-returns Inv-loop μ-loop
 returns c =
-    let a = c .before .before .before .before .before .before .args in
+    let back = c .before .before .before .before .before in
+    let a = back .before .args in
     let l = c .before .before .before .before .loop in
     sym (l .inv .1
     ∙ label-not (a .list .now) (l .i) (a .e) (omega arith) (omega arith) (failed _ _ (c .before .is-label-byte .ensures .0) (c .if1 .taken)))
 
 loop-again : tie.Need-loop-again Inv-loop μ-loop
 loop-again c =
-    let a = c .before .before .before .before .before .before .args in
+    let back = c .before .before .before .before .before in
+    let a = back .before .args in
     let l = c .before .before .before .before .loop in (
       omega arith,
       l .inv .1

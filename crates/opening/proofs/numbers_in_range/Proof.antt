@@ -33,7 +33,8 @@ returns-4 c =
 
 mul-is-between : tie.Need-mul-is-between
 mul-is-between c =
-    let a = c .before .before .before .before .before .before .before .before .args in
+    let back = c .before .before .before .before .before in
+    let a = back .before .before .before .args in
     let m = between-most 1 mostRoom (a .split-room) (passed _ _ (c .before .is-between4 .ensures) (c .if4 .left)) in
     omega arith
 

@@ -24,14 +24,16 @@ returns c =
 
 returns-2 : tie.Need-returns-2 Inv-loop μ-loop
 returns-2 c =
-    let a = c .before .before .before .before .before .before .args in
+    let back = c .before .before .before .before .before in
+    let a = back .before .args in
     let l = c .before .before .before .before .loop in
     sym (l .inv .2
     ∙ run-not (a .list .now) (a .list .now) (a .z) (a .e) (l .i) (l .j) (omega arith) (omega arith) (omega arith) (omega arith) (c .if2 .taken))
 
 loop-again : tie.Need-loop-again Inv-loop μ-loop
 loop-again c =
-    let a = c .before .before .before .before .before .before .args in
+    let back = c .before .before .before .before .before in
+    let a = back .before .args in
     let l = c .before .before .before .before .loop in (
       omega arith,
       omega arith,

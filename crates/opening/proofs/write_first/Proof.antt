@@ -16,12 +16,15 @@ abbrev μ-loop : tie.MeasureT-loop
 μ-loop s₀ list i₀ s i = length list - i
 
 cast-put16 : tie.Need-cast-put16 Inv-loop μ-loop
-cast-put16 c = omega (arith, c .before .before .before .before .before .before .pre .1 .1 (c .before .before .before .loop .i))
+cast-put16 c =
+    let back = c .before .before .before .before .before in
+    omega (arith, back .before .pre .1 .1 (c .before .before .before .loop .i))
 
 loop-again : tie.Need-loop-again Inv-loop μ-loop
 loop-again c =
-    let a = c .before .before .before .before .before .before .before .before .before .args in
-    let l = c .before .before .before .before .before .before .loop in (
+    let back = c .before .before .before .before .before in
+    let a = back .before .before .before .before .args in
+    let l = back .before .loop in (
       omega arith,
       omega arith,
       rw (c .before .before .put16 .ensures) (sym (puts-more 2 (a .list .now) (l .s) 2128 (l .i) (omega arith)) ∙ l .inv .2),

@@ -7,30 +7,44 @@ use Rattle.opening.proofs.write_head.Tie as tie
 
 write-numbers-requires : tie.Need-write-numbers-requires
 write-numbers-requires c κs =
-    let p = c .before .before .before .before .before .before .before .before .before .pre .1 in
+    let back = c .before .before .before .before .before in
+    let p = back .before .before .before .before .pre .1 in
     (omega arith, checked _ _ _ _ (p .0) (p .1 .0) (p .1 .1) .ranges)
 
 write-names-requires : tie.Need-write-names-requires
 write-names-requires c κs =
-    let p = c .before .before .before .before .before .before .before .before .before .before .before .before .before .pre .1 in
+    let back = c .before .before .before .before .before in
+    let far = back .before .before .before .before .before in
+    let p = far .before .before .before .pre .1 in
     let g = checked _ _ _ _ (p .0) (p .1 .0) (p .1 .1) in
     (omega arith, (few-names _ g, g .named .names))
 
 write-first-requires : tie.Need-write-first-requires
 write-first-requires c κs =
-    let p = c .before .before .before .before .before .before .before .before .before .before .before .before .before .before .before .before .before .pre .1 in
+    let back = c .before .before .before .before .before in
+    let far = back .before .before .before .before .before in
+    let first = far .before .before .before .before .before in
+    let p = first .before .before .pre .1 in
     let g = checked _ _ _ _ (p .0) (p .1 .0) (p .1 .1) in
     (omega arith, (few-first _ g, first-fits _ g))
 
 write-second-requires : tie.Need-write-second-requires
 write-second-requires c κs =
-    let p = c .before .before .before .before .before .before .before .before .before .before .before .before .before .before .before .before .before .before .before .before .before .pre .1 in
+    let back = c .before .before .before .before .before in
+    let far = back .before .before .before .before .before in
+    let first = far .before .before .before .before .before in
+    let start = first .before .before .before .before .before in
+    let p = start .before .pre .1 in
     let g = checked _ _ _ _ (p .0) (p .1 .0) (p .1 .1) in
     (omega arith, few-second _ g)
 
 returns : tie.Need-returns
 returns c =
-    let d = c .before .before .before .before .before .before .before .before .before .before .before .before .before .before .before .before .before .before .before .before .before .before .before .before in
+    let back = c .before .before .before .before .before in
+    let far = back .before .before .before .before .before in
+    let first = far .before .before .before .before .before in
+    let start = first .before .before .before .before .before in
+    let d = start .before .before .before .before in
     let p = d .pre .1 in
     let g = checked _ _ _ _ (p .0) (p .1 .0) (p .1 .1) in
     let w = c .before .before in

@@ -13,7 +13,8 @@ copy-from-requires c κs = (simp length-set (omega arith), omega arith)
 
 same-length : tie.Need-same-length
 same-length c =
-    let a = c .before .before .before .before .before .before .args in
+    let back = c .before .before .before .before .before in
+    let a = back .before .args in
     omega (arith, length-set (a .s .now) (16 + 33 * a .i) (a .e - a .b))
 
 returns : tie.Need-returns

@@ -22,10 +22,14 @@ write-name-requires c κs =
     (omega arith, (omega arith, ((omega arith, omega arith), omega arith)))
 
 add-i : tie.Need-add-i Inv-loop μ-loop
-add-i c = omega (arith, c .before .before .before .before .before .before .loop .inv .few)
+add-i c =
+    let back = c .before .before .before .before .before in
+    omega (arith, back .before .loop .inv .few)
 
 loop-again : tie.Need-loop-again Inv-loop μ-loop
-loop-again c = reached-more _ _ _ _ _ _ _ (c .before .before .before .before .before .before .loop .inv) (c .before .before .before .before .name-end .ensures) (c .before .before .write-name .ensures)
+loop-again c =
+    let back = c .before .before .before .before .before in
+    reached-more _ _ _ _ _ _ _ (back .before .loop .inv) (c .before .before .before .before .name-end .ensures) (c .before .before .write-name .ensures)
 
 returns : tie.Need-returns Inv-loop μ-loop
 returns c = reached-all _ _ _ _ _ (c .before .loop .inv) (omega arith)

@@ -17,8 +17,9 @@ abbrev μ-loop : tie.MeasureT-loop
 
 loop-again : tie.Need-loop-again Inv-loop μ-loop
 loop-again c =
-    let a = c .before .before .before .before .before .before .before .before .before .args in
-    let l = c .before .before .before .before .before .before .loop in (
+    let back = c .before .before .before .before .before in
+    let a = back .before .before .before .before .args in
+    let l = back .before .loop in (
       omega arith,
       omega arith,
       rw (c .before .before .put64 .ensures) (sym (puts-more 8 (a .list .now) (l .s) 2256 (l .i) (omega arith)) ∙ l .inv .2),

@@ -15,50 +15,72 @@ use Rattle.recording.proofs.accept.Tie as tie
 
 returns : tie.Need-returns
 unfolding progressGiven refusalNumber
-returns c = refuses _ _ _ 11 (no-tree-room _ _ (c .before .before .before .before .before .before .before .pre .0) (omega arith)) refl
+returns c =
+    let back = c .before .before .before .before .before in
+    refuses _ _ _ 11 (no-tree-room _ _ (back .before .before .pre .0) (omega arith)) refl
 
 find-rows-requires : tie.Need-find-rows-requires
-find-rows-requires c κs = let d = c .before .before .before .before .before .before .before .before .before in (d .pre .0, (d .pre .1, omega (arith, d .pre .1 .few)))
+find-rows-requires c κs =
+    let back = c .before .before .before .before .before in
+    let d = back .before .before .before .before in (d .pre .0, (d .pre .1, omega (arith, d .pre .1 .few)))
 
 sum-small : tie.Need-add-if2
 sum-small c =
-    let d = c .before .before .before .before .before .before .before .before .before .before .before .before .before .before .before in
+    let back = c .before .before .before .before .before in
+    let far = back .before .before .before .before .before in
+    let d = far .before .before .before .before .before in
     omega (arith, c .before .before .before .before .before .find-rows .ensures .1, new-most (partsAt (d .args .s .now)) (d .args .records .now) (d .args .n), d .pre .1 .few)
 
 returns-2 : tie.Need-returns-2
 unfolding progressGiven refusalNumber
 returns-2 c =
-    let f = c .before .before .before .before .before .before .find-rows .ensures .1 in
-    refuses _ _ _ 12 (no-split-room _ _ (c .before .before .before .before .before .before .before .before .before .before .before .before .before .before .before .before .pre .0) (λ e. omega (arith, c .before .before .before .before .before .before .before .before .before .if1 .left)) (omega (arith, f))) refl
+    let back = c .before .before .before .before .before in
+    let f = back .before .find-rows .ensures .1 in
+    let far = back .before .before .before .before .before in
+    let first = far .before .before .before .before .before in
+    refuses _ _ _ 12 (no-split-room _ _ (first .before .pre .0) (λ e. omega (arith, back .before .before .before .before .if1 .left)) (omega (arith, f))) refl
 
 add-new-requires : tie.Need-add-new-requires
 add-new-requires c κs =
-    let d = c .before .before .before .before .before .before .before .before .before .before .before .before .before .before .before .before .before .before in
-    let f = c .before .before .before .before .before .before .before .before .find-rows .ensures in
+    let back = c .before .before .before .before .before in
+    let far = back .before .before .before .before .before in
+    let first = far .before .before .before .before .before in
+    let d = first .before .before .before in
+    let f = back .before .before .before .find-rows .ensures in
     (d .pre .0, (d .pre .1, (f .0, omega (arith, f .1, c .before .before .if2 .left))))
 
 list-tree-requires : tie.Need-list-tree-requires
 list-tree-requires c κs =
-    let d = c .before .before .before .before .before .before .before .before .before .before .before .before .before .before .before .before .before .before .before .before .before .before .before in
-    let f = c .before .before .before .before .before .before .before .before .before .before .before .before .before .find-rows .ensures in
+    let back = c .before .before .before .before .before in
+    let far = back .before .before .before .before .before in
+    let first = far .before .before .before .before .before in
+    let start = first .before .before .before .before .before in
+    let d = start .before .before .before in
+    let f = far .before .before .before .find-rows .ensures in
     let g = c .before .before .before .before .add-new .ensures in (
-      (grown-head _ (d .pre .0) (d .args .n) _ (omega (arith, f .1, c .before .before .before .before .before .before .before .if2 .left)) (d .args .n) _ g (omega arith), g .sound),
+      (grown-head _ (d .pre .0) (d .args .n) _ (omega (arith, f .1, back .before .before .if2 .left)) (d .args .n) _ g (omega arith), g .sound),
       (
-        trees-in _ (d .pre .0) _ _ (d .pre .1) (λ e. omega (arith, c .before .before .before .before .before .before .before .before .before .before .before .before .before .before .before .before .if1 .left)) _ (f .0) _ g,
-        ((d .pre .1 .few, f .0 .reach), rows-in _ (d .pre .0) _ _ (d .pre .1) (λ e. omega (arith, c .before .before .before .before .before .before .before .before .before .before .before .before .before .before .before .before .if1 .left)) _ (f .0) _ g),
+        trees-in _ (d .pre .0) _ _ (d .pre .1) (λ e. omega (arith, first .before .if1 .left)) _ (f .0) _ g,
+        ((d .pre .1 .few, f .0 .reach), rows-in _ (d .pre .0) _ _ (d .pre .1) (λ e. omega (arith, first .before .if1 .left)) _ (f .0) _ g),
       ),
     )
 
 returns-3 : tie.Need-returns-3
 unfolding progressGiven
 returns-3 c =
-    let d = c .before .before .before .before .before .before .before .before .before .before .before .before .before .before .before .before .before .before .before .before .before .before .before .before .before .before in
+    let back = c .before .before .before .before .before in
+    let far = back .before .before .before .before .before in
+    let first = far .before .before .before .before .before in
+    let start = first .before .before .before .before .before in
+    let begin = start .before .before .before .before .before in
+    let d = begin .before in
     let w = d .pre .0 in
-    let f = c .before .before .before .before .before .before .before .before .before .before .before .before .before .before .before .before .find-rows .ensures in
-    let g = c .before .before .before .before .before .before .before .add-new .ensures in
-    records _ w _ _ (d .pre .1) (λ e. omega (arith, c .before .before .before .before .before .before .before .before .before .before .before .before .before .before .before .before .before .before .before .if1 .left)) _ (f .0) _ g
-    (omega (arith, f .1, c .before .before .before .before .before .before .before .before .before .before .if2 .left)) (grown-head _ w (d .args .n) _ (omega (arith, f .1, c .before .before .before .before .before .before .before .before .before .before .if2 .left)) (d .args .n) _ g (omega arith))
-    _ (c .before .before .list-tree .ensures) _ (ap (λ k. gives (accepted k)) (c .before .before .before .before .before .before .before .before .before .before .before .before .before .before .before .before .before .before .before .before .before .before .trees-held .ensures))
+    let f = first .before .find-rows .ensures in
+    let g = back .before .before .add-new .ensures in
+    records _ w _ _ (d .pre .1) (λ e. omega (arith, first .before .before .before .before .if1 .left)) _ (f .0) _ g
+    (omega (arith, f .1, far .if2 .left, far .before .splits-held .ensures, far .before .before .before .split-room .ensures))
+    (grown-head _ w (d .args .n) _ (omega (arith, f .1, far .if2 .left, far .before .splits-held .ensures, far .before .before .before .split-room .ensures)) (d .args .n) _ g (omega arith))
+    _ (c .before .before .list-tree .ensures) _ (ap (λ k. gives (accepted k)) (start .before .before .trees-held .ensures))
 
 pub accept-spec : {M : Type 1} → statement M
 accept-spec =
@@ -71,9 +93,9 @@ accept-spec =
     returns
     (λ c. search needs)
     find-rows-requires
-    (λ c κs. whole-at-facts _ (c .before .before .before .before .before .before .before .before .before .before .before .before .pre .0) .head .head-there)
+    (λ c κs. let back = c .before .before .before .before .before in let far = back .before .before .before .before .before in whole-at-facts _ (far .before .before .pre .0) .head .head-there)
     (λ c. search needs)
-    (λ c κs. whole-at-facts _ (c .before .before .before .before .before .before .before .before .before .before .before .before .before .before .pre .0) .head .head-there)
+    (λ c κs. let back = c .before .before .before .before .before in let far = back .before .before .before .before .before in whole-at-facts _ (far .before .before .before .before .pre .0) .head .head-there)
     sum-small
     (λ c. search needs)
     returns-2
@@ -81,5 +103,5 @@ accept-spec =
     add-new-requires
     (λ c. search needs)
     list-tree-requires
-    (λ c. c .before .before .list-tree .ensures .size ∙ c .before .before .before .before .before .before .before .add-new .ensures .size)
+    (λ c. let back = c .before .before .before .before .before in c .before .before .list-tree .ensures .size ∙ back .before .before .add-new .ensures .size)
     returns-3)

@@ -19,15 +19,18 @@ abbrev μ-loop : tie.MeasureT-loop
 
 asked : tie.Need-add-split-requires Inv-loop μ-loop
 asked c κs =
-    let l = c .before .before .before .before .before .before .before .loop in
-    let p = c .before .before .before .before .before .before .before .before .before .before .before .before .before .pre in
+    let back = c .before .before .before .before .before in
+    let l = back .before .before .loop in
+    let far = back .before .before .before .before .before in
+    let p = far .before .before .before .pre in
     rw (c .before .before .before .mask-of .ensures, c .before .place-of .ensures, c .identifier-of .ensures)
     (next-asks _ (p .0) _ _ (p .1 .1 .1) (l .j) _ (l .inv .1) (p .1 .0) _ (p .1 .1 .0) (omega arith) (omega arith))
 
 loop-again : tie.Need-loop-again Inv-loop μ-loop
 loop-again c =
     let l = c .before .before .before .loop in
-    let p = c .before .before .before .before .before .before .before .before .before .pre in
+    let back = c .before .before .before .before .before in
+    let p = back .before .before .before .before .pre in
     ⊎-elim
     (λ q. (omega arith, rw (q .8) (grown-new _ (p .0) _ _ (p .1 .1 .1) (l .j) _ (l .inv .1) (p .1 .0) _ (p .1 .1 .0) (omega arith) (omega (arith, q .0 .taken)) _ (rw (q .1 .ensures) at (q .5 .ensures)))))
     (λ q. (omega arith, rw (q .1) (grown-old _ (p .0) _ _ (p .1 .1 .1) (l .j) _ (l .inv .1) (p .1 .0) _ (p .1 .1 .0) (omega arith) (omega (arith, q .0 .left)))))
@@ -35,7 +38,8 @@ loop-again c =
 
 returns : tie.Need-returns Inv-loop μ-loop
 returns c =
-    let e : c .before .loop .j ≡ c .before .before .before .before .before .before .before .args .n = omega arith in
+    let back = c .before .before .before .before .before in
+    let e : c .before .loop .j ≡ back .before .before .args .n = omega arith in
     rw e at (c .before .loop .inv .1)
 
 pub add-new-spec : {M : Type 1} → statement M
@@ -46,13 +50,13 @@ add-new-spec =
     μ-loop
     (λ c κs. whole-at-facts _ (c .before .before .before .before .pre .0) .head .head-there)
     (λ c. (omega arith, let d = c .before .before .before .before .before in grown-none _ (d .pre .0) (d .args .n) _))
-    (λ c. omega (arith, c .before .before .before .before .before .before .before .pre .1 .0 .few))
-    (λ c. omega (arith, c .before .before .before .before .before .before .before .before .pre .1 .1 .0 .reach))
-    (λ c κs. omega (arith, c .before .before .before .before .before .before .before .before .before .pre .1 .0 .reach))
-    (λ c κs. omega (arith, c .before .before .before .before .before .before .before .before .before .before .before .pre .1 .0 .reach))
-    (λ c κs. omega (arith, c .before .before .before .before .before .before .before .before .before .before .before .before .pre .1 .0 .reach))
+    (λ c. let back = c .before .before .before .before .before in omega (arith, back .before .before .pre .1 .0 .few))
+    (λ c. let back = c .before .before .before .before .before in omega (arith, back .before .before .before .pre .1 .1 .0 .reach))
+    (λ c κs. let back = c .before .before .before .before .before in omega (arith, back .before .before .before .before .pre .1 .0 .reach))
+    (λ c κs. let back = c .before .before .before .before .before in let far = back .before .before .before .before .before in omega (arith, far .before .pre .1 .0 .reach))
+    (λ c κs. let back = c .before .before .before .before .before in let far = back .before .before .before .before .before in omega (arith, far .before .before .pre .1 .0 .reach))
     asked
-    (λ c. omega (arith, c .before .before .before .before .before .before .before .before .before .pre .1 .0 .few))
+    (λ c. let back = c .before .before .before .before .before in omega (arith, back .before .before .before .before .pre .1 .0 .few))
     (λ c. omega arith)
     loop-again
     (λ c. c .before .loop .inv .1 .size)

@@ -25,39 +25,45 @@ loop-holds c =
 
 row-in-requires : tie.Need-row-in-requires Inv-loop μ-loop
 row-in-requires c κs =
-    let p = c .before .before .before .before .before .before .before .pre in
+    let back = c .before .before .before .before .before in
+    let p = back .before .before .pre in
     let v = c .before .loop .inv in
     (p .0, (p .1 .0, (c .before .before .before .before .tree-from .ensures .0, (omega arith, omega (arith, v .1, p .1 .1 .0 .few)))))
 
 -- the row that is read is a split's
 small : tie.Need-mul-get64 Inv-loop μ-loop
 small c =
-    let p = c .before .before .before .before .before .before .before .before .pre in
+    let back = c .before .before .before .before .before in
+    let p = back .before .before .before .pre in
     let b = row-in-list _ _ (c .before .before .loop .j) (omega arith) (p .1 .1 .0) in
     omega (arith, c .row-in .ensures, splits-few _ (p .0))
 
 sum-small : tie.Need-add-get64 Inv-loop μ-loop
 sum-small c =
-    let p = c .before .before .before .before .before .before .before .before .pre in
+    let back = c .before .before .before .before .before in
+    let p = back .before .before .before .pre in
     let b = row-in-list _ _ (c .before .before .loop .j) (omega arith) (p .1 .1 .0) in
     omega (arith, c .row-in .ensures, splits-few _ (p .0), c .before .before .before .before .masks-from .ensures .1)
 
 inside : tie.Need-get64-requires Inv-loop μ-loop
 inside c κs =
-    let p = c .before .before .before .before .before .before .before .before .pre in
+    let back = c .before .before .before .before .before in
+    let p = back .before .before .before .pre in
     let b = row-in-list _ _ (c .before .before .loop .j) (omega arith) (p .1 .1 .0) in
     omega (arith, mask-inside _ (p .0) _ b, c .row-in .ensures, c .before .before .before .before .masks-from .ensures .0)
 
 room : tie.Need-slice-write-masks Inv-loop μ-loop
 room c =
-    let d = c .before .before .before .before .before .before .before .before .before in
+    let back = c .before .before .before .before .before in
+    let d = back .before .before .before .before in
     let l = c .before .before .before .loop in
     let n = tree-length (d .args .s .now) (d .args .i .0) in
     omega (arith, d .pre .1 .1 .1, copied-length (treeAt (d .args .s .now) (d .args .i .0)) _ _ (l .j) (l .inv .2) (omega arith) (omega (arith, d .pre .1 .1 .1)))
 
 loop-again : tie.Need-loop-again Inv-loop μ-loop
 loop-again c =
-    let d = c .before .before .before .before .before .before .before .before .before in
+    let back = c .before .before .before .before .before in
+    let d = back .before .before .before .before in
     let p = d .pre in
     let s = d .args .s .now in
     let i = d .args .i .0 in
@@ -71,13 +77,15 @@ loop-again c =
 
 same-length : tie.Need-same-length Inv-loop μ-loop
 same-length c =
-    let d = c .before .before .before .before .before .before .before in
+    let back = c .before .before .before .before .before in
+    let d = back .before .before in
     let l = c .before .loop in
     copied-length (treeAt (d .args .s .now) (d .args .i .0)) _ _ (l .j) (l .inv .2) (omega (arith, tree-length (d .args .s .now) (d .args .i .0))) (omega (arith, d .pre .1 .1 .1))
 
 returns : tie.Need-returns Inv-loop μ-loop
 returns c =
-    let a = c .before .before .before .before .before .before .before .args in
+    let back = c .before .before .before .before .before in
+    let a = back .before .before .args in
     let l = c .before .loop in
     let e : l .j ≡ length (listAt (a .s .now) (a .i .0)) = omega arith in
     rw e at (copied-all _ _ _ _ (l .inv .2) (e ∙ sym (tree-length (a .s .now) (a .i .0))))

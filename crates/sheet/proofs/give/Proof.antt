@@ -16,8 +16,9 @@ returns c =
 
 returns-2 : tie.Need-returns-2
 returns-2 c =
-    let a = c .before .before .before .before .before .before .before .args in
-    let p = copied-front (take (a .n) (a .text .now)) (a .out .now) (a .text .now) _ (a .n) (omega arith) (c .before .before .before .before .before .before .before .pre) refl (c .before .before .copy-from .ensures) in
+    let back = c .before .before .before .before .before in
+    let a = back .before .before .args in
+    let p = copied-front (take (a .n) (a .text .now)) (a .out .now) (a .text .now) _ (a .n) (omega arith) (back .before .before .pre) refl (c .before .before .copy-from .ensures) in
     filled-given _ (a .out .now) (take (a .n) (a .text .now)) refl (a .n) _ (p .0) (omega arith) (p .1)
 
 pub give-spec : {M : Type 1} → statement M

@@ -35,10 +35,12 @@ write-line-requires c κs =
 
 returns-3 : tie.Need-returns-3
 returns-3 c =
-    let w = passed _ _ (c .before .before .before .before .before .before .before .before .before .before .before .before .is-whole .ensures) (c .before .before .before .before .before .before .before .before .before .before .before .if1 .left) in
-    let p = c .before .before .before .before .before .before .write-line .ensures in
-    let a = c .before .before .before .before .before .before .before .before .before .before .before .before .before .before .before .args in
-    line-given (a .s .now) (a .out .now) (a .refused) (a .j) w (omega (arith, c .before .before .before .before .before .before .before .before .before .before .splits-held .ensures .0, c .before .before .before .before .before .before .before .before .before .trees-held .ensures)) _
+    let back = c .before .before .before .before .before in
+    let far = back .before .before .before .before .before in
+    let w = passed _ _ (far .before .before .is-whole .ensures) (far .before .if1 .left) in
+    let p = back .before .write-line .ensures in
+    let a = far .before .before .before .before .before .args in
+    line-given (a .s .now) (a .out .now) (a .refused) (a .j) w (omega (arith, back .before .before .before .before .before .splits-held .ensures .0, back .before .before .before .before .trees-held .ensures)) _
     (put-taken (replicate 8192 0) _ _ _ (p .0) (omega (arith, p .1, length-replicate {A = ℕ} 8192 0))) _ _ (c .before .before .give .ensures)
 
 pub line-spec : {M : Type 1} → statement M

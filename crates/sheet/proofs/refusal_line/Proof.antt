@@ -9,9 +9,11 @@ use Rattle.sheet.proofs.refusal_line.Tie as tie
 
 returns : tie.Need-returns
 returns c =
-    let p = c .before .before .before .before .before .before .before .before .before .put-counted .ensures in
-    let e = c .before .before .before .before .before .before .put-end .ensures in
-    let a = c .before .before .before .before .before .before .before .before .before .before .before .before .before .args in
+    let back = c .before .before .before .before .before in
+    let p = back .before .before .before .before .put-counted .ensures in
+    let e = back .before .put-end .ensures in
+    let far = back .before .before .before .before .before in
+    let a = far .before .before .before .args in
     refusal-given (a .k) (a .out .now) _ (put-taken (replicate 64 0) _ _ _ (refusal-put _ (p .0) e) (omega (arith, p .1 .0, e .ends, length-replicate {A = ℕ} 64 0))) _ _ (c .before .before .give .ensures)
 
 pub refusal-line-spec : {M : Type 1} → statement M

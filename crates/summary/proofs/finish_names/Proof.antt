@@ -8,7 +8,9 @@ returns : tie.Need-returns
 returns c = closes-refused _ _ _ _ (c .before .before .before .before .before .open-line .ensures) _ (c .before .answer .given .1)
 
 returns-2 : tie.Need-returns-2
-returns-2 c = closes-done _ _ _ _ (c .before .before .before .before .before .before .before .before .open-line .ensures) (c .before .before .before .before .enum-told .given .1) _ _ (c .before .before .close-texts .ensures)
+returns-2 c =
+    let back = c .before .before .before .before .before in
+    closes-done _ _ _ _ (back .before .before .before .open-line .ensures) (c .before .before .before .before .enum-told .given .1) _ _ (c .before .before .close-texts .ensures)
 
 pub finish-names-spec : {M : Type 1} → statement M
 finish-names-spec =

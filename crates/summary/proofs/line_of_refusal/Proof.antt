@@ -9,7 +9,8 @@ returns c = let a = c .before .before .args in refusal-past (a .why) (a .j) (a .
 
 returns-2 : tie.Need-returns-2
 returns-2 c =
-    let a = c .before .before .before .before .before .before .before .args in
+    let back = c .before .before .before .before .before in
+    let a = back .before .before .args in
     let l = c .before .before .refusal-line in
     let n = c .before .before .before .before .refusal-number in
     refusal-first (a .why) (a .j) (l .result) (a .out .now) (l .last .1 .0) (c .before .before .before .before .before .if1 .left) (n .result) (n .ensures) (l .ensures)

@@ -8,7 +8,9 @@ returns : tie.Need-returns
 returns c = opens-refused _ _ _ _ (c .before .before .before .before .before .open-line .ensures) _ (c .before .answer .given .1) _
 
 returns-2 : tie.Need-returns-2
-returns-2 c = opens-done _ _ _ _ (c .before .before .before .before .before .before .before .before .open-line .ensures) (c .before .before .before .before .enum-told .given .1) _ _ _ (c .before .before .feed .ensures)
+returns-2 c =
+    let back = c .before .before .before .before .before in
+    opens-done _ _ _ _ (back .before .before .before .open-line .ensures) (c .before .before .before .before .enum-told .given .1) _ _ _ (c .before .before .feed .ensures)
 
 pub open-texts-spec : {M : Type 1} → statement M
 open-texts-spec =

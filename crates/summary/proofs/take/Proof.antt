@@ -5,7 +5,9 @@ use Rattle.summary.proofs.take.Statement.{statement}
 use Rattle.summary.proofs.take.Tie as tie
 
 returns : tie.Need-returns
-returns c = took-line _ _ _ _ _ (c .before .before .before .before .before .before .before .before .state .given .1) _ _ _ (c .before .before .before .before .take-names .ensures)
+returns c =
+    let back = c .before .before .before .before .before in
+    took-line _ _ _ _ _ (back .before .before .before .state .given .1) _ _ _ (c .before .before .before .before .take-names .ensures)
 
 returns-2 : tie.Need-returns-2
 returns-2 c = took-texts _ _ _ _ _ (c .before .before .before .before .before .state2 .given .1) _ _ (c .before .before .feed .ensures)

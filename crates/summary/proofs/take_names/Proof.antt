@@ -10,13 +10,20 @@ returns : tie.Need-returns
 returns c = names-go _ _ _ _ _ _ (c .before .before .before .before .before .take-line .ensures) (not-true _ (c .if1 .taken))
 
 sub-open-texts : tie.Need-sub-open-texts
-sub-open-texts c = taken-fits _ _ [] _ _ _ (c .before .before .before .before .before .before .before .take-line .ensures)
+sub-open-texts c =
+    let back = c .before .before .before .before .before in
+    taken-fits _ _ [] _ _ _ (back .before .before .take-line .ensures)
 
 part-open-texts-start : tie.Need-part-open-texts-start
-part-open-texts-start c = taken-fits _ _ [] _ _ _ (c .before .before .before .before .before .before .before .take-line .ensures)
+part-open-texts-start c =
+    let back = c .before .before .before .before .before in
+    taken-fits _ _ [] _ _ _ (back .before .before .take-line .ensures)
 
 returns-2 : tie.Need-returns-2
-returns-2 c = names-end _ _ _ _ _ _ (c .before .before .before .before .before .before .before .before .before .before .before .take-line .ensures) (not-false _ (c .before .before .before .before .before .before .if1 .left)) _ _ (c .before .before .open-texts .ensures)
+returns-2 c =
+    let back = c .before .before .before .before .before in
+    let far = back .before .before .before .before .before in
+    names-end _ _ _ _ _ _ (far .before .take-line .ensures) (not-false _ (back .before .if1 .left)) _ _ (c .before .before .open-texts .ensures)
 
 pub take-names-spec : {M : Type 1} → statement M
 take-names-spec =

@@ -67,11 +67,13 @@ write-child-calls t = (write-name-reads.Asked, write-name-reads.Learnt, put-byte
 
 -- what is known once the widest split is found
 known : (t : ℕ) (w : write-branches-lts.After-widest-in (write-branches-calls t) (write-branches-at t) write-branches.Post)
-    → let a = w .before .before .before .before .before .before .args in
+    → let back = w .before .before .before in
+    let a = back .before .before .before .args in
     Step (numbersAt (a .head .now) .taxa) (namesAt (a .head .now)) (take (a .k) (a .list .now)) (a .m) (a .r) (w .before .lowest-taxon .result .0) (w .widest-in .result)
 known t w =
+    let back = w .before .before .before in
     record {
-      ready = w .before .before .before .before .before .before .pre .1 .1 .1 .0;
+      ready = back .before .before .before .pre .1 .1 .1 .0;
       some = w .before .before .if1 .left;
       smallest = w .before .lowest-taxon .ensures .0;
       wide = w .widest-in .ensures;
@@ -79,52 +81,64 @@ known t w =
 
 write-branches-write-child-requires : (t : ℕ) → write-branches-lts.Need-write-child-requires (write-branches-calls t) (write-branches-at t) write-branches.Post
 write-branches-write-child-requires t c κs =
-    let p = c .before .before .before .before .before .before .before .pre in
+    let back = c .before .before .before .before .before in
+    let p = back .before .before .pre in
     let k = known t (c .before) in
     (omega (arith, p .0, step-less k), (p .1 .0, (p .1 .1 .0, (c .before .before .lowest-taxon .ensures .1, (child-ok k, omega (arith, p .1 .1 .1 .1, text-length k))))))
 
 write-branches-returns-2 : (t : ℕ) → write-branches-lts.Need-returns-2 (write-branches-calls t) (write-branches-at t) write-branches.Post
 write-branches-returns-2 t c =
     let v = c .before in
-    let k = known t (v .before .before .before .before .before .before) in
+    let back = v .before .before .before .before .before in
+    let k = known t (back .before) in
     let q = v .taxa-without .ensures ∙ ap (without _) (v .before .child-mask .ensures) in
     step-last k q (v .before .before .before .before .write-child .ensures) (c .if2 .taken)
 
 write-branches-add-write-branches : (t : ℕ) → write-branches-lts.Need-add-write-branches (write-branches-calls t) (write-branches-at t) write-branches.Post
 write-branches-add-write-branches t c =
-    let v = c .before .before .before .before .before .before in
-    let k = known t (v .before .before .before .before .before .before) in
+    let back = c .before .before .before .before .before in
+    let v = back .before in
+    let back′ = v .before .before .before .before .before in
+    let k = known t (back′ .before) in
     let q = v .taxa-without .ensures ∙ ap (without _) (v .before .child-mask .ensures) in
-    let p = v .before .before .before .before .before .before .before .before .before .before .before .before .pre in
+    let far = back′ .before .before .before .before .before in
+    let p = far .before .before .pre in
     let l = step-room k q (c .before .before .before .before .before .if2 .left) in
     omega (arith, p .1 .1 .1 .1, v .before .before .before .before .write-child .ensures .ends)
 
 write-branches-write-branches-requires : (t : ℕ) → write-branches-lts.Need-write-branches-requires (write-branches-calls t) (write-branches-at t) write-branches.Post
 write-branches-write-branches-requires t c κs =
-    let v = c .before .before .before .before .before .before in
-    let k = known t (v .before .before .before .before .before .before) in
+    let back = c .before .before .before .before .before in
+    let v = back .before in
+    let back′ = v .before .before .before .before .before in
+    let k = known t (back′ .before) in
     let q = v .taxa-without .ensures ∙ ap (without _) (v .before .child-mask .ensures) in
-    let p = v .before .before .before .before .before .before .before .before .before .before .before .before .pre in
+    let far = back′ .before .before .before .before .before in
+    let p = far .before .before .pre in
     let l = step-room k q (c .before .before .before .before .before .if2 .left) in
     let e = v .before .before .before .before .write-child .ensures .ends in
     (omega (arith, p .0, step-fewer k q), (p .1 .0, (p .1 .1 .0, (rest-ready k q, omega (arith, p .1 .1 .1 .1)))))
 
 write-branches-returns-3 : (t : ℕ) → write-branches-lts.Need-returns-3 (write-branches-calls t) (write-branches-at t) write-branches.Post
 write-branches-returns-3 t c =
-    let v = c .before .before .before .before .before .before .before .before .before in
-    let k = known t (v .before .before .before .before .before .before) in
+    let back = c .before .before .before .before .before in
+    let v = back .before .before .before .before in
+    let back′ = v .before .before .before .before .before in
+    let k = known t (back′ .before) in
     let q = v .taxa-without .ensures ∙ ap (without _) (v .before .child-mask .ensures) in
-    step-more k q (v .before .before .before .before .write-child .ensures) (c .before .before .before .before .before .before .before .before .if2 .left) (c .before .before .before .before .before .before .put-byte .ensures)
+    step-more k q (v .before .before .before .before .write-child .ensures) (back .before .before .before .if2 .left) (back .before .put-byte .ensures)
     (c .before .before .write-branches .ensures)
 
 write-child-returns : (t : ℕ) → write-child-lts.Need-returns (write-child-calls t) (write-child-at t) write-child.Post
 write-child-returns t c =
-    let s = c .before .before .before .before .before .before .before .before in
+    let back = c .before .before .before .before .before in
+    let s = back .before .before .before in
     child-leaf-put _ _ _ _ (c .before .before .before .before .if1 .taken) (names-at _ _ (s .pre .1 .1 .1 .1 .0 .named)) (c .before .before .write-name .ensures)
 
 write-child-write-branches-requires : (t : ℕ) → write-child-lts.Need-write-branches-requires (write-child-calls t) (write-child-at t) write-child.Post
 write-child-write-branches-requires t c κs =
-    let s = c .before .before .before .before .before .before .before .before .before in
+    let back = c .before .before .before .before .before in
+    let s = back .before .before .before .before in
     let p = s .pre .1 in
     let z = c .before .before .before .before .before .if1 .left in
     let l = child-room (namesAt (s .args .head .now)) (take (s .args .k) (s .args .list .now)) (s .args .i .0) (s .args .x) z in
@@ -132,10 +146,12 @@ write-child-write-branches-requires t c κs =
 
 write-child-add-result : (t : ℕ) → write-child-lts.Need-add-result (write-child-calls t) (write-child-at t) write-child.Post
 write-child-add-result t c =
-    let w = c .before .before .before .before .before .before in
-    let s = w .before .before .before .before .before .before .before .before .before .before in
+    let back = c .before .before .before .before .before in
+    let w = back .before in
+    let back′ = w .before .before .before .before .before in
+    let s = back′ .before .before .before .before .before in
     let p = s .pre .1 in
-    let l = child-room (namesAt (s .args .head .now)) (take (s .args .k) (s .args .list .now)) (s .args .i .0) (s .args .x) (w .before .before .before .before .before .before .if1 .left) in
+    let l = child-room (namesAt (s .args .head .now)) (take (s .args .k) (s .args .list .now)) (s .args .i .0) (s .args .x) (back′ .before .if1 .left) in
     omega (arith, p .1 .1 .1 .1, w .write-branches .ensures .ends)
 
 pub +write-branches+write-child-spec : {M : Type 1} → statement M
@@ -154,7 +170,7 @@ pub +write-branches+write-child-spec : {M : Type 1} → statement M
     (λ c κs. tt)
     (write-branches-add-write-branches t)
     (write-branches-write-branches-requires t)
-    (λ c. c .before .before .write-branches .kept .1 .1 .1 .1 .1 .0 ∙ c .before .before .before .before .before .before .put-byte .kept .0 ∙ c .before .before .before .before .before .before .before .before .before .before .before .before .before .write-child .kept .1 .1 .1 .1 .1 .0)
+    (λ c. let back = c .before .before .before .before .before in let far = back .before .before .before .before .before in c .before .before .write-branches .kept .1 .1 .1 .1 .1 .0 ∙ back .before .put-byte .kept .0 ∙ far .before .before .before .write-child .kept .1 .1 .1 .1 .1 .0)
     (write-branches-returns-3 t))
     λ t. write-child-lts.spec (write-child-calls t)
     (write-child-at t)
@@ -163,9 +179,9 @@ pub +write-branches+write-child-spec : {M : Type 1} → statement M
     (λ c. c .before .before .write-name .kept .1 .1 .0)
     (write-child-returns t)
     (λ c κs. tt)
-    (λ c. let p = c .before .before .before .before .before .before .before .before .before .pre .1 in omega (arith, p .1 .1 .1 .1))
+    (λ c. let back = c .before .before .before .before .before in let p = back .before .before .before .before .pre .1 in omega (arith, p .1 .1 .1 .1))
     (write-child-write-branches-requires t)
     (λ c κs. tt)
     (write-child-add-result t)
-    (λ c. c .before .before .put-byte2 .kept .0 ∙ c .before .before .before .before .before .before .write-branches .kept .1 .1 .1 .1 .1 .0 ∙ c .before .before .before .before .before .before .before .before .before .before .put-byte .kept .0)
-    (λ c. child-inner-put _ _ _ _ (c .before .before .before .before .before .before .before .before .before .before .before .before .if1 .left) (c .before .before .before .before .before .before .before .before .before .before .put-byte .ensures) (c .before .before .before .before .before .before .write-branches .ensures) (c .before .before .put-byte2 .ensures))
+    (λ c. let back = c .before .before .before .before .before in c .before .before .put-byte2 .kept .0 ∙ back .before .write-branches .kept .1 .1 .1 .1 .1 .0 ∙ back .before .before .before .before .before .put-byte .kept .0)
+    (λ c. let back = c .before .before .before .before .before in let far = back .before .before .before .before .before in child-inner-put _ _ _ _ (far .before .before .if1 .left) (back .before .before .before .before .before .put-byte .ensures) (back .before .write-branches .ensures) (c .before .before .put-byte2 .ensures))

@@ -26,8 +26,10 @@ loop-holds c =
 
 loop-again : tie.Need-loop-again Inv-loop μ-loop
 loop-again c =
-    let a = c .before .before .before .before .before .before .before .before .before .before .before .args in
-    let l = c .before .before .before .before .before .before .loop in
+    let back = c .before .before .before .before .before in
+    let far = back .before .before .before .before .before in
+    let a = far .before .args in
+    let l = back .before .loop in
     (omega arith, omega arith, c .before .before .put-byte .ensures ∙ copied-end (a .out .now) (a .at) (a .head .now) (17 + 33 * a .i .0) (l .j) (l .inv .2) refl (omega arith))
 
 same-length : tie.Need-same-length Inv-loop μ-loop
@@ -36,7 +38,8 @@ same-length c = ap length (c .before .loop .inv .2) ∙ copied-length _ _ _ _ _
 returns : tie.Need-returns Inv-loop μ-loop
 unfolding nameAt
 returns c =
-    let a = c .before .before .before .before .before .before .args in
+    let back = c .before .before .before .before .before in
+    let a = back .before .args in
     let l = c .before .loop in
     let e : l .j ≡ getD (a .head .now) (16 + 33 * a .i .0) 0 = omega arith in
     put-copied (a .out .now) (l .out) (a .head .now) (a .at) (17 + 33 * a .i .0) (getD (a .head .now) (16 + 33 * a .i .0) 0) (omega arith) (rw e at (l .inv .2))

@@ -20,28 +20,36 @@ write-branches-requires c κs =
 
 add-put-byte : tie.Need-add-put-byte
 add-put-byte c =
-    let w = c .before .before .before .before .before .before .before .before .before .before .before .before .before in
+    let back = c .before .before .before .before .before in
+    let far = back .before .before .before .before .before in
+    let w = far .before .before .before in
     let p = w .before .before .before .before .before .pre in
     let a = w .every-taxon .ensures ∙ ap everyTaxon (w .before .taxa .ensures .0) in
     let l = root-room _ (p .1 .0) _ (p .1 .1 .1) _ a in
-    omega (arith, c .before .before .before .before .before .before .before .write-branches .ensures .ends)
+    omega (arith, back .before .before .write-branches .ensures .ends)
 
 add-result : tie.Need-add-result
 add-result c =
-    let w = c .before .before .before .before .before .before .before .before .before .before .before .before .before .before .before .before in
+    let back = c .before .before .before .before .before in
+    let far = back .before .before .before .before .before in
+    let first = far .before .before .before .before .before in
+    let w = first .before in
     let p = w .before .before .before .before .before .pre in
     let a = w .every-taxon .ensures ∙ ap everyTaxon (w .before .taxa .ensures .0) in
     let l = root-room _ (p .1 .0) _ (p .1 .1 .1) _ a in
-    omega (arith, c .before .before .before .before .before .before .before .before .before .before .write-branches .ensures .ends)
+    omega (arith, back .before .before .before .before .before .write-branches .ensures .ends)
 
 returns : tie.Need-returns
 returns c =
-    let w = c .before .before .before .before .before .before .before .before .before .before .before .before .before .before .before .before in
+    let back = c .before .before .before .before .before in
+    let far = back .before .before .before .before .before in
+    let first = far .before .before .before .before .before in
+    let w = first .before in
     let p = w .before .before .before .before .before .pre in
     let a = w .every-taxon .ensures ∙ ap everyTaxon (w .before .taxa .ensures .0) in
     let l = root-room _ (p .1 .0) _ (p .1 .1 .1) _ a in
-    let e = c .before .before .before .before .before .before .before .before .before .before .write-branches .ensures in
-    (root-put _ (p .1 .0) _ (p .1 .1 .1) _ a (c .before .before .before .before .before .before .before .before .before .before .before .before .before .before .put-byte .ensures) e (c .before .before .before .before .before .before .put-byte2 .ensures) (c .before .before .put-byte3 .ensures), omega (arith, e .ends))
+    let e = back .before .before .before .before .before .write-branches .ensures in
+    (root-put _ (p .1 .0) _ (p .1 .1 .1) _ a (far .before .before .before .before .put-byte .ensures) e (back .before .put-byte2 .ensures) (c .before .before .put-byte3 .ensures), omega (arith, e .ends))
 
 pub write-root-spec : {M : Type 1} → statement M
 write-root-spec =

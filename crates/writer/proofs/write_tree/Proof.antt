@@ -11,7 +11,8 @@ returns c = let p = c .before .before .write-root .ensures .0 in wrote-nothing _
 
 returns-2 : tie.Need-returns-2
 returns-2 c =
-    let p = c .before .before .before .before .before .before .before .write-root .ensures in
+    let back = c .before .before .before .before .before in
+    let p = back .before .before .write-root .ensures in
     wrote-all _ _ _ _ _ _ (p .0) (omega (arith, p .0 .ends)) (c .before .before .before .before .before .if1 .left) (c .before .before .copy-from .ensures)
 
 pub write-tree-spec : {M : Type 1} → statement M

@@ -22,12 +22,14 @@ loop-holds c = let p = c .before .before .pre in (omega arith, omega arith, p .1
 
 mask-at-requires : tie.Need-mask-at-requires Inv-loop μ-loop
 mask-at-requires c κs =
-    let w = c .before .before .before .before .before .before .before .pre .0 in
+    let back = c .before .before .before .before .before in
+    let w = back .before .before .pre .0 in
     (whole-at-facts _ w .head, read-below _ w (omega arith) (c .before .before .row-of .ensures))
 
 place-left : tie.Need-element-write-list Inv-loop μ-loop
 place-left c =
-    let b = c .before .before .before .before .before .before .before .before in
+    let back = c .before .before .before .before .before in
+    let b = back .before .before .before in
     let l = c .before .before .before .before .before .loop in
     let o = c .before .before .before .row-of .ensures in
     let r : ReadSplit (b .args .s .now) (l .k) _ _ =
@@ -36,7 +38,8 @@ place-left c =
 
 loop-again : tie.Need-loop-again Inv-loop μ-loop
 loop-again c =
-    let b = c .before .before .before .before .before .before .before in
+    let back = c .before .before .before .before .before in
+    let b = back .before .before in
     let l = c .before .before .before .before .loop in
     let o = c .before .before .row-of .ensures in
     let r : ReadSplit (b .args .s .now) (l .k) _ _ =

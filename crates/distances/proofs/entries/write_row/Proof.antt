@@ -29,7 +29,8 @@ distance-requires c κs =
 
 put-pair-requires : tie.Need-put-pair-requires Inv-loop μ-loop
 put-pair-requires c κs =
-    let p = c .before .before .before .before .before .before .before .pre in
+    let back = c .before .before .before .before .before in
+    let p = back .before .before .pre in
     let l = c .before .before .before .loop in
     let e = l .inv .1 in
     let f = ap (λ n. n * n) e in
@@ -39,7 +40,8 @@ loop-again : tie.Need-loop-again Inv-loop μ-loop
 loop-again c =
     let b = c .before .before in
     let l = b .before .before .before .before .loop in
-    let d = b .before .before .before .before .before .before .before .before in
+    let back = b .before .before .before .before .before in
+    let d = back .before .before .before in
     let p = d .pre in
     let r = pair-more (d .args .s .now) (d .args .i) (l .j) _ _ (l .out) _ (l .inv .1) (l .inv .2) (l .inv .0) (omega (arith, l .inv .1)) (omega (arith, l .inv .3, p .1 .1 .1 .0)) (b .before .before .distance .ensures) (b .put-pair .ensures) in
     (omega (arith, l .inv .0), l .inv .1, r .0, r .1 ∙ l .inv .3, r .2 ∙ l .inv .4)

@@ -26,13 +26,15 @@ row-in-requires c κs =
 
 inside : tie.Need-element-write-marks Inv-loop μ-loop
 inside c =
-    let p = c .before .before .before .before .before .before .pre in
+    let back = c .before .before .before .before .before in
+    let p = back .before .pre in
     let k = row-small _ (p .0) _ (p .1 .0) (c .before .before .loop .j) _ (omega (arith, c .before .before .before .splits-in .ensures)) (c .row-in .ensures) in
     omega (arith, k, c .before .before .loop .inv .1)
 
 loop-again : tie.Need-loop-again Inv-loop μ-loop
 loop-again c =
-    let d = c .before .before .before .before .before .before in
+    let back = c .before .before .before .before .before in
+    let d = back .before in
     let l = c .before .before .loop in
     let q = marked-more (d .args .v) (listAt (d .args .s .now) (d .args .i)) (l .marks) (l .j) _ (omega (arith, c .before .before .before .splits-in .ensures)) (c .row-in .ensures) in
     (omega arith, length-set (l .marks) _ _ ∙ l .inv .1, l .inv .2 ∙ q)

@@ -28,14 +28,16 @@ row-in-requires c κs =
 
 inside : tie.Need-element-copy-out-wide Inv-loop μ-loop
 inside c =
-    let p = c .before .before .before .before .before .before .pre in
+    let back = c .before .before .before .before .before in
+    let p = back .before .pre in
     let k = row-small _ (p .0) _ (p .1 .1) (c .before .before .loop .at) _ (omega (arith, c .before .before .before .splits-in .ensures)) (c .row-in .ensures) in
     omega (arith, k, p .1 .0)
 
 loop-again : tie.Need-loop-again Inv-loop μ-loop
 loop-again c =
     let l = c .before .before .before .before .loop in
-    let d = c .before .before .before .before .before .before .before .before in
+    let back = c .before .before .before .before .before in
+    let d = back .before .before .before in
     let w = c .wide .ensures in
     let q = sum-more (d .args .marks .now) (listAt (d .args .s .now) (d .args .j)) (l .at) _ (omega (arith, c .before .before .before .before .before .splits-in .ensures)) (c .before .before .row-in .ensures) in
     (omega arith, l .inv .1, omega (arith, w .1, l .inv .2), omega (arith, w .0, l .inv .3, q))

@@ -16,39 +16,47 @@ abbrev μ-loop : tie.MeasureT-loop
 
 feed-piece-requires : tie.Need-feed-piece-requires Inv-loop μ-loop
 feed-piece-requires c κs =
-    let d = c .before .before .before .before .before .before .before in
+    let back = c .before .before .before .before .before in
+    let d = back .before .before in
     let g = c .before .before .before .loop .inv in
     (g .whole, (going-lane _ _ _ _ _ _ _ _ _ (d .pre .1 .0) g, going-index _ _ _ _ _ _ _ _ _ (d .pre .1 .0) g _ _ (d .pre .1 .1 .0)))
 
 small : tie.Need-verdict-number-requires Inv-loop μ-loop
 small c κs =
     let f = c .before .before .feed-piece .ensures in
-    subst Small (sym (f .answer)) (small-answer _ _ _ (c .before .before .before .before .before .before .loop .inv .whole))
+    let back = c .before .before .before .before .before in
+    subst Small (sym (f .answer)) (small-answer _ _ _ (back .before .loop .inv .whole))
 
 loop-again : tie.Need-loop-again Inv-loop μ-loop
 loop-again c =
-    let d = c .before .before .before .before .before .before .before .before .before .before .before .before in
-    let g = c .before .before .before .before .before .before .before .before .loop .inv in
+    let back = c .before .before .before .before .before in
+    let far = back .before .before .before .before .before in
+    let d = far .before .before in
+    let g = back .before .before .before .loop .inv in
     let f = going-part _ _ _ _ _ _ _ _ _ (d .pre .1 .0) g _ _ (c .before .before .before .before .feed-piece .ensures) in
     going-more _ _ _ _ _ _ _ _ _ (d .pre .1 .0) g _ _ f (omega arith) (d .pre .1 .1 .1 .1) _ (c .before .verdict-number .ensures)
 
 fits : tie.Need-add-at Inv-loop μ-loop
 fits c =
-    let d = c .before .before .before .before .before .before .before .before .before .before .before .before in
-    let g = c .before .before .before .before .before .before .before .before .loop .inv in
+    let back = c .before .before .before .before .before in
+    let far = back .before .before .before .before .before in
+    let d = far .before .before in
+    let g = back .before .before .before .loop .inv in
     let f = going-part _ _ _ _ _ _ _ _ _ (d .pre .1 .0) g _ _ (c .before .before .before .before .feed-piece .ensures) in
     omega (arith, taken-fits _ _ _ _ _ _ _ _ _ (d .pre .1 .0) g _ _ f (omega arith) (d .pre .1 .1 .1 .1))
 
 feed-piece-requires-2 : tie.Need-feed-piece-requires-2 Inv-loop μ-loop
 feed-piece-requires-2 c κs =
-    let d = c .before .before .before .before .before .before .before in
+    let back = c .before .before .before .before .before in
+    let d = back .before .before in
     let g = c .before .before .before .loop .inv in
     (g .whole, (going-lane _ _ _ _ _ _ _ _ _ (d .pre .1 .0) g, going-index _ _ _ _ _ _ _ _ _ (d .pre .1 .0) g _ _ (d .pre .1 .1 .0)))
 
 returns : tie.Need-returns Inv-loop μ-loop
 returns c =
-    let d = c .before .before .before .before .before .before .before .before .before .before in
-    let g = c .before .before .before .before .before .before .loop .inv in
+    let back = c .before .before .before .before .before in
+    let d = back .before .before .before .before .before in
+    let g = back .before .loop .inv in
     let f = going-part _ _ _ _ _ _ _ _ _ (d .pre .1 .0) g _ _ (c .before .before .feed-piece2 .ensures) in
     (gone-holds _ _ _ _ _ _ _ _ _ (d .pre .1 .0) g _ _ f (omega (arith, g .within)), (gone-verdicts _ _ _ _ _ _ _ _ _ (d .pre .1 .0) g _ _ f (omega (arith, g .within)), gone-outside _ _ _ _ _ _ _ _ _ (d .pre .1 .0) g _ _ f (omega (arith, g .within))))
 
@@ -64,8 +72,8 @@ feed-texts-spec =
     (λ c. search needs)
     feed-piece-requires
     small
-    (λ c. omega (arith, c .before .before .before .before .before .before .before .loop .inv .room, c .before .before .before .before .before .before .before .before .before .before .before .pre .1 .1 .1 .1))
-    (λ c. omega (arith, c .before .before .before .before .before .before .before .loop .inv .room, c .before .before .before .before .before .before .before .before .before .before .before .pre .1 .1 .1 .1))
+    (λ c. let back = c .before .before .before .before .before in let far = back .before .before .before .before .before in omega (arith, back .before .before .loop .inv .room, far .before .pre .1 .1 .1 .1))
+    (λ c. let back = c .before .before .before .before .before in let far = back .before .before .before .before .before in omega (arith, back .before .before .loop .inv .room, far .before .pre .1 .1 .1 .1))
     fits
     (λ c. omega arith)
     (λ c. omega arith)
@@ -74,6 +82,6 @@ feed-texts-spec =
     (λ c. search needs)
     (λ c. search needs)
     feed-piece-requires-2
-    (λ c. c .before .before .feed-piece2 .ensures .left .holds .size ∙ c .before .before .before .before .before .before .loop .inv .size)
-    (λ c. c .before .before .before .before .before .before .loop .inv .room)
+    (λ c. let back = c .before .before .before .before .before in c .before .before .feed-piece2 .ensures .left .holds .size ∙ back .before .loop .inv .size)
+    (λ c. let back = c .before .before .before .before .before in back .before .loop .inv .room)
     returns)

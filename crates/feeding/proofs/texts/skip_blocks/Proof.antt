@@ -18,7 +18,8 @@ abbrev μ-loop : tie.MeasureT-loop
 loop-again : tie.Need-loop-again Inv-loop μ-loop
 loop-again c =
     let l = c .before .before .before .before .loop in
-    let p = c .before .before .before .before .before .before .args .piece .now in
+    let back = c .before .before .before .before .before in
+    let p = back .before .args .piece .now in
     let e = end-skip p (l .at) (l .at + 64) (omega arith) (omega arith) (sym (c .before .has-semicolon .ensures) ∙ c .if1 .left) in
     (omega arith, omega (arith, e, l .inv .1))
 

@@ -18,14 +18,16 @@ abbrev μ-loop : tie.MeasureT-loop
 returns : tie.Need-returns Inv-loop μ-loop
 returns c =
     let l = c .before .before .before .loop in
-    let a = c .before .before .before .before .before .before .args in
+    let back = c .before .before .before .before .before in
+    let a = back .before .args in
     let e = end-here (a .piece .now) (l .i) (omega arith) (c .if1 .taken) in
     (omega (arith, e, l .inv .1), omega arith)
 
 loop-again : tie.Need-loop-again Inv-loop μ-loop
 loop-again c =
     let l = c .before .before .before .loop in
-    let a = c .before .before .before .before .before .before .args in
+    let back = c .before .before .before .before .before in
+    let a = back .before .args in
     let e = end-more (a .piece .now) (l .i) (omega arith) (c .if1 .left) in
     (omega arith, omega (arith, e, l .inv .1))
 

@@ -61,7 +61,9 @@ read-node-enum-known-t t c = c .match .keys1
 
 read-node-take-leaf-requires : (t : ℕ) → read-node-lts.Need-take-leaf-requires (read-node-calls t) (read-node-at t) read-node.Post
 unfolding Seen LengthRead ClosingRead NodeGot NodesGot
-read-node-take-leaf-requires t c κs = let p = (seen-as _ _ (c .before .t .given .1) (c .before .before .before .next-symbol .ensures)) in (c .before .before .before .before .before .before .before .pre .1 .0 .prepared, (omega arith, p .1 .within))
+read-node-take-leaf-requires t c κs =
+    let back = c .before .before .before .before .before in
+    let p = (seen-as _ _ (c .before .t .given .1) (c .before .before .before .next-symbol .ensures)) in (back .before .before .pre .1 .0 .prepared, (omega arith, p .1 .within))
 
 read-node-read-length-requires : (t : ℕ) → read-node-lts.Need-read-length-requires (read-node-calls t) (read-node-at t) read-node.Post
 unfolding Seen LengthRead ClosingRead NodeGot NodesGot
@@ -84,7 +86,9 @@ read-node-sub-read-nodes t c = pos-of-ne-zero (c .if1 .left)
 
 read-node-read-nodes-requires : (t : ℕ) → read-node-lts.Need-read-nodes-requires (read-node-calls t) (read-node-at t) read-node.Post
 unfolding Seen LengthRead ClosingRead NodeGot NodesGot
-read-node-read-nodes-requires t c κs = let p = (seen-as _ _ (c .before .before .before .t2 .given .1) (c .before .before .before .before .before .next-symbol .ensures)) in (omega arith, (c .before .before .before .before .before .before .before .before .before .pre .1 .0, (p .1 .within, omega (arith, p .1 .past, c .before .before .before .before .before .before .before .before .before .pre .1 .1 .1))))
+read-node-read-nodes-requires t c κs =
+    let back = c .before .before .before .before .before in
+    let p = (seen-as _ _ (c .before .before .before .t2 .given .1) (c .before .before .before .before .before .next-symbol .ensures)) in (omega arith, (back .before .before .before .before .pre .1 .0, (p .1 .within, omega (arith, p .1 .past, back .before .before .before .before .pre .1 .1 .1))))
 
 read-node-enum-known-children : (t : ℕ) → read-node-lts.Need-enum-known-children (read-node-calls t) (read-node-at t) read-node.Post
 read-node-enum-known-children t c = c .match3 .keys1
@@ -98,11 +102,20 @@ read-node-enum-known-r-2 t c = c .match4 .keys1
 
 read-node-put-record-requires : (t : ℕ) → read-node-lts.Need-put-record-requires (read-node-calls t) (read-node-at t) read-node.Post
 unfolding Seen LengthRead ClosingRead NodeGot NodesGot
-read-node-put-record-requires t c κs = let l = (gots-as _ _ _ _ _ _ (c .before .before .before .before .before .before .children .given .1) (c .before .before .before .before .before .before .before .before .before .before .read-nodes .ensures)) in omega (arith, l .2 .few, l .1 .within, c .before .before .before .before .before .before .before .before .before .before .before .before .before .before .before .before .before .before .before .before .pre .1 .0 .short)
+read-node-put-record-requires t c κs =
+    let back = c .before .before .before .before .before in
+    let far = back .before .before .before .before .before in
+    let first = far .before .before .before .before .before in
+    let l = (gots-as _ _ _ _ _ _ (back .before .children .given .1) (back .before .before .before .before .before .read-nodes .ensures)) in omega (arith, l .2 .few, l .1 .within, first .before .before .before .before .before .pre .1 .0 .short)
 
 read-node-add-t40 : (t : ℕ) → read-node-lts.Need-add-t40 (read-node-calls t) (read-node-at t) read-node.Post
 unfolding Seen LengthRead ClosingRead NodeGot NodesGot
-read-node-add-t40 t c = let l = (gots-as _ _ _ _ _ _ (c .before .before .before .before .before .before .before .before .before .children .given .1) (c .before .before .before .before .before .before .before .before .before .before .before .before .before .read-nodes .ensures)) in omega (arith, l .2 .few, l .1 .within, c .before .before .before .before .before .before .before .before .before .before .before .before .before .before .before .before .before .before .before .before .before .before .before .pre .1 .0 .short)
+read-node-add-t40 t c =
+    let back = c .before .before .before .before .before in
+    let far = back .before .before .before .before .before in
+    let first = far .before .before .before .before .before in
+    let start = first .before .before .before .before .before in
+    let l = (gots-as _ _ _ _ _ _ (back .before .before .before .before .children .given .1) (far .before .before .before .read-nodes .ensures)) in omega (arith, l .2 .few, l .1 .within, start .before .before .before .pre .1 .0 .short)
 
 read-node-enum-told-2 : (t : ℕ) → read-node-lts.Need-enum-told-2 (read-node-calls t) (read-node-at t) read-node.Post
 read-node-enum-told-2 t c = c .match4 .keys2
@@ -111,28 +124,47 @@ read-node-enum-told-3 : (t : ℕ) → read-node-lts.Need-enum-told-3 (read-node-
 read-node-enum-told-3 t c = c .match3 .keys2
 
 read-node-returns-2 : (t : ℕ) → read-node-lts.Need-returns-2 (read-node-calls t) (read-node-at t) read-node.Post
-read-node-returns-2 t c = got-leaf _ _ _ _ _ _ _ _ _ _ _ (prepared-opening _ _ _ (c .before .before .before .before .before .before .before .before .before .before .before .before .before .pre .1 .0 .prepared)) (seen-as _ _ (c .before .before .before .before .before .before .before .t .given .1) (c .before .before .before .before .before .before .before .before .before .next-symbol .ensures)) (length-as _ _ (c .before .before .r .given .1) (c .before .before .before .before .read-length .ensures)) (c .before .before .before .before .before .take-leaf .ensures) (c .before .before .before .before .before .before .before .before .before .before .before .before .before .pre .1 .1 .1)
+read-node-returns-2 t c =
+    let back = c .before .before .before .before .before in
+    let far = back .before .before .before .before .before in
+    got-leaf _ _ _ _ _ _ _ _ _ _ _ (prepared-opening _ _ _ (far .before .before .before .pre .1 .0 .prepared)) (seen-as _ _ (back .before .before .t .given .1) (back .before .before .before .before .next-symbol .ensures)) (length-as _ _ (c .before .before .r .given .1) (c .before .before .before .before .read-length .ensures)) (c .before .before .before .before .before .take-leaf .ensures) (far .before .before .before .pre .1 .1 .1)
 
 read-node-returns-3 : (t : ℕ) → read-node-lts.Need-returns-3 (read-node-calls t) (read-node-at t) read-node.Post
-read-node-returns-3 t c = got-wrong _ _ _ _ _ _ (leaf-fault _ _ _ _ _ (seen-as _ _ (c .before .before .before .before .before .t .given .1) (c .before .before .before .before .before .before .before .next-symbol .ensures)) (length-as _ _ (c .enum-told .given .1) (c .before .before .read-length .ensures)))
+read-node-returns-3 t c =
+    let back = c .before .before .before .before .before in
+    got-wrong _ _ _ _ _ _ (leaf-fault _ _ _ _ _ (seen-as _ _ (c .before .before .before .before .before .t .given .1) (back .before .before .next-symbol .ensures)) (length-as _ _ (c .enum-told .given .1) (c .before .before .read-length .ensures)))
 
 read-node-same-length : (t : ℕ) → read-node-lts.Need-same-length (read-node-calls t) (read-node-at t) read-node.Post
-read-node-same-length t c = c .before .before .put-record .kept .0 ∙ c .before .before .before .before .before .before .before .before .before .before .before .before .before .read-nodes .kept .1 .1 .1 .1 .1 .1 .1 .0
+read-node-same-length t c =
+    let back = c .before .before .before .before .before in
+    let far = back .before .before .before .before .before in
+    c .before .before .put-record .kept .0 ∙ far .before .before .before .read-nodes .kept .1 .1 .1 .1 .1 .1 .1 .0
 
 read-node-returns-4 : (t : ℕ) → read-node-lts.Need-returns-4 (read-node-calls t) (read-node-at t) read-node.Post
-read-node-returns-4 t c = got-inner _ _ _ _ _ _ _ _ _ _ _ _ (seen-as _ _ (c .before .before .before .before .before .before .before .before .before .before .before .before .before .before .before .before .before .t2 .given .1) (c .before .before .before .before .before .before .before .before .before .before .before .before .before .before .before .before .before .before .before .next-symbol .ensures)) (c .before .before .before .before .before .before .before .before .before .before .before .before .before .before .before .if1 .left) (gots-as _ _ _ _ _ _ (c .before .before .before .before .before .before .before .before .before .children .given .1) (c .before .before .before .before .before .before .before .before .before .before .before .before .before .read-nodes .ensures)) (closing-as _ _ _ (c .before .before .before .before .before .r2 .given .1) (c .before .before .before .before .before .before .before .read-closing .ensures)) (c .before .before .put-record .ensures)
+read-node-returns-4 t c =
+    let back = c .before .before .before .before .before in
+    let far = back .before .before .before .before .before in
+    let first = far .before .before .before .before .before in
+    got-inner _ _ _ _ _ _ _ _ _ _ _ _ (seen-as _ _ (first .before .before .t2 .given .1) (first .before .before .before .before .next-symbol .ensures)) (far .before .before .before .before .before .if1 .left) (gots-as _ _ _ _ _ _ (back .before .before .before .before .children .given .1) (far .before .before .before .read-nodes .ensures)) (closing-as _ _ _ (c .before .before .before .before .before .r2 .given .1) (back .before .before .read-closing .ensures)) (c .before .before .put-record .ensures)
 
 read-node-same-length-2 : (t : ℕ) → read-node-lts.Need-same-length-2 (read-node-calls t) (read-node-at t) read-node.Post
-read-node-same-length-2 t c = c .before .before .before .before .before .before .before .before .read-nodes .kept .1 .1 .1 .1 .1 .1 .1 .0
+read-node-same-length-2 t c =
+    let back = c .before .before .before .before .before in
+    back .before .before .before .read-nodes .kept .1 .1 .1 .1 .1 .1 .1 .0
 
 read-node-returns-5 : (t : ℕ) → read-node-lts.Need-returns-5 (read-node-calls t) (read-node-at t) read-node.Post
-read-node-returns-5 t c = let l = all-is _ _ _ _ _ _ _ _ _ (gots-as _ _ _ _ _ _ (c .before .before .before .before .children .given .1) (c .before .before .before .before .before .before .before .before .read-nodes .ensures)) in got-wrong _ _ _ _ _ _ (node-unclosed _ _ _ _ _ _ _ (seen-as _ _ (c .before .before .before .before .before .before .before .before .before .before .before .before .t2 .given .1) (c .before .before .before .before .before .before .before .before .before .before .before .before .before .before .next-symbol .ensures)) (c .before .before .before .before .before .before .before .before .before .before .if1 .left) (l .1 .reads) (sym (l .3)) (closing-as _ _ _ (c .enum-told2 .given .1) (c .before .before .read-closing .ensures)))
+read-node-returns-5 t c =
+    let back = c .before .before .before .before .before in
+    let far = back .before .before .before .before .before in
+    let l = all-is _ _ _ _ _ _ _ _ _ (gots-as _ _ _ _ _ _ (c .before .before .before .before .children .given .1) (back .before .before .before .read-nodes .ensures)) in got-wrong _ _ _ _ _ _ (node-unclosed _ _ _ _ _ _ _ (seen-as _ _ (far .before .before .t2 .given .1) (far .before .before .before .before .next-symbol .ensures)) (back .before .before .before .before .before .if1 .left) (l .1 .reads) (sym (l .3)) (closing-as _ _ _ (c .enum-told2 .given .1) (c .before .before .read-closing .ensures)))
 
 read-node-same-length-3 : (t : ℕ) → read-node-lts.Need-same-length-3 (read-node-calls t) (read-node-at t) read-node.Post
 read-node-same-length-3 t c = c .before .before .before .before .read-nodes .kept .1 .1 .1 .1 .1 .1 .1 .0
 
 read-node-returns-6 : (t : ℕ) → read-node-lts.Need-returns-6 (read-node-calls t) (read-node-at t) read-node.Post
-read-node-returns-6 t c = got-wrong _ _ _ _ _ _ (node-broken _ _ _ _ (seen-as _ _ (c .before .before .before .before .before .before .before .before .t2 .given .1) (c .before .before .before .before .before .before .before .before .before .before .next-symbol .ensures)) (c .before .before .before .before .before .before .if1 .left) (odd-none _ _ _ _ _ _ (gots-as _ _ _ _ _ _ (c .enum-told3 .given .1) (c .before .before .before .before .read-nodes .ensures))))
+read-node-returns-6 t c =
+    let back = c .before .before .before .before .before in
+    got-wrong _ _ _ _ _ _ (node-broken _ _ _ _ (seen-as _ _ (back .before .before .before .t2 .given .1) (back .before .before .before .before .before .next-symbol .ensures)) (back .before .if1 .left) (odd-none _ _ _ _ _ _ (gots-as _ _ _ _ _ _ (c .enum-told3 .given .1) (c .before .before .before .before .read-nodes .ensures))))
 
 read-node-returns-7 : (t : ℕ) → read-node-lts.Need-returns-7 (read-node-calls t) (read-node-at t) read-node.Post
 read-node-returns-7 t c = got-wrong _ _ _ _ _ _ (node-other _ _ _ _ (c .before .next-symbol .ensures) (c .match .keys3))
@@ -152,18 +184,31 @@ read-nodes-enum-known-t t c = c .match2 .keys1
 
 read-nodes-read-nodes-requires : (t : ℕ) → read-nodes-lts.Need-read-nodes-requires (read-nodes-calls t) (read-nodes-at t) read-nodes.Post
 unfolding Seen LengthRead ClosingRead NodeGot NodesGot
-read-nodes-read-nodes-requires t c κs = let p = (got-as _ _ _ _ _ _ (c .before .before .before .before .before .before .one .given .1) (c .before .before .before .before .before .before .before .before .before .before .read-node .ensures)) in let q = (seen-as _ _ (c .before .before .t .given .1) (c .before .before .before .before .next-symbol .ensures)) in (omega arith, (c .before .before .before .before .before .before .before .before .before .before .before .before .before .before .before .pre .1 .0, (q .1 .within, omega (arith, q .1 .past, p .2 .few))))
+read-nodes-read-nodes-requires t c κs =
+    let back = c .before .before .before .before .before in
+    let far = back .before .before .before .before .before in
+    let p = (got-as _ _ _ _ _ _ (back .before .one .given .1) (back .before .before .before .before .before .read-node .ensures)) in let q = (seen-as _ _ (c .before .before .t .given .1) (c .before .before .before .before .next-symbol .ensures)) in (omega arith, (far .before .before .before .before .before .pre .1 .0, (q .1 .within, omega (arith, q .1 .past, p .2 .few))))
 
 read-nodes-enum-known-rest : (t : ℕ) → read-nodes-lts.Need-enum-known-rest (read-nodes-calls t) (read-nodes-at t) read-nodes.Post
 read-nodes-enum-known-rest t c = c .match3 .keys1
 
 read-nodes-join-sums-requires : (t : ℕ) → read-nodes-lts.Need-join-sums-requires (read-nodes-calls t) (read-nodes-at t) read-nodes.Post
 unfolding Seen LengthRead ClosingRead NodeGot NodesGot
-read-nodes-join-sums-requires t c κs = let p = (got-as _ _ _ _ _ _ (c .before .before .before .before .before .before .before .before .before .before .before .before .one .given .1) (c .before .before .before .before .before .before .before .before .before .before .before .before .before .before .before .before .read-node .ensures)) in let l = (gots-as _ _ _ _ _ _ (c .before .rest .given .1) (c .before .before .before .before .before .read-nodes .ensures)) in let r = c .before .before .before .before .before .before .before .before .before .before .before .before .before .before .before .before .before .before .before .before .before .pre .1 .0 in let g = prepared-opening _ _ _ (r .prepared) in (place-small _ g _ (r .places) (p .0) _ (p .2 .placed), place-small _ g _ (r .places) (l .0) _ (l .2 .placed), places-small _ g _ (r .places))
+read-nodes-join-sums-requires t c κs =
+    let back = c .before .before .before .before .before in
+    let far = back .before .before .before .before .before in
+    let first = far .before .before .before .before .before in
+    let start = first .before .before .before .before .before in
+    let p = (got-as _ _ _ _ _ _ (far .before .before .one .given .1) (first .before .read-node .ensures)) in let l = (gots-as _ _ _ _ _ _ (c .before .rest .given .1) (c .before .before .before .before .before .read-nodes .ensures)) in let r = start .before .pre .1 .0 in let g = prepared-opening _ _ _ (r .prepared) in (place-small _ g _ (r .places) (p .0) _ (p .2 .placed), place-small _ g _ (r .places) (l .0) _ (l .2 .placed), places-small _ g _ (r .places))
 
 read-nodes-add-t28 : (t : ℕ) → read-nodes-lts.Need-add-t28 (read-nodes-calls t) (read-nodes-at t) read-nodes.Post
 unfolding Seen LengthRead ClosingRead NodeGot NodesGot
-read-nodes-add-t28 t c = let l = (gots-as _ _ _ _ _ _ (c .before .before .rest .given .1) (c .before .before .before .before .before .before .read-nodes .ensures)) in omega (arith, l .1 .past, l .1 .within, l .3, c .before .before .before .before .before .before .before .before .before .before .before .before .before .before .before .before .before .before .before .before .before .before .pre .1 .0 .short)
+read-nodes-add-t28 t c =
+    let back = c .before .before .before .before .before in
+    let far = back .before .before .before .before .before in
+    let first = far .before .before .before .before .before in
+    let start = first .before .before .before .before .before in
+    let l = (gots-as _ _ _ _ _ _ (c .before .before .rest .given .1) (back .before .read-nodes .ensures)) in omega (arith, l .1 .past, l .1 .within, l .3, start .before .before .pre .1 .0 .short)
 
 read-nodes-enum-told : (t : ℕ) → read-nodes-lts.Need-enum-told (read-nodes-calls t) (read-nodes-at t) read-nodes.Post
 read-nodes-enum-told t c = c .match3 .keys2
@@ -172,22 +217,41 @@ read-nodes-enum-told-2 : (t : ℕ) → read-nodes-lts.Need-enum-told-2 (read-nod
 read-nodes-enum-told-2 t c = c .match .keys2
 
 read-nodes-same-length : (t : ℕ) → read-nodes-lts.Need-same-length (read-nodes-calls t) (read-nodes-at t) read-nodes.Post
-read-nodes-same-length t c = c .before .before .before .before .before .before .read-nodes .kept .1 .1 .1 .1 .1 .1 .1 .0 ∙ c .before .before .before .before .before .before .before .before .before .before .before .before .before .before .before .before .before .read-node .kept .1 .1 .1 .1 .1 .1 .1 .0
+read-nodes-same-length t c =
+    let back = c .before .before .before .before .before in
+    let far = back .before .before .before .before .before in
+    let first = far .before .before .before .before .before in
+    back .before .read-nodes .kept .1 .1 .1 .1 .1 .1 .1 .0 ∙ first .before .before .read-node .kept .1 .1 .1 .1 .1 .1 .1 .0
 
 read-nodes-returns : (t : ℕ) → read-nodes-lts.Need-returns (read-nodes-calls t) (read-nodes-at t) read-nodes.Post
-read-nodes-returns t c = got-more _ _ _ _ _ _ _ _ _ _ _ _ _ _ _ (c .before .before .before .before .before .before .before .before .before .before .before .before .before .before .before .before .before .before .before .before .before .before .pre .1 .0 .places) (got-as _ _ _ _ _ _ (c .before .before .before .before .before .before .before .before .before .before .before .before .before .one .given .1) (c .before .before .before .before .before .before .before .before .before .before .before .before .before .before .before .before .before .read-node .ensures)) (seen-as _ _ (c .before .before .before .before .before .before .before .before .before .t .given .1) (c .before .before .before .before .before .before .before .before .before .before .before .next-symbol .ensures)) (gots-as _ _ _ _ _ _ (c .before .before .rest .given .1) (c .before .before .before .before .before .before .read-nodes .ensures)) (c .join-sums .ensures)
+read-nodes-returns t c =
+    let back = c .before .before .before .before .before in
+    let far = back .before .before .before .before .before in
+    let first = far .before .before .before .before .before in
+    let start = first .before .before .before .before .before in
+    got-more _ _ _ _ _ _ _ _ _ _ _ _ _ _ _ (start .before .before .pre .1 .0 .places) (got-as _ _ _ _ _ _ (far .before .before .before .one .given .1) (first .before .before .read-node .ensures)) (seen-as _ _ (back .before .before .before .before .t .given .1) (far .before .next-symbol .ensures)) (gots-as _ _ _ _ _ _ (c .before .before .rest .given .1) (back .before .read-nodes .ensures)) (c .join-sums .ensures)
 
 read-nodes-same-length-2 : (t : ℕ) → read-nodes-lts.Need-same-length-2 (read-nodes-calls t) (read-nodes-at t) read-nodes.Post
-read-nodes-same-length-2 t c = c .before .before .before .before .read-nodes .kept .1 .1 .1 .1 .1 .1 .1 .0 ∙ c .before .before .before .before .before .before .before .before .before .before .before .before .before .before .before .read-node .kept .1 .1 .1 .1 .1 .1 .1 .0
+read-nodes-same-length-2 t c =
+    let back = c .before .before .before .before .before in
+    let far = back .before .before .before .before .before in
+    c .before .before .before .before .read-nodes .kept .1 .1 .1 .1 .1 .1 .1 .0 ∙ far .before .before .before .before .before .read-node .kept .1 .1 .1 .1 .1 .1 .1 .0
 
 read-nodes-returns-2 : (t : ℕ) → read-nodes-lts.Need-returns-2 (read-nodes-calls t) (read-nodes-at t) read-nodes.Post
-read-nodes-returns-2 t c = let p = taken-is _ _ _ _ _ _ _ _ (got-as _ _ _ _ _ _ (c .before .before .before .before .before .before .before .before .before .before .before .one .given .1) (c .before .before .before .before .before .before .before .before .before .before .before .before .before .before .before .read-node .ensures)) in got-odd _ _ _ _ _ _ (nodes-broken _ _ _ _ _ _ (p .1 .reads) (p .1 .past) (seen-as _ _ (c .before .before .before .before .before .before .before .t .given .1) (c .before .before .before .before .before .before .before .before .before .next-symbol .ensures)) (odd-none _ _ _ _ _ _ (gots-as _ _ _ _ _ _ (c .enum-told .given .1) (c .before .before .before .before .read-nodes .ensures))))
+read-nodes-returns-2 t c =
+    let back = c .before .before .before .before .before in
+    let far = back .before .before .before .before .before in
+    let p = taken-is _ _ _ _ _ _ _ _ (got-as _ _ _ _ _ _ (far .before .one .given .1) (far .before .before .before .before .before .read-node .ensures)) in got-odd _ _ _ _ _ _ (nodes-broken _ _ _ _ _ _ (p .1 .reads) (p .1 .past) (seen-as _ _ (back .before .before .t .given .1) (back .before .before .before .before .next-symbol .ensures)) (odd-none _ _ _ _ _ _ (gots-as _ _ _ _ _ _ (c .enum-told .given .1) (c .before .before .before .before .read-nodes .ensures))))
 
 read-nodes-same-length-3 : (t : ℕ) → read-nodes-lts.Need-same-length-3 (read-nodes-calls t) (read-nodes-at t) read-nodes.Post
-read-nodes-same-length-3 t c = c .before .before .before .before .before .before .before .read-node .kept .1 .1 .1 .1 .1 .1 .1 .0
+read-nodes-same-length-3 t c =
+    let back = c .before .before .before .before .before in
+    back .before .before .read-node .kept .1 .1 .1 .1 .1 .1 .1 .0
 
 read-nodes-returns-3 : (t : ℕ) → read-nodes-lts.Need-returns-3 (read-nodes-calls t) (read-nodes-at t) read-nodes.Post
-read-nodes-returns-3 t c = got-one _ _ _ _ _ _ _ _ _ (got-as _ _ _ _ _ _ (c .before .before .before .one .given .1) (c .before .before .before .before .before .before .before .read-node .ensures)) (c .before .next-symbol .ensures) (c .match2 .keys2)
+read-nodes-returns-3 t c =
+    let back = c .before .before .before .before .before in
+    got-one _ _ _ _ _ _ _ _ _ (got-as _ _ _ _ _ _ (c .before .before .before .one .given .1) (back .before .before .read-node .ensures)) (c .before .next-symbol .ensures) (c .match2 .keys2)
 
 read-nodes-same-length-4 : (t : ℕ) → read-nodes-lts.Need-same-length-4 (read-nodes-calls t) (read-nodes-at t) read-nodes.Post
 read-nodes-same-length-4 t c = c .before .before .before .before .read-node .kept .1 .1 .1 .1 .1 .1 .1 .0

@@ -17,7 +17,8 @@ abbrev μ-loop : tie.MeasureT-loop
 
 loop-again : tie.Need-loop-again Inv-loop μ-loop
 loop-again c =
-    let d = c .before .before .before .before .before .before .before .before .before .before in
+    let back = c .before .before .before .before .before in
+    let d = back .before .before .before .before .before in
     let v = c .before .before .before .before .before .loop .inv .1 in
     let f = rw (c .before .before .mask-of .ensures) at (c .before .find-row .ensures) in
     ⊎-elim
@@ -27,21 +28,26 @@ loop-again c =
 
 returns : tie.Need-returns Inv-loop μ-loop
 returns c =
-    let d = c .before .before .before .before .before .before in
+    let back = c .before .before .before .before .before in
+    let d = back .before in
     let e : c .before .loop .j ≡ d .args .n = omega arith in
     let f = c .before .loop .inv .1 in
     (record { reach = omega (arith, f .same-length, d .pre .1 .1); each = rw e at (f .each) }, rw e at (f .counted))
 
 few-new : tie.Need-add-rows Inv-loop μ-loop
 few-new c =
-    let d = c .before .before .before .before .before .before .before .before .before .before .before in
-    let l = c .before .before .before .before .before .before .loop in
+    let back = c .before .before .before .before .before in
+    let far = back .before .before .before .before .before in
+    let d = far .before in
+    let l = back .before .loop in
     omega (arith, d .pre .1 .0 .few, l .inv .1 .counted, new-most (partsAt (d .args .s .now)) (d .args .records .now) (l .j))
 
 few-more : tie.Need-add-new Inv-loop μ-loop
 few-more c =
-    let d = c .before .before .before .before .before .before .before .before .before .before .before in
-    let l = c .before .before .before .before .before .before .loop in
+    let back = c .before .before .before .before .before in
+    let far = back .before .before .before .before .before in
+    let d = far .before in
+    let l = back .before .loop in
     omega (arith, d .pre .1 .0 .few, l .inv .1 .counted, new-most (partsAt (d .args .s .now)) (d .args .records .now) (l .j))
 
 pub find-rows-spec : {M : Type 1} → statement M
@@ -52,18 +58,18 @@ find-rows-spec =
     μ-loop
     (λ c κs. whole-at-facts _ (c .before .before .before .pre .0) .head .head-there)
     (λ c. (omega arith, filled-none _ _ _))
-    (λ c κs. omega (arith, c .before .before .before .before .before .before .pre .1 .0 .reach))
-    (λ c κs. omega (arith, c .before .before .before .before .before .before .before .pre .1 .0 .reach))
-    (λ c κs. let p = c .before .before .before .before .before .before .before .before .pre in (p .0, rw (c .before .place-of .ensures, c .mask-of .ensures) (p .1 .0 .placed _ (omega arith))))
+    (λ c κs. let back = c .before .before .before .before .before in omega (arith, back .before .pre .1 .0 .reach))
+    (λ c κs. let back = c .before .before .before .before .before in omega (arith, back .before .before .pre .1 .0 .reach))
+    (λ c κs. let back = c .before .before .before .before .before in let p = back .before .before .before .pre in (p .0, rw (c .before .place-of .ensures, c .mask-of .ensures) (p .1 .0 .placed _ (omega arith))))
     (λ c. c .match .keys1)
-    (λ c. omega (arith, c .before .before .before .before .before .before .before .before .before .before .before .before .pre .1 .0 .few))
+    (λ c. let back = c .before .before .before .before .before in let far = back .before .before .before .before .before in omega (arith, far .before .before .pre .1 .0 .few))
     (λ c. omega arith)
     (λ c. c .match .keys2)
     few-new
-    (λ c. omega (arith, c .before .before .before .before .before .before .before .before .before .before .before .pre .1 .0 .few))
+    (λ c. let back = c .before .before .before .before .before in let far = back .before .before .before .before .before in omega (arith, far .before .pre .1 .0 .few))
     (λ c. omega arith)
     few-more
-    (λ c. omega (arith, c .before .before .before .before .before .before .before .before .before .before .pre .1 .0 .few))
+    (λ c. let back = c .before .before .before .before .before in omega (arith, back .before .before .before .before .before .pre .1 .0 .few))
     (λ c. omega arith)
     loop-again
     (λ c. c .before .loop .inv .1 .same-length)

@@ -68,7 +68,8 @@ tree-from-requires c κs =
 
 loop-holds : tie.Need-loop-holds Inv-loop μ-loop
 loop-holds c =
-    let p = c .before .before .before .before .before .before .before .before .pre in
+    let back = c .before .before .before .before .before in
+    let p = back .before .before .before .pre in
     let e = c .before .before .before .before .trees-held .ensures in
     let z = room-is _ (p .0 .0) (p .1 .0) in (
       record {
@@ -88,25 +89,31 @@ mul-at : tie.Need-mul-at Inv-loop μ-loop
 mul-at c =
     let l = c .before .before .loop in
     let x = fits (l .inv .0) (l .j) (l .s) (l .inv .2) (omega arith) in
-    omega (arith, c .before .before .before .before .before .before .before .before .before .before .before .good .0, x .1)
+    let back = c .before .before .before .before .before in
+    let far = back .before .before .before .before .before in
+    omega (arith, far .before .good .0, x .1)
 
 add-at : tie.Need-add-at Inv-loop μ-loop
 add-at c =
     let l = c .before .before .loop in
     let x = fits (l .inv .0) (l .j) (l .s) (l .inv .2) (omega arith) in
-    omega (arith, c .before .before .before .before .before .before .before .before .before .before .before .good .0, x .1)
+    let back = c .before .before .before .before .before in
+    let far = back .before .before .before .before .before in
+    omega (arith, far .before .good .0, x .1)
 
 add-put16 : tie.Need-add-put16 Inv-loop μ-loop
 add-put16 c =
     let b = c .before .before .before in
     let l = b .loop in
-    omega (arith, b .before .before .before .before .before .before .before .before .before .good .0, inside (l .inv .0) (l .j) (l .s) (l .inv .2))
+    let back = b .before .before .before .before .before in
+    omega (arith, back .before .before .before .before .good .0, inside (l .inv .0) (l .j) (l .s) (l .inv .2))
 
 add-put16-2 : tie.Need-add-put16-2 Inv-loop μ-loop
 add-put16-2 c =
     let b = c .before .before .before in
     let l = b .loop in
-    omega (arith, b .before .before .before .before .before .before .before .before .before .good .0, inside (l .inv .0) (l .j) (l .s) (l .inv .2))
+    let back = b .before .before .before .before .before in
+    omega (arith, back .before .before .before .before .good .0, inside (l .inv .0) (l .j) (l .s) (l .inv .2))
 
 cast-put16 : tie.Need-cast-put16 Inv-loop μ-loop
 cast-put16 c =
@@ -121,19 +128,22 @@ put16-requires c κs =
 
 get32-requires : tie.Need-get32-requires Inv-loop μ-loop
 get32-requires c κs =
-    let l = c .before .before .before .before .before .before .before .before .loop in
+    let back = c .before .before .before .before .before in
+    let l = back .before .before .before .loop in
     let x = written (l .inv .0) (l .j) (l .s) (l .inv .2) (omega arith) _ (c .before .before .before .before .put16 .ensures) in
     x .0
 
 add-put32 : tie.Need-add-put32 Inv-loop μ-loop
 add-put32 c =
-    let l = c .before .before .before .before .before .before .before .before .before .loop in
+    let back = c .before .before .before .before .before in
+    let l = back .before .before .before .before .loop in
     let x = written (l .inv .0) (l .j) (l .s) (l .inv .2) (omega arith) _ (c .before .before .before .before .before .put16 .ensures) in
     omega (arith, c .get32 .ensures, x .1)
 
 put32-requires : tie.Need-put32-requires Inv-loop μ-loop
 put32-requires c κs =
-    let l = c .before .before .before .before .before .before .before .before .before .loop in
+    let back = c .before .before .before .before .before in
+    let l = back .before .before .before .before .loop in
     let x = written (l .inv .0) (l .j) (l .s) (l .inv .2) (omega arith) _ (c .before .before .before .before .before .put16 .ensures) in
     x .0
 
@@ -152,25 +162,31 @@ put16-requires-2 c κs =
 
 few : tie.Need-add-put16-3 Inv-loop μ-loop
 few c =
-    let g = c .before .before .before .before .before .before .loop .inv .0 in
+    let back = c .before .before .before .before .before in
+    let g = back .before .loop .inv .0 in
     omega (arith, g .trees-is, g .room .few)
 
 few-2 : tie.Need-cast-put16-3 Inv-loop μ-loop
 few-2 c =
-    let g = c .before .before .before .before .before .before .loop .inv .0 in
+    let back = c .before .before .before .before .before in
+    let g = back .before .loop .inv .0 in
     omega (arith, g .trees-is, g .room .few)
 
 put16-requires-3 : tie.Need-put16-requires-3 Inv-loop μ-loop
 put16-requires-3 c κs =
-    let l = c .before .before .before .before .before .before .loop in
+    let back = c .before .before .before .before .before in
+    let l = back .before .loop in
     let e = ap (λ (x : List ℕ). length x) (c .before .before .before .put162 .ensures) ∙ put-length 2 (l .s) _ _ in
     omega (arith, e, inside (l .inv .0) (l .j) (l .s) (l .inv .2))
 
 returns : tie.Need-returns Inv-loop μ-loop
 returns c =
-    let w = c .before .before .before .before .before .before in
+    let back = c .before .before .before .before .before in
+    let w = back .before in
     let l = w .before .before .before .loop in
-    let b = w .before .before .before .before .before .before .before .before .before .before .before in
+    let back′ = w .before .before .before .before .before in
+    let far = back′ .before .before .before .before .before in
+    let b = far .before in
     let g = l .inv .0 in
     let m = length-take-le (b .before .args .n) (b .before .args .rows .now) (g .long) in
     let k : l .j ≡ length (take (b .before .args .n) (b .before .args .rows .now)) = omega arith in
@@ -186,7 +202,7 @@ list-tree-spec =
     μ-loop
     (λ c κs. c .before .before .before .pre .0 .0 .head-there)
     tree-from-requires
-    (λ c κs. c .before .before .before .before .before .before .before .pre .0 .0 .head-there)
+    (λ c κs. let back = c .before .before .before .before .before in back .before .before .pre .0 .0 .head-there)
     loop-holds
     (λ c. omega arith)
     (λ c. omega arith)

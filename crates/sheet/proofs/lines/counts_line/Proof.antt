@@ -9,11 +9,15 @@ use Rattle.sheet.proofs.lines.counts_line.Tie as tie
 returns : tie.Need-returns
 returns c =
     let e = c .before .before .put-end .ensures in
-    let u = c .before .before .before .before .before .before .put-counted4 .ensures in
-    let t = c .before .before .before .before .before .before .before .before .before .before .before .put-counted3 .ensures in
-    let q = c .before .before .before .before .before .before .before .before .before .before .before .before .before .before .before .before .put-counted2 .ensures in
-    let p = c .before .before .before .before .before .before .before .before .before .before .before .before .before .before .before .before .before .before .before .before .before .put-counted .ensures in
-    let n = c .before .before .before .before .before .before .before .before .before .before .before .before .before .before .before .before .before .before .before .before .before .before .before .before in (
+    let back = c .before .before .before .before .before in
+    let u = back .before .put-counted4 .ensures in
+    let far = back .before .before .before .before .before in
+    let t = far .before .put-counted3 .ensures in
+    let first = far .before .before .before .before .before in
+    let q = first .before .put-counted2 .ensures in
+    let start = first .before .before .before .before .before in
+    let p = start .before .put-counted .ensures in
+    let n = start .before .before .before .before in (
       counts-put _ (n .before .before .before .before .before .pre) _ _ _ _ (n .before .before .taxa .ensures .0) (n .before .trees-held .ensures) (n .splits-held .ensures .0) (p .0) (q .0) (t .0) (u .0) e,
       omega (arith, p .1 .0, q .1 .0, t .1 .0, u .1 .0, e .ends),
     )

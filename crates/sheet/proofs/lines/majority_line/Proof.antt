@@ -12,14 +12,17 @@ tree-line-requires : tie.Need-tree-line-requires
 unfolding bytes
 tree-line-requires c κs =
     let m = c .before .before .before .before .majority .ensures in
-    majority-shown _ (c .before .before .before .before .before .before .before .before .pre) (replicate 2240 0) _ _ (m .0) (m .1) (omega (arith, length-replicate {A = ℕ} 2240 0))
+    let back = c .before .before .before .before .before in
+    majority-shown _ (back .before .before .before .pre) (replicate 2240 0) _ _ (m .0) (m .1) (omega (arith, length-replicate {A = ℕ} 2240 0))
 
 returns : tie.Need-returns
 unfolding bytes
 returns c =
-    let m = c .before .before .before .before .before .before .before .majority .ensures in
+    let back = c .before .before .before .before .before in
+    let m = back .before .before .majority .ensures in
     let t = c .before .before .tree-line .ensures in
-    (majority-put _ (c .before .before .before .before .before .before .before .before .before .before .before .pre) (replicate 2240 0) _ _ (m .0) (m .1) (omega (arith, length-replicate {A = ℕ} 2240 0)) (t .0), t .1)
+    let far = back .before .before .before .before .before in
+    (majority-put _ (far .before .pre) (replicate 2240 0) _ _ (m .0) (m .1) (omega (arith, length-replicate {A = ℕ} 2240 0)) (t .0), t .1)
 
 pub majority-line-spec : {M : Type 1} → statement M
 majority-line-spec =

@@ -10,19 +10,22 @@ use Rattle.sheet.proofs.lines.put_answer.Tie as tie
 slice-aggregate-put-word : tie.Need-slice-aggregate-put-word
 slice-aggregate-put-word c =
     let a = c .before .before .before .answer .given .1 in
-    let h = shown-fits _ _ _ _ a (c .before .before .before .before .before .before .before .pre .0) in
+    let back = c .before .before .before .before .before in
+    let h = shown-fits _ _ _ _ a (back .before .before .pre .0) in
     simp length-take (omega arith)
 
 put-word-requires : tie.Need-put-word-requires
 put-word-requires c κs =
     let a = c .before .before .before .answer .given .1 in
-    let h = shown-fits _ _ _ _ a (c .before .before .before .before .before .before .before .pre .0) in
-    simp length-take (omega (arith, c .before .before .before .before .before .before .before .pre .1))
+    let back = c .before .before .before .before .before in
+    let h = shown-fits _ _ _ _ a (back .before .before .pre .0) in
+    simp length-take (omega (arith, back .before .before .pre .1))
 
 returns : tie.Need-returns
 returns c =
-    let a = c .before .before .before .before .before .before .answer .given .1 in
-    let h = shown-fits _ _ _ _ a (c .before .before .before .before .before .before .before .before .before .before .pre .0) in
+    let back = c .before .before .before .before .before in
+    let a = back .before .answer .given .1 in
+    let h = shown-fits _ _ _ _ a (back .before .before .before .before .before .pre .0) in
     let p = c .before .before .put-word .ensures in
     (answer-given _ _ _ a p, omega (arith, simp length-take at (p .ends)))
 

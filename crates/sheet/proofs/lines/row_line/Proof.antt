@@ -23,24 +23,30 @@ abbrev μ-loop : tie.MeasureT-loop
 loop-holds : tie.Need-loop-holds Inv-loop μ-loop
 loop-holds c =
     let n = c .before .before .before .before .before .trees-held .ensures in
-    let p = c .before .before .before .before .before .before .before .before .pre in
+    let back = c .before .before .before .before .before in
+    let p = back .before .before .before .pre in
     (refl, omega arith, omega (arith, n, p .1), n, omega (arith, c .before .before .put-number .ensures .1 .1 (omega arith)), row-none _ _ _ _)
 
 put-counted-requires : tie.Need-put-counted-requires Inv-loop μ-loop
 put-counted-requires c κs =
     let l = c .before .before .before .before .loop in
-    let w = c .before .before .before .before .before .before .before .before .before .before .before .before .before .pre in
+    let back = c .before .before .before .before .before in
+    let far = back .before .before .before .before .before in
+    let w = far .before .before .before .pre in
     omega (arith, l .inv .2, l .inv .3, l .inv .4, trees-few _ (whole-at-facts _ (w .0) .head))
 
 put-end-requires : tie.Need-put-end-requires Inv-loop μ-loop
 put-end-requires c κs =
     let l = c .before .before .loop in
-    let w = c .before .before .before .before .before .before .before .before .before .before .before .pre in
+    let back = c .before .before .before .before .before in
+    let far = back .before .before .before .before .before in
+    let w = far .before .pre in
     omega (arith, l .inv .2, l .inv .3, l .inv .4, trees-few _ (whole-at-facts _ (w .0) .head))
 
 loop-again : tie.Need-loop-again Inv-loop μ-loop
 loop-again c =
-    let l = c .before .before .before .before .before .before .before .loop in
+    let back = c .before .before .before .before .before in
+    let l = back .before .before .loop in
     let q = c .before .before .put-counted .ensures in
     let d = c .before .before .before .before .before .doubled2 in
     let b = q .1 .1 (omega arith) in
@@ -50,10 +56,12 @@ returns : tie.Need-returns Inv-loop μ-loop
 returns c =
     let e = c .before .before .put-end .ensures in
     let l = c .before .before .before .before .before .loop in
-    let p = c .before .before .before .before .before .before .before .before .put-number .ensures in
-    let w = c .before .before .before .before .before .before .before .before .before .before .before .before .before .before .pre in
-    let n : l .j ≡ treesHeldAt (c .before .before .before .before .before .before .before .before .before .before .before .before .before .before .args .s .now) = omega (arith, l .inv .2, l .inv .3) in
-    (row-put _ _ _ _ n (l .inv .1) (c .before .before .before .before .before .before .before .before .before .before .doubled .ensures) (p .0) (l .inv .5) e, omega (arith, n, trees-few _ (whole-at-facts _ (w .0) .head), l .inv .4, e .ends))
+    let back = c .before .before .before .before .before in
+    let p = back .before .before .before .put-number .ensures in
+    let far = back .before .before .before .before .before in
+    let w = far .before .before .before .before .pre in
+    let n : l .j ≡ treesHeldAt (far .before .before .before .before .args .s .now) = omega (arith, l .inv .2, l .inv .3) in
+    (row-put _ _ _ _ n (l .inv .1) (back .before .before .before .before .before .doubled .ensures) (p .0) (l .inv .5) e, omega (arith, n, trees-few _ (whole-at-facts _ (w .0) .head), l .inv .4, e .ends))
 
 pub row-line-spec : {M : Type 1} → statement M
 row-line-spec =
@@ -66,7 +74,7 @@ row-line-spec =
     (λ c. search needs)
     (λ c κs. omega arith)
     loop-holds
-    (λ c κs. (c .before .before .before .before .before .before .before .before .before .before .pre .0, (c .before .before .before .before .before .before .before .before .before .before .pre .1, omega (arith, c .before .loop .inv))))
+    (λ c κs. let back = c .before .before .before .before .before in (back .before .before .before .before .before .pre .0, (back .before .before .before .before .before .pre .1, omega (arith, c .before .loop .inv))))
     (λ c. search needs)
     (λ c. search needs)
     put-counted-requires

@@ -10,9 +10,11 @@ use Rattle.sheet.proofs.lines.split_line.Tie as tie
 returns : tie.Need-returns
 returns c =
     let e = c .before .before .put-end .ensures in
-    let q = c .before .before .before .before .before .before .put-counted .ensures in
-    let p = c .before .before .before .before .before .before .before .before .before .before .before .put-number .ensures in
-    let n = c .before .before .before .before .before .before .before .before .before .before .before .before .before in
+    let back = c .before .before .before .before .before in
+    let q = back .before .put-counted .ensures in
+    let far = back .before .before .before .before .before in
+    let p = far .before .put-number .ensures in
+    let n = far .before .before .before in
     let r = n .before .before in (
       split-put _ (r .before .before .before .pre .0) _ _ _ _ (r .before .before .before .pre .1) (r .row-of .ensures) (n .before .mask-at .ensures) (n .count-at .ensures) (p .0) (q .0) e,
       omega (arith, p .1 .0, q .1 .0, e .ends),

@@ -12,14 +12,17 @@ tree-line-requires : tie.Need-tree-line-requires
 unfolding bytes
 tree-line-requires c κs =
     let m = c .before .before .before .before .strict .ensures in
-    strict-shown _ (c .before .before .before .before .before .before .before .before .pre) (replicate 2240 0) _ _ (m .0) (m .1) (omega (arith, length-replicate {A = ℕ} 2240 0))
+    let back = c .before .before .before .before .before in
+    strict-shown _ (back .before .before .before .pre) (replicate 2240 0) _ _ (m .0) (m .1) (omega (arith, length-replicate {A = ℕ} 2240 0))
 
 returns : tie.Need-returns
 unfolding bytes
 returns c =
-    let m = c .before .before .before .before .before .before .before .strict .ensures in
+    let back = c .before .before .before .before .before in
+    let m = back .before .before .strict .ensures in
     let t = c .before .before .tree-line .ensures in
-    (strict-put _ (c .before .before .before .before .before .before .before .before .before .before .before .pre) (replicate 2240 0) _ _ (m .0) (m .1) (omega (arith, length-replicate {A = ℕ} 2240 0)) (t .0), t .1)
+    let far = back .before .before .before .before .before in
+    (strict-put _ (far .before .pre) (replicate 2240 0) _ _ (m .0) (m .1) (omega (arith, length-replicate {A = ℕ} 2240 0)) (t .0), t .1)
 
 pub strict-line-spec : {M : Type 1} → statement M
 strict-line-spec =

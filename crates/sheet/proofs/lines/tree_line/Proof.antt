@@ -11,19 +11,24 @@ put-word-requires c κs = omega (arith, shown-word _ _ _ (c .before .before .bef
 
 put-answer-requires : tie.Need-put-answer-requires
 put-answer-requires c κs =
-    let h = c .before .before .before .before .before .before .before .before .pre in
+    let back = c .before .before .before .before .before in
+    let h = back .before .before .before .pre in
     (shown-alone _ _ _ h, omega (arith, shown-word _ _ _ h, c .before .before .before .put-word .ensures .ends))
 
 put-end-requires : tie.Need-put-end-requires
 put-end-requires c κs =
-    omega (arith, shown-word _ _ _ (c .before .before .before .before .before .before .before .before .before .before .before .before .pre), c .before .before .before .before .before .before .before .put-word .ensures .ends, c .before .before .before .put-answer .ensures .1)
+    let back = c .before .before .before .before .before in
+    let far = back .before .before .before .before .before in
+    omega (arith, shown-word _ _ _ (far .before .before .pre), back .before .before .put-word .ensures .ends, c .before .before .before .put-answer .ensures .1)
 
 returns : tie.Need-returns
 returns c =
     let e = c .before .before .put-end .ensures in
-    let a = c .before .before .before .before .before .before .put-answer .ensures in
-    let p = c .before .before .before .before .before .before .before .before .before .before .put-word .ensures in
-    (put-then p (put-then (a .0) e), omega (arith, shown-word _ _ _ (c .before .before .before .before .before .before .before .before .before .before .before .before .before .before .before .pre), p .ends, a .1, e .ends))
+    let back = c .before .before .before .before .before in
+    let a = back .before .put-answer .ensures in
+    let p = back .before .before .before .before .before .put-word .ensures in
+    let far = back .before .before .before .before .before in
+    (put-then p (put-then (a .0) e), omega (arith, shown-word _ _ _ (far .before .before .before .before .before .pre), p .ends, a .1, e .ends))
 
 pub tree-line-spec : {M : Type 1} → statement M
 tree-line-spec =

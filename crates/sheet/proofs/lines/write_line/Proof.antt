@@ -12,30 +12,40 @@ use Rattle.sheet.proofs.lines.write_line.Tie as tie
 returns : tie.Need-returns
 returns c =
     let p = c .before .before .counts-line .ensures in
-    (put-as (line-counts _ (c .before .before .before .before .before .before .before .before .before .pre .0) _ _ (c .before .before .before .before .if1 .taken)) (p .0), p .1)
+    let back = c .before .before .before .before .before in
+    (put-as (line-counts _ (back .before .before .before .before .pre .0) _ _ (c .before .before .before .before .if1 .taken)) (p .0), p .1)
 
 returns-2 : tie.Need-returns-2
 returns-2 c =
     let p = c .before .before .split-line .ensures in
-    (put-as (line-split _ (c .before .before .before .before .before .before .before .before .before .before .pre .0) _ _ (c .before .before .before .before .before .if1 .left) (omega (arith, c .before .before .before .before .before .before .before .splits-held .ensures .0))) (p .0), p .1)
+    let back = c .before .before .before .before .before in
+    (put-as (line-split _ (back .before .before .before .before .before .pre .0) _ _ (c .before .before .before .before .before .if1 .left) (omega (arith, back .before .before .splits-held .ensures .0))) (p .0), p .1)
 
 add-if3 : tie.Need-add-if3
-add-if3 c = omega (arith, c .before .before .before .splits-held .ensures .1, c .before .before .trees-held .ensures, trees-few _ (whole-at-facts _ (c .before .before .before .before .before .before .pre .0) .head))
+add-if3 c =
+    let back = c .before .before .before .before .before in
+    omega (arith, c .before .before .before .splits-held .ensures .1, c .before .before .trees-held .ensures, trees-few _ (whole-at-facts _ (back .before .pre .0) .head))
 
 returns-3 : tie.Need-returns-3
 returns-3 c =
     let p = c .before .before .row-line .ensures in
-    (put-as (line-row _ (c .before .before .before .before .before .before .before .before .before .before .before .pre .0) _ _ _ (c .before .before .before .before .before .before .before .before .splits-held .ensures .0) (omega arith) (omega (arith, c .before .before .before .before .before .before .before .trees-held .ensures))) (p .0), p .1)
+    let back = c .before .before .before .before .before in
+    let far = back .before .before .before .before .before in
+    (put-as (line-row _ (far .before .pre .0) _ _ _ (back .before .before .before .splits-held .ensures .0) (omega arith) (omega (arith, back .before .before .trees-held .ensures))) (p .0), p .1)
 
 returns-4 : tie.Need-returns-4
 returns-4 c =
     let p = c .before .before .majority-line .ensures in
-    (put-as (line-majority _ (c .before .before .before .before .before .before .before .before .before .before .before .before .pre .0) _ _ (omega (arith, c .before .before .before .before .if4 .taken, c .before .before .before .before .before .before .before .before .before .splits-held .ensures .0, c .before .before .before .before .before .before .before .before .trees-held .ensures))) (p .0), p .1)
+    let back = c .before .before .before .before .before in
+    let far = back .before .before .before .before .before in
+    (put-as (line-majority _ (far .before .before .pre .0) _ _ (omega (arith, c .before .before .before .before .if4 .taken, back .before .before .before .before .splits-held .ensures .0, back .before .before .before .trees-held .ensures))) (p .0), p .1)
 
 returns-5 : tie.Need-returns-5
 returns-5 c =
     let p = c .before .before .strict-line .ensures in
-    (put-as (line-strict _ (c .before .before .before .before .before .before .before .before .before .before .before .before .pre .0) _ _ (omega (arith, c .before .before .before .before .if4 .left, c .before .before .before .before .before .before .before .before .before .splits-held .ensures .0, c .before .before .before .before .before .before .before .before .trees-held .ensures, c .before .before .before .before .before .before .before .before .before .before .before .before .pre .1))) (p .0), p .1)
+    let back = c .before .before .before .before .before in
+    let far = back .before .before .before .before .before in
+    (put-as (line-strict _ (far .before .before .pre .0) _ _ (omega (arith, c .before .before .before .before .if4 .left, back .before .before .before .before .splits-held .ensures .0, back .before .before .before .trees-held .ensures, far .before .before .pre .1))) (p .0), p .1)
 
 pub write-line-spec : {M : Type 1} → statement M
 write-line-spec =

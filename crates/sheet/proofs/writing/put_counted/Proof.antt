@@ -7,7 +7,8 @@ use Rattle.sheet.proofs.writing.put_counted.Tie as tie
 
 returns : tie.Need-returns
 returns c =
-    let w = c .before .before .before .before .before .before .put-word .ensures in
+    let back = c .before .before .before .before .before in
+    let w = back .before .put-word .ensures in
     let n = c .before .before .put-number .ensures in
     (put-then w (n .0), counted-ends _ _ _ _ _ _ _ w (n .1))
 

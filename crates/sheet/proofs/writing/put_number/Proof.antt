@@ -16,7 +16,8 @@ returns : tie.Need-returns
 returns c =
     let d = c .before .before .before .before .before .decimal .ensures in
     let p = c .before .before .put-word .ensures in
-    let a = c .before .before .before .before .before .before .before .before in
+    let back = c .before .before .before .before .before in
+    let a = back .before .before .before in
     (number-put _ _ _ _ _ _ _ (d .1 .0) (d .0 .1) (d .1 .1) p, number-ends _ _ _ _ _ _ _ (d .1 .0) (d .0 .1) (d .1 .1) p (omega arith))
 
 pub put-number-spec : {M : Type 1} → statement M

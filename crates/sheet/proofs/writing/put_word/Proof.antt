@@ -18,8 +18,9 @@ abbrev μ-loop : tie.MeasureT-loop
 
 loop-again : tie.Need-loop-again Inv-loop μ-loop
 loop-again c =
-    let l = c .before .before .before .before .before .before .loop in
-    let a = c .before .before .before .before .before .before .before .before .before .args in
+    let back = c .before .before .before .before .before in
+    let l = back .before .loop in
+    let a = back .before .before .before .before .args in
     let e : l .i ≡ 0 + l .i = omega arith in
     (omega arith, refl, c .before .before .put-byte .ensures ∙ copied-end (a .out .now) (a .at) (a .word .now) 0 (l .i) (l .inv .2) (ap (λ (k : ℕ). getD (a .word .now) k 0) e) (omega arith))
 

@@ -19,7 +19,8 @@ abbrev μ-loop : tie.MeasureT-loop
 
 returns : tie.Need-returns Inv-loop μ-loop
 returns c =
-    let s = c .before .before .before .before .before .before .args .s .now in
+    let back = c .before .before .before .before .before in
+    let s = back .before .args .s .now in
     let l = c .before .before .before .loop in
     let n = names-length s in
     let e = ap (λ w. inNames w (drop (l .i + 1) (namesAt s))) (names-at s (l .i) (omega arith)) ∙ sym (c .before .comes-again .ensures) ∙ c .if1 .taken in
@@ -27,7 +28,8 @@ returns c =
 
 loop-again : tie.Need-loop-again Inv-loop μ-loop
 loop-again c =
-    let s = c .before .before .before .before .before .before .args .s .now in
+    let back = c .before .before .before .before .before in
+    let s = back .before .args .s .now in
     let l = c .before .before .before .loop in
     let n = names-length s in
     let e = ap (λ w. inNames w (drop (l .i + 1) (namesAt s))) (names-at s (l .i) (omega arith)) ∙ sym (c .before .comes-again .ensures) ∙ c .if1 .left in

@@ -21,7 +21,8 @@ abbrev μ-loop : tie.MeasureT-loop
 
 returns : tie.Need-returns Inv-loop μ-loop
 returns c =
-    let a = c .before .before .before .before .before .before .args in
+    let back = c .before .before .before .before .before in
+    let a = back .before .args in
     let l = c .before .before .before .loop in
     let n = names-length (a .s .now) in
     let w = nameAt (a .s .now) (a .i) in
@@ -30,7 +31,8 @@ returns c =
 
 loop-again : tie.Need-loop-again Inv-loop μ-loop
 loop-again c =
-    let a = c .before .before .before .before .before .before .args in
+    let back = c .before .before .before .before .before in
+    let a = back .before .args in
     let l = c .before .before .before .loop in
     let n = names-length (a .s .now) in
     let w = nameAt (a .s .now) (a .i) in

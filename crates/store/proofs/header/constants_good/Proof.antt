@@ -24,7 +24,8 @@ abbrev μ-loop : tie.MeasureT-loop
 
 returns : tie.Need-returns Inv-loop μ-loop
 returns c =
-    let k = c .before .before .before .before .before .before in
+    let back = c .before .before .before .before .before in
+    let k = back .before in
     let s = k .before .args .s .now in
     let l = c .before .before .before .loop in
     let n = first-length s in
@@ -35,7 +36,8 @@ returns c =
 
 loop-again : tie.Need-loop-again Inv-loop μ-loop
 loop-again c =
-    let s = c .before .before .before .before .before .before .before .args .s .now in
+    let back = c .before .before .before .before .before in
+    let s = back .before .before .args .s .now in
     let l = c .before .before .before .loop in
     let n = first-length s in
     let e = first-at s (l .i) (omega arith) ∙ sym (c .before .first-constant .ensures .0) in (

@@ -26,7 +26,8 @@ returns-4 c =
 
 returns-5 : tie.Need-returns-5
 returns-5 c =
-    let d = c .before .before .before .before .before .before .before in
+    let back = c .before .before .before .before .before in
+    let d = back .before .before in
     let b = passed _ _ (d .before .opening-good .ensures) (d .if2 .left) in
     rw (c .before .splits-held .ensures .0, c .split-room .ensures .0)
     (sym (head-splits _ (omega arith) b (omega arith) (omega arith)))

@@ -9,16 +9,18 @@ use Rattle.store.proofs.header.store_size.Tie as tie
 
 store-size-requires : tie.Need-store-size-requires
 store-size-requires p κs =
-    let e = numbers-read (p .before .before .before .before .before .before .args .s .now) _ _ _ _ _
+    let back = p .before .before .before .before .before in
+    let e = numbers-read (back .before .args .s .now) _ _ _ _ _
     (p .before .before .before .before .taxa .ensures .0) (p .before .before .before .lanes .ensures .0)
     (p .before .before .tree-room .ensures .0) (p .before .split-room .ensures .0) (p .places .ensures .0) in
-    ap inRange e ∙ p .before .before .before .before .before .before .pre .1
+    ap inRange e ∙ back .before .pre .1
 
 returns : tie.Need-returns
 unfolding sizeAt
 returns c =
     let p = c .before in
-    let e = numbers-read (p .before .before .before .before .before .before .args .s .now) _ _ _ _ _
+    let back = p .before .before .before .before .before in
+    let e = numbers-read (back .before .args .s .now) _ _ _ _ _
     (p .before .before .before .before .taxa .ensures .0) (p .before .before .before .lanes .ensures .0)
     (p .before .before .tree-room .ensures .0) (p .before .split-room .ensures .0) (p .places .ensures .0) in
     c .store-size .ensures ∙ ap storeSize e

@@ -38,21 +38,27 @@ recorded s i j k h g l e =
     (omega (arith, e, r), omega (arith, e, r, splits-few s h))
 
 inside : tie.Need-element-copy-out-counts Inv-loop μ-loop
-inside c = let p = c .before .before .before .before .before .before .pre in recorded _ _ (c .before .before .loop .j) _ (p .0) (p .1 .1 .0) (omega arith) (c .row-in .ensures) .1
+inside c =
+    let back = c .before .before .before .before .before in
+    let p = back .before .pre in recorded _ _ (c .before .before .loop .j) _ (p .0) (p .1 .1 .0) (omega arith) (c .row-in .ensures) .1
 
 few : tie.Need-add-counts Inv-loop μ-loop
 few c =
-    let p = c .before .before .before .before .before .before .before .pre in
+    let back = c .before .before .before .before .before in
+    let p = back .before .before .pre in
     let l = c .before .before .before .loop in
     let r = recorded _ _ (l .j) _ (p .0) (p .1 .1 .0) (omega arith) (c .before .row-in .ensures) in
     omega (arith, part-most _ _ (p .1 .0) _ _ (l .inv .3) _ (r .0), p .1 .0, trees-few _ (p .0))
 
 inside-2 : tie.Need-element-write-counts Inv-loop μ-loop
-inside-2 c = let p = c .before .before .before .before .before .before .before .pre in recorded _ _ (c .before .before .before .loop .j) _ (p .0) (p .1 .1 .0) (omega arith) (c .before .row-in .ensures) .1
+inside-2 c =
+    let back = c .before .before .before .before .before in
+    let p = back .before .before .pre in recorded _ _ (c .before .before .before .loop .j) _ (p .0) (p .1 .1 .0) (omega arith) (c .before .row-in .ensures) .1
 
 loop-again : tie.Need-loop-again Inv-loop μ-loop
 loop-again c =
-    let p = c .before .before .before .before .before .before .before .pre in
+    let back = c .before .before .before .before .before in
+    let p = back .before .before .pre in
     let l = c .before .before .before .loop in
     let x = c .before .row-in .ensures in
     let r = recorded _ _ (l .j) _ (p .0) (p .1 .1 .0) (omega arith) x in (

@@ -29,14 +29,16 @@ returns c =
 
 returns-2 : tie.Need-returns-2 Inv-loop μ-loop
 returns-2 c =
-    let l = c .before .before .before .before .before .before .loop in
-    let e = c .before .before .before .before .before .before .before .before .before .pre .1 .entries (l .k) (omega arith) in
+    let back = c .before .before .before .before .before in
+    let l = back .before .loop in
+    let e = back .before .before .before .before .pre .1 .entries (l .k) (omega arith) in
     sym (all-fails (goodCount _) _ (l .k) (omega arith) (count-wrong _ _ _ (c .before .before .before .before .count-at .ensures) (λ q. c .if2 .taken (omega arith))))
 
 loop-again : tie.Need-loop-again Inv-loop μ-loop
 loop-again c =
-    let l = c .before .before .before .before .before .before .loop in
-    let e = c .before .before .before .before .before .before .before .before .before .pre .1 .entries (l .k) (omega arith) in
+    let back = c .before .before .before .before .before in
+    let l = back .before .loop in
+    let e = back .before .before .before .before .pre .1 .entries (l .k) (omega arith) in
     let r = count-right _ (l .k) _ (c .before .before .before .before .count-at .ensures) (c .before .before .before .if1 .left) (omega arith) in
     (omega arith, l .inv .1, l .inv .2, all-more (goodCount _) _ (l .inv .3) r)
 

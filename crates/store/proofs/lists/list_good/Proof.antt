@@ -26,19 +26,23 @@ returns-2 c = sym (list-foreign _ _ (omega arith) (failed _ _ (c .before .rows-b
 
 copy-tree-requires : tie.Need-copy-tree-requires
 copy-tree-requires c κs =
-    let p = c .before .before .before .before .before .before .pre in
+    let back = c .before .before .before .before .before in
+    let p = back .before .pre in
     (p .0, (p .1, (rows-tested _ _ (omega arith) (passed _ _ (c .before .before .rows-below .ensures) (c .before .if2 .left)), omega arith)))
 
 returns-3 : tie.Need-returns-3
 returns-3 c =
-    let r = passed _ _ (c .before .before .before .before .before .before .before .rows-below .ensures) (c .before .before .before .before .before .before .if2 .left) in
-    let m = ap rising (copied _ _ _ _ _ (c .before .before .before .before .before .before .before .before .before .splits-in .ensures) (c .before .before .before .before .copy-tree .ensures)) in
+    let back = c .before .before .before .before .before in
+    let r = passed _ _ (back .before .before .rows-below .ensures) (back .before .if2 .left) in
+    let m = ap rising (copied _ _ _ _ _ (back .before .before .before .before .splits-in .ensures) (c .before .before .before .before .copy-tree .ensures)) in
     sym (list-falls _ _ (omega arith) r (sym m ∙ failed _ _ (c .before .masks-rise .ensures) (c .if3 .taken)))
 
 returns-4 : tie.Need-returns-4
 returns-4 c =
-    let r = passed _ _ (c .before .before .before .before .before .before .before .before .before .rows-below .ensures) (c .before .before .before .before .before .before .before .before .if2 .left) in
-    let m = copied _ _ _ _ _ (c .before .before .before .before .before .before .before .before .before .before .before .splits-in .ensures) (c .before .before .before .before .before .before .copy-tree .ensures) in
+    let back = c .before .before .before .before .before in
+    let r = passed _ _ (back .before .before .before .before .rows-below .ensures) (back .before .before .before .if2 .left) in
+    let far = back .before .before .before .before .before in
+    let m = copied _ _ _ _ _ (far .before .splits-in .ensures) (back .before .copy-tree .ensures) in
     let q = sym (ap rising m) ∙ passed _ _ (c .before .before .before .masks-rise .ensures) (c .before .before .if3 .left) in
     c .pairs-agree .ensures ∙ ap agreeInPairs m ∙ sym (list-rest _ _ (omega arith) r q)
 

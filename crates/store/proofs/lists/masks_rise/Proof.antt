@@ -34,7 +34,8 @@ more masks j a f l i h = go (less-or-not (suc i) j)
 returns : tie.Need-returns Inv-loop μ-loop
 returns c =
     let l = c .before .before .before .before .before .loop in
-    let a = c .before .before .before .before .before .before .args in
+    let back = c .before .before .before .before .before in
+    let a = back .before .args in
     let t = sym (c .before .comes-before .ensures) in
     let e : suc (l .j - 1) ≡ l .j = omega arith in
     sym (front-falls (a .masks .now) (a .n) (omega arith) (l .j - 1) (omega arith) (rw e (ltb-false _ _ (t ∙ not-true _ (c .if1 .taken)))))
@@ -42,7 +43,8 @@ returns c =
 loop-again : tie.Need-loop-again Inv-loop μ-loop
 loop-again c =
     let l = c .before .before .before .before .before .loop in
-    let a = c .before .before .before .before .before .before .args in
+    let back = c .before .before .before .before .before in
+    let a = back .before .args in
     let t = sym (c .before .comes-before .ensures) in
     (omega arith, more (a .masks .now) (l .j) (l .inv .0) (l .inv .1) (ltb-true _ _ (t ∙ not-false _ (c .if1 .left))))
 

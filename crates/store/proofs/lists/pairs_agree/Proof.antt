@@ -20,7 +20,8 @@ abbrev μ-loop : tie.MeasureT-loop
 
 returns : tie.Need-returns Inv-loop μ-loop
 returns c =
-    let b = c .before .before .before .before .before .before .before .before in
+    let back = c .before .before .before .before .before in
+    let b = back .before .before .before in
     let a = b .before .args in
     let p = b .before .pre in
     sym (outer-not (a .masks .now) _ (a .n) (b .loop .j) _ _ _ _ _ (omega arith) (omega arith) (p .1 .1) (b .loop .inv .2)
@@ -31,7 +32,8 @@ loop-again : tie.Need-loop-again Inv-loop μ-loop
 loop-again c =
     let d = c .before .before .before .before .before in
     let f = d .before in
-    let g = f .before .before .before .before .before .before .before in
+    let back = f .before .before .before .before .before in
+    let g = back .before .before in
     let b = g .before in
     let a = b .before .args in
     let p = b .before .pre in

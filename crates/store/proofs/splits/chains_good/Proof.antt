@@ -32,19 +32,23 @@ loop-holds c = (omega arith, omega (arith, splits-few _ (c .before .before .befo
 
 returns : tie.Need-returns Inv-loop μ-loop
 returns c =
-    let l = c .before .before .before .before .before .before .before .loop in
+    let back = c .before .before .before .before .before in
+    let l = back .before .before .loop in
     let p = place-read _ _ _ _ (c .before .before .before .before .mask-at .ensures) (c .before .before .before .place-of .ensures) in
-    let h = c .before .wide16 .ensures ∙ l .inv .3 .each _ (small _ (c .before .before .before .before .before .before .before .before .before .before .before .before .pre) _ _ (c .before .before .before .place-of .ensures)) in
+    let far = back .before .before .before .before .before in
+    let h = c .before .wide16 .ensures ∙ l .inv .3 .each _ (small _ (far .before .before .pre) _ _ (c .before .before .before .place-of .ensures)) in
     let e = link-bad _ _ _ _ _ (c .before .before .link-at .ensures) p h (c .if1 .taken) in
-    let s = c .before .before .before .before .before .before .before .before .before .before .before .before .args .s .now in
+    let s = far .before .before .args .s .now in
     let f : allBelow (goodLink s) (splitsHeldAt s) ≡ false = all-fails _ _ (l .k) (omega arith) e in
     sym (good-chains s ∙ rw f)
 
 loop-again : tie.Need-loop-again Inv-loop μ-loop
 loop-again c =
-    let l = c .before .before .before .before .before .before .before .loop in
+    let back = c .before .before .before .before .before in
+    let l = back .before .before .loop in
     let p = place-read _ _ _ _ (c .before .before .before .before .mask-at .ensures) (c .before .before .before .place-of .ensures) in
-    let b = small _ (c .before .before .before .before .before .before .before .before .before .before .before .before .pre) _ _ (c .before .before .before .place-of .ensures) in
+    let far = back .before .before .before .before .before in
+    let b = small _ (far .before .before .pre) _ _ (c .before .before .before .place-of .ensures) in
     let h = c .before .wide16 .ensures ∙ l .inv .3 .each _ b in
     let e = link-good _ _ _ _ _ (c .before .before .link-at .ensures) p h (c .if1 .left) in (
       omega arith,
@@ -56,12 +60,14 @@ loop-again c =
 
 starts-good-requires : tie.Need-starts-good-requires Inv-loop μ-loop
 starts-good-requires c κs =
-    let e : c .before .before .loop .k ≡ splitsHeldAt (c .before .before .before .before .before .before .before .args .s .now) = omega arith in
-    (c .before .before .before .before .before .before .before .pre, rw e at (c .before .before .loop .inv .3))
+    let back = c .before .before .before .before .before in
+    let e : c .before .before .loop .k ≡ splitsHeldAt (back .before .before .args .s .now) = omega arith in
+    (back .before .before .pre, rw e at (c .before .before .loop .inv .3))
 
 returns-2 : tie.Need-returns-2 Inv-loop μ-loop
 returns-2 c =
-    let e : c .before .before .before .loop .k ≡ splitsHeldAt (c .before .before .before .before .before .before .before .before .args .s .now) = omega arith in
+    let back = c .before .before .before .before .before in
+    let e : c .before .before .before .loop .k ≡ splitsHeldAt (back .before .before .before .args .s .now) = omega arith in
     let a = rw e at (c .before .before .before .loop .inv .4) in
     c .starts-good .ensures ∙ sym (good-chains _ ∙ rw a)
 
@@ -74,17 +80,17 @@ chains-good-spec =
     (λ c κs. (c .before .before .pre, refl))
     (λ c κs. c .before .before .before .pre .head-there)
     loop-holds
-    (λ c κs. (c .before .before .before .before .before .before .before .pre, omega arith))
-    (λ c κs. (c .before .before .before .before .before .before .before .before .pre, c .before .before .before .before .before .fill-sums .ensures))
-    (λ c κs. (c .before .before .before .before .before .before .before .before .before .pre, omega arith))
-    (λ c. omega (arith, small _ (c .before .before .before .before .before .before .before .before .before .before .pre) _ _ (c .before .place-of .ensures)))
-    (λ c. small _ (c .before .before .before .before .before .before .before .before .before .before .pre) _ _ (c .before .place-of .ensures))
+    (λ c κs. let back = c .before .before .before .before .before in (back .before .before .pre, omega arith))
+    (λ c κs. let back = c .before .before .before .before .before in (back .before .before .before .pre, c .before .before .before .before .before .fill-sums .ensures))
+    (λ c κs. let back = c .before .before .before .before .before in (back .before .before .before .before .pre, omega arith))
+    (λ c. let back = c .before .before .before .before .before in omega (arith, small _ (back .before .before .before .before .before .pre) _ _ (c .before .place-of .ensures)))
+    (λ c. let back = c .before .before .before .before .before in small _ (back .before .before .before .before .before .pre) _ _ (c .before .place-of .ensures))
     (λ c κs. tt)
     returns
     (λ c. omega arith)
     (λ c. omega arith)
-    (λ c. omega (arith, small _ (c .before .before .before .before .before .before .before .before .before .before .before .before .pre) _ _ (c .before .before .before .place-of .ensures)))
-    (λ c. small _ (c .before .before .before .before .before .before .before .before .before .before .before .before .pre) _ _ (c .before .before .before .place-of .ensures))
+    (λ c. let back = c .before .before .before .before .before in let far = back .before .before .before .before .before in omega (arith, small _ (far .before .before .pre) _ _ (c .before .before .before .place-of .ensures)))
+    (λ c. let back = c .before .before .before .before .before in let far = back .before .before .before .before .before in small _ (far .before .before .pre) _ _ (c .before .before .before .place-of .ensures))
     (λ c. omega arith)
     loop-again
     starts-good-requires

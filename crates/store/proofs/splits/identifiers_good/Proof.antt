@@ -20,20 +20,23 @@ abbrev μ-loop : tie.MeasureT-loop
 
 returns : tie.Need-returns Inv-loop μ-loop
 returns c =
-    let l = c .before .before .before .before .before .before .loop in
+    let back = c .before .before .before .before .before in
+    let l = back .before .loop in
     let r = identifier-sum _ _ _ _ (l .inv .2) (c .before .sum-over .ensures) in
     sym (all-fails _ _ (l .k) (omega arith) (identifier-bad _ _ _ _ _ (c .before .before .before .before .mask-at .ensures) (c .before .before .before .identifier-at .ensures) r (c .if1 .taken)))
 
 loop-again : tie.Need-loop-again Inv-loop μ-loop
 loop-again c =
-    let l = c .before .before .before .before .before .before .loop in
+    let back = c .before .before .before .before .before in
+    let l = back .before .loop in
     let r = identifier-sum _ _ _ _ (l .inv .2) (c .before .sum-over .ensures) in
     let e = identifier-good _ _ _ _ _ (c .before .before .before .before .mask-at .ensures) (c .before .before .before .identifier-at .ensures) r (c .if1 .left) in
     (omega arith, all-more _ _ (l .inv .1) e, l .inv .2)
 
 returns-2 : tie.Need-returns-2 Inv-loop μ-loop
 returns-2 c =
-    let e : c .before .loop .k ≡ splitsHeldAt (c .before .before .before .before .before .before .args .s .now) = omega arith in
+    let back = c .before .before .before .before .before in
+    let e : c .before .loop .k ≡ splitsHeldAt (back .before .args .s .now) = omega arith in
     sym (rw e at (c .before .loop .inv .1))
 
 pub identifiers-good-spec : {M : Type 1} → statement M
@@ -45,8 +48,8 @@ identifiers-good-spec =
     (λ c κs. (c .before .before .pre, refl))
     (λ c κs. c .before .before .before .pre .head-there)
     (λ c. (omega arith, all-none _, c .before .fill-sums .ensures))
-    (λ c κs. (c .before .before .before .before .before .before .pre, omega arith))
-    (λ c κs. (c .before .before .before .before .before .before .before .pre, omega arith))
+    (λ c κs. let back = c .before .before .before .before .before in (back .before .pre, omega arith))
+    (λ c κs. let back = c .before .before .before .before .before in (back .before .before .pre, omega arith))
     (λ c κs. tt)
     returns
     (λ c. omega arith)

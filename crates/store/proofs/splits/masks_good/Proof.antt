@@ -28,25 +28,28 @@ returns-2 c =
     let r = c .before .before .before .before .row-of .ensures in
     let m = split-read _ _ _ _ r (c .before .before .mask-at .ensures) in
     let p = sym (c .before .is-proper .ensures) ∙ not-true _ (c .if2 .taken) in
-    sym (all-fails _ _ (c .before .before .before .before .before .before .loop .k) (omega arith) (mask-improper _ _ _ r (omega arith) _ _ (c .before .before .before .before .before .before .before .before .taxa .ensures .0) m p))
+    let back = c .before .before .before .before .before in
+    sym (all-fails _ _ (back .before .loop .k) (omega arith) (mask-improper _ _ _ r (omega arith) _ _ (back .before .before .before .taxa .ensures .0) m p))
 
 returns-3 : tie.Need-returns-3 Inv-loop μ-loop
 returns-3 c =
-    let r = c .before .before .before .before .before .before .row-of .ensures in
+    let back = c .before .before .before .before .before in
+    let r = back .before .row-of .ensures in
     let m = split-read _ _ _ _ r (c .before .before .before .before .mask-at .ensures) in
     let p = sym (c .before .before .before .is-proper .ensures) ∙ not-false _ (c .before .before .if2 .left) in
     let b = sym (c .before .comes-before .ensures) ∙ not-true _ (c .if3 .taken) in
-    let l = c .before .before .before .before .before .before .before .before .loop in
-    sym (all-fails _ _ (l .k) (omega arith) (mask-below _ _ _ r (omega arith) _ _ (c .before .before .before .before .before .before .before .before .before .before .taxa .ensures .0) m p _ (l .inv .1) b))
+    let l = back .before .before .before .loop in
+    sym (all-fails _ _ (l .k) (omega arith) (mask-below _ _ _ r (omega arith) _ _ (back .before .before .before .before .before .taxa .ensures .0) m p _ (l .inv .1) b))
 
 loop-again : tie.Need-loop-again Inv-loop μ-loop
 loop-again c =
-    let r = c .before .before .before .before .before .before .row-of .ensures in
+    let back = c .before .before .before .before .before in
+    let r = back .before .row-of .ensures in
     let m = split-read _ _ _ _ r (c .before .before .before .before .mask-at .ensures) in
     let p = sym (c .before .before .before .is-proper .ensures) ∙ not-false _ (c .before .before .if2 .left) in
     let b = sym (c .before .comes-before .ensures) ∙ not-false _ (c .if3 .left) in
-    let l = c .before .before .before .before .before .before .before .before .loop in
-    let e = mask-good _ _ _ r (omega arith) _ _ (c .before .before .before .before .before .before .before .before .before .before .taxa .ensures .0) m p _ (l .inv .1) b in
+    let l = back .before .before .before .loop in
+    let e = mask-good _ _ _ r (omega arith) _ _ (back .before .before .before .before .before .taxa .ensures .0) m p _ (l .inv .1) b in
     (omega arith, m ∙ sym (before-more _ _), all-more _ _ (l .inv .2) e)
 
 returns-4 : tie.Need-returns-4 Inv-loop μ-loop
@@ -65,7 +68,7 @@ masks-good-spec =
     (λ c. (omega arith, sym (before-none _), all-none _))
     (λ c κs. (c .before .before .before .before .before .pre, omega arith))
     returns
-    (λ c κs. (c .before .before .before .before .before .before .before .pre, omega arith))
+    (λ c κs. let back = c .before .before .before .before .before in (back .before .before .pre, omega arith))
     (λ c κs. search needs)
     returns-2
     (λ c κs. search needs)

@@ -21,13 +21,15 @@ abbrev μ-loop : tie.MeasureT-loop
 returns : tie.Need-returns Inv-loop μ-loop
 returns c =
     let l = c .before .before .before .before .before .loop in
-    let h = c .before .wide16 .ensures ∙ c .before .before .before .before .before .before .before .before .pre .1 .each (l .p) (omega arith) in
+    let back = c .before .before .before .before .before in
+    let h = c .before .wide16 .ensures ∙ back .before .before .before .pre .1 .each (l .p) (omega arith) in
     sym (all-fails _ _ (l .p) (omega arith) (start-bad _ _ _ _ (c .before .before .before .start-at .ensures) h (c .if1 .taken)))
 
 loop-again : tie.Need-loop-again Inv-loop μ-loop
 loop-again c =
     let l = c .before .before .before .before .before .loop in
-    let h = c .before .wide16 .ensures ∙ c .before .before .before .before .before .before .before .before .pre .1 .each (l .p) (omega arith) in
+    let back = c .before .before .before .before .before in
+    let h = c .before .wide16 .ensures ∙ back .before .before .before .pre .1 .each (l .p) (omega arith) in
     (omega arith, omega arith, all-more _ _ (l .inv .2) (start-good _ _ _ _ (c .before .before .before .start-at .ensures) h (c .if1 .left)))
 
 returns-2 : tie.Need-returns-2 Inv-loop μ-loop

@@ -21,9 +21,10 @@ abbrev μ-loop : tie.MeasureT-loop
 
 loop-again : tie.Need-loop-again Inv-loop μ-loop
 loop-again c =
-    let l = c .before .before .before .before .before .before .before .loop in
+    let back = c .before .before .before .before .before in
+    let l = back .before .before .loop in
     let k = c .before .before .keep-byte .ensures in
-    let p = c .before .before .before .before .before .before .before .before .before .before .args .piece .now in
+    let p = back .before .before .before .before .before .args .piece .now in
     let e = kept-more (l .used) (l .spaces) (l .out) p (l .i) (omega arith) _ _ _ (c .before .before .before .before .count-space .ensures) (k .0) (k .1) in
     (omega arith, omega arith, sym e ∙ l .inv .2)
 

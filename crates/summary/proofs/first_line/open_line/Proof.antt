@@ -9,7 +9,8 @@ use Rattle.summary.proofs.first_line.open_line.Tie as tie
 slice-aggregate-open-names : tie.Need-slice-aggregate-open-names
 slice-aggregate-open-names c =
     let m = c .before .before .least in
-    sym (length-take-le (m .result) (c .before .before .before .before .before .before .args .out .now) (m .ensures .1))
+    let back = c .before .before .before .before .before in
+    sym (length-take-le (m .result) (back .before .args .out .now) (m .ensures .1))
 
 returns-2 : tie.Need-returns-2
 returns-2 c =

@@ -13,20 +13,25 @@ use Rattle.summary.proofs.first_line.open_names.Tie as tie
 
 slice-aggregate-open : tie.Need-slice-aggregate-open
 slice-aggregate-open c =
-    let f = c .before .before .before .before .before .before .fill-first in
-    sym (length-take-le (c .before .before .before .before .before .before .before .before .before .before .args .n) (f .last .0) (omega (arith, filled-long firstConstant (replicate 64 0) (f .last .0) (f .ensures), length-replicate {A = ℕ} 64 0, c .before .before .before .before .before .before .before .before .before .before .pre)))
+    let back = c .before .before .before .before .before in
+    let f = back .before .fill-first in
+    sym (length-take-le (back .before .before .before .before .before .args .n) (f .last .0) (omega (arith, filled-long firstConstant (replicate 64 0) (f .last .0) (f .ensures), length-replicate {A = ℕ} 64 0, back .before .before .before .before .before .pre)))
 
 slice-aggregate-open-2 : tie.Need-slice-aggregate-open-2
 slice-aggregate-open-2 c =
     let f = c .before .before .before .before .fill-second in
-    sym (length-take-le (c .before .before .before .before .before .before .before .before .before .before .before .args .n) (f .last .0) (omega (arith, filled-long secondConstant (replicate 64 0) (f .last .0) (f .ensures), length-replicate {A = ℕ} 64 0, c .before .before .before .before .before .before .before .before .before .before .before .pre)))
+    let back = c .before .before .before .before .before in
+    let far = back .before .before .before .before .before in
+    sym (length-take-le (far .before .args .n) (f .last .0) (omega (arith, filled-long secondConstant (replicate 64 0) (f .last .0) (f .ensures), length-replicate {A = ℕ} 64 0, far .before .pre)))
 
 returns : tie.Need-returns
 returns c =
     let z = length-replicate {A = ℕ} 64 0 in
-    opened-names _ _ _ _ _ _ _ _ (c .before .before .before .before .before .before .before .before .before .before .before .before .before .before .pre)
-    (c .before .before .before .before .before .before .before .before .before .before .fill-first .ensures ∙ ap (λ (k : ℕ). upTo firstConstant k) z)
-    (c .before .before .before .before .before .before .before .fill-second .ensures ∙ ap (λ (k : ℕ). upTo secondConstant k) z)
+    let back = c .before .before .before .before .before in
+    let far = back .before .before .before .before .before in
+    opened-names _ _ _ _ _ _ _ _ (far .before .before .before .before .pre)
+    (back .before .before .before .before .before .fill-first .ensures ∙ ap (λ (k : ℕ). upTo firstConstant k) z)
+    (back .before .before .fill-second .ensures ∙ ap (λ (k : ℕ). upTo secondConstant k) z)
     (c .before .before .«open» .ensures)
 
 pub open-names-spec : {M : Type 1} → statement M

@@ -12,10 +12,14 @@ slice-aggregate-keep-bytes c =
     sym (length-take-le (e .result) (c .before .before .before .before .before .args .piece .now) (e .ensures .1))
 
 returns : tie.Need-returns
-returns c = taken-all _ _ _ _ (c .before .before .before .before .before .before .line-end .ensures .0) _ (c .before .before .before .keep-bytes .ensures) (c .if1 .taken)
+returns c =
+    let back = c .before .before .before .before .before in
+    taken-all _ _ _ _ (back .before .line-end .ensures .0) _ (c .before .before .before .keep-bytes .ensures) (c .if1 .taken)
 
 returns-2 : tie.Need-returns-2
-returns-2 c = taken-line _ _ _ _ (c .before .before .before .before .before .before .line-end .ensures .0) _ (c .before .before .before .keep-bytes .ensures) (c .if1 .left)
+returns-2 c =
+    let back = c .before .before .before .before .before in
+    taken-line _ _ _ _ (back .before .line-end .ensures .0) _ (c .before .before .before .keep-bytes .ensures) (c .if1 .left)
 
 pub take-line-spec : {M : Type 1} → statement M
 take-line-spec =

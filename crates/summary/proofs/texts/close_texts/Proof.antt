@@ -7,7 +7,8 @@ use Rattle.summary.proofs.texts.close_texts.Tie as tie
 
 returns-2 : tie.Need-returns-2
 returns-2 c =
-    let w = passed _ _ (c .before .before .before .before .before .before .before .is-whole .ensures) (c .before .before .before .before .before .before .if1 .left) in
+    let back = c .before .before .before .before .before in
+    let w = passed _ _ (back .before .before .is-whole .ensures) (back .before .if1 .left) in
     closed-given _ w _ _ _ (c .before .before .before .before .close .ensures) _ _ (c .before .one-if-refused .ensures) (c .add-capped .ensures)
 
 pub close-texts-spec : {M : Type 1} → statement M

@@ -16,23 +16,31 @@ abbrev μ-loop : tie.MeasureT-loop
 μ-loop s₀ refused piece all₀ at₀ s all at = length piece - at
 
 same-length : tie.Need-same-length Inv-loop μ-loop
-same-length c = texts-size _ _ _ _ _ (c .before .before .before .before .before .take-part .ensures) ∙ c .before .before .before .before .before .before .before .before .before .loop .inv .size
+same-length c =
+    let back = c .before .before .before .before .before in
+    texts-size _ _ _ _ _ (c .before .before .before .before .before .take-part .ensures) ∙ back .before .before .before .before .loop .inv .size
 
 returns : tie.Need-returns Inv-loop μ-loop
 returns c =
-    let at = c .before .before .before .before .before .before .before .before .before .loop .at in
-    rest-refused _ _ _ _ _ at ((at + part) - at) (c .before .before .before .before .before .before .before .before .before .loop .inv) _ _ (c .before .before .before .before .before .take-part .ensures) _ (c .before .answer2 .given .1)
+    let back = c .before .before .before .before .before in
+    let at = back .before .before .before .before .loop .at in
+    rest-refused _ _ _ _ _ at ((at + part) - at) (back .before .before .before .before .loop .inv) _ _ (c .before .before .before .before .before .take-part .ensures) _ (c .before .answer2 .given .1)
 
 loop-again : tie.Need-loop-again Inv-loop μ-loop
 loop-again c =
-    let at = c .before .before .before .before .before .before .before .before .before .loop .at in
-    rest-more _ _ _ _ _ at ((at + part) - at) (c .before .before .before .before .before .before .before .before .before .loop .inv) _ _ (c .before .before .before .before .before .take-part .ensures) _ (c .before .answer .given .1) _ (omega arith) (omega arith)
+    let back = c .before .before .before .before .before in
+    let at = back .before .before .before .before .loop .at in
+    rest-more _ _ _ _ _ at ((at + part) - at) (back .before .before .before .before .loop .inv) _ _ (c .before .before .before .before .before .take-part .ensures) _ (c .before .answer .given .1) _ (omega arith) (omega arith)
 
 same-length-2 : tie.Need-same-length-2 Inv-loop μ-loop
-same-length-2 c = texts-size _ _ _ _ _ (c .before .before .take-part2 .ensures) ∙ c .before .before .before .before .before .before .loop .inv .size
+same-length-2 c =
+    let back = c .before .before .before .before .before in
+    texts-size _ _ _ _ _ (c .before .before .take-part2 .ensures) ∙ back .before .loop .inv .size
 
 returns-2 : tie.Need-returns-2 Inv-loop μ-loop
-returns-2 c = rest-last _ _ _ _ _ _ (c .before .before .before .before .before .before .loop .inv) _ _ (c .before .before .take-part2 .ensures)
+returns-2 c =
+    let back = c .before .before .before .before .before in
+    rest-last _ _ _ _ _ _ (back .before .loop .inv) _ _ (c .before .before .take-part2 .ensures)
 
 pub take-texts-spec : {M : Type 1} → statement M
 take-texts-spec =

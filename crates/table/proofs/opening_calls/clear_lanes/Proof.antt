@@ -24,13 +24,15 @@ few c κs = omega (arith, c .before .before .before .lanes .ensures .1)
 put16-requires : tie.Need-put16-requires Inv-loop μ-loop
 put16-requires c κs =
     let l = c .before .before .before .loop in
-    let b = c .before .before .before .before .before .before .before in
+    let back = c .before .before .before .before .before in
+    let b = back .before .before in
     omega (arith, c .lane-from .ensures .0, lane-inside (b .args .s .now) (l .s) (l .l) (l .inv .2) (b .pre) (omega (arith, l .inv .1)))
 
 loop-again : tie.Need-loop-again Inv-loop μ-loop
 loop-again c =
-    let l = c .before .before .before .before .before .before .loop in
-    let b = c .before .before .before .before .before .before .before .before .before .before in
+    let back = c .before .before .before .before .before in
+    let l = back .before .loop in
+    let b = back .before .before .before .before .before in
     let v = l .inv in
     (omega arith, v .1, lanes-more _ _ (l .l) (v .2) (b .pre) (omega (arith, v .1)) _ _ (c .before .before .before .lane-from .ensures .0) (c .before .before .put16 .ensures))
 

@@ -5,7 +5,9 @@ use Rattle.table.proofs.opening_calls.clear_rest.Statement.{statement}
 use Rattle.table.proofs.opening_calls.clear_rest.Tie as tie
 
 places-from-requires : tie.Need-places-from-requires
-places-from-requires c κs = head-inside _ _ (c .before .before .before .clear-lanes .ensures) (c .before .before .before .before .before .before .pre)
+places-from-requires c κs =
+    let back = c .before .before .before .before .before in
+    head-inside _ _ (c .before .before .before .clear-lanes .ensures) (back .before .pre)
 
 places-requires : tie.Need-places-requires
 places-requires c κs =
@@ -14,13 +16,15 @@ places-requires c κs =
 
 clear-run-requires : tie.Need-clear-run-requires
 clear-run-requires c κs =
-    let d = c .before .before .before .before .before .before .before in
+    let back = c .before .before .before .before .before in
+    let d = back .before .before in
     rw (c .before .before .before .places-from .ensures .0, c .before .places .ensures .0) (places-inside _ _ (d .clear-lanes .ensures) (d .before .before .before .pre))
 
 returns : tie.Need-returns
 returns c =
     let b = c .before .before .before in
-    let d = b .before .before .before .before .before .before .before in
+    let back = b .before .before .before .before .before in
+    let d = back .before .before in
     emptied-places _ _ (d .clear-lanes .ensures) (d .before .before .before .pre) _
     (rw (b .before .before .before .places-from .ensures .0, b .before .places .ensures .0) at (c .before .before .clear-run .ensures))
 

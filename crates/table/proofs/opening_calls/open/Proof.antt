@@ -60,12 +60,15 @@ clear-rest-requires c κs =
     let w = c .before .before .before in
     let h = w .before .before in
     let r = w .write-head .ensures .1 in
-    let s = h .before .before .before .before .before .before .before .before .before .before .before .before .args .s .now in
+    let back = h .before .before .before .before .before in
+    let far = back .before .before .before .before .before in
+    let s = far .before .before .args .s .now in
     lent-rest s _ _ (r .0) (r .1 .1 .1 .1) (rw (h .before .store-size .ensures) at (h .if4 .left))
 
 returns-5 : tie.Need-returns-5
 returns-5 c =
-    let w = c .before .before .before .before .before .before in
+    let back = c .before .before .before .before .before in
+    let w = back .before in
     let h = w .before .before in
     let f = h .before .before in
     let e = f .before .before in

@@ -26,21 +26,24 @@ abbrev μ-loop : tie.MeasureT-loop
 
 mask-room : tie.Need-slice-write-masks Inv-loop μ-loop
 mask-room c =
-    let b = c .before .before .before .before .before .before .before .before in
+    let back = c .before .before .before .before .before in
+    let b = back .before .before .before in
     let l = c .before .before .before .loop in
     let n = masks-length (partsAt (b .args .s .now)) (shaped-at (b .args .s .now) .order) in
     omega (arith, copied-length (masksAt (b .args .s .now)) _ _ (l .k) (l .inv .1) (omega arith) (omega arith), b .pre .1 .0)
 
 count-room : tie.Need-slice-write-counts Inv-loop μ-loop
 count-room c =
-    let b = c .before .before .before .before .before .before .before .before .before in
+    let back = c .before .before .before .before .before in
+    let b = back .before .before .before .before in
     let l = c .before .before .before .before .loop in
     let n = counts-length (b .args .s .now) in
     omega (arith, copied-length (countsAt (b .args .s .now)) _ _ (l .k) (l .inv .2) (omega arith) (omega arith), b .pre .1 .1)
 
 loop-again : tie.Need-loop-again Inv-loop μ-loop
 loop-again c =
-    let b = c .before .before .before .before .before .before .before .before .before in
+    let back = c .before .before .before .before .before in
+    let b = back .before .before .before .before in
     let s = b .args .s .now in
     let l = c .before .before .before .before .loop in
     let n = masks-length (partsAt s) (shaped-at s .order) in
@@ -55,21 +58,24 @@ loop-again c =
 
 same-masks : tie.Need-same-length Inv-loop μ-loop
 same-masks c =
-    let b = c .before .before .before .before .before .before in
+    let back = c .before .before .before .before .before in
+    let b = back .before in
     let l = c .before .loop in
     let n = masks-length (partsAt (b .args .s .now)) (shaped-at (b .args .s .now) .order) in
     copied-length (masksAt (b .args .s .now)) _ _ (l .k) (l .inv .1) (omega arith) (omega arith)
 
 same-counts : tie.Need-same-length-2 Inv-loop μ-loop
 same-counts c =
-    let b = c .before .before .before .before .before .before in
+    let back = c .before .before .before .before .before in
+    let b = back .before in
     let l = c .before .loop in
     let n = counts-length (b .args .s .now) in
     copied-length (countsAt (b .args .s .now)) _ _ (l .k) (l .inv .2) (omega arith) (omega arith)
 
 returns : tie.Need-returns Inv-loop μ-loop
 returns c =
-    let s = c .before .before .before .before .before .before .args .s .now in
+    let back = c .before .before .before .before .before in
+    let s = back .before .args .s .now in
     let l = c .before .loop in
     let e : l .k ≡ splitsHeldAt s = omega arith in
     (rw e at (copied-all _ _ _ _ (l .inv .1) (e ∙ sym (masks-length (partsAt s) (shaped-at s .order)))), rw e at (copied-all _ _ _ _ (l .inv .2) (e ∙ sym (counts-length s))))
@@ -82,18 +88,21 @@ copy-splits-spec =
     μ-loop
     (λ c κs. long _ (c .before .before .before .pre .0))
     (λ c. (omega arith, refl, refl))
-    (λ c κs. (whole-at-facts _ (c .before .before .before .before .before .before .pre .0) .head, omega arith))
+    (λ c κs. let back = c .before .before .before .before .before in (whole-at-facts _ (back .before .pre .0) .head, omega arith))
     (λ c κs.
-    let w = c .before .before .before .before .before .before .before .pre .0 in
+    let back = c .before .before .before .before .before in
+    let w = back .before .before .pre .0 in
     (whole-at-facts _ w .head, omega (arith, c .row-of .ensures, row-below _ w (c .before .before .loop .k) (omega arith))))
     (λ c. omega arith)
     mask-room
     (λ c κs.
-    let w = c .before .before .before .before .before .before .before .before .pre .0 in
+    let back′ = c .before .before .before .before .before in
+    let w = back′ .before .before .before .pre .0 in
     (whole-at-facts _ w .head, omega (arith, c .before .row-of .ensures, row-below _ w (c .before .before .before .loop .k) (omega arith))))
     (λ c.
-    let b = c .before .before .before .before .before .before .before .before .shared-slice-known .given in
-    let r = row-below _ (c .before .before .before .before .before .before .before .before .before .pre .0) (c .before .before .before .before .loop .k) (omega arith) in
+    let back′′ = c .before .before .before .before .before in
+    let b = back′′ .before .before .before .shared-slice-known .given in
+    let r = row-below _ (back′′ .before .before .before .before .pre .0) (c .before .before .before .before .loop .k) (omega arith) in
     omega (arith, count-small _ _ _ (omega (arith, c .before .before .row-of .ensures, r)) (λ i. omega (arith, b i)) (c .count-at .ensures)))
     (λ c. omega arith)
     count-room

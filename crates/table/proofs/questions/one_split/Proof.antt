@@ -23,23 +23,27 @@ row-of-requires c κs =
 mask-at-requires : tie.Need-mask-at-requires
 mask-at-requires c κs =
     let w = passed _ _ (c .before .before .before .before .before .is-whole .ensures) (c .before .before .before .before .if1 .left) in
-    (whole-at-facts _ w .head, omega (arith, c .row-of .ensures, row-below _ w (c .before .before .before .before .before .before .before .args .k .0) (omega arith)))
+    let back = c .before .before .before .before .before in
+    (whole-at-facts _ w .head, omega (arith, c .row-of .ensures, row-below _ w (back .before .before .args .k .0) (omega arith)))
 
 count-at-requires : tie.Need-count-at-requires
 count-at-requires c κs =
-    let w = passed _ _ (c .before .before .before .before .before .before .is-whole .ensures) (c .before .before .before .before .before .if1 .left) in
-    (whole-at-facts _ w .head, omega (arith, c .before .row-of .ensures, row-below _ w (c .before .before .before .before .before .before .before .before .args .k .0) (omega arith)))
+    let back = c .before .before .before .before .before in
+    let w = passed _ _ (back .before .is-whole .ensures) (c .before .before .before .before .before .if1 .left) in
+    (whole-at-facts _ w .head, omega (arith, c .before .row-of .ensures, row-below _ w (back .before .before .before .args .k .0) (omega arith)))
 
 count-fits : tie.Need-cast-t11
 count-fits c =
-    let b = c .before .before .before .before .before .before .before .before .shared-slice-known .given in
-    let w = passed _ _ (c .before .before .before .before .before .before .before .is-whole .ensures) (c .before .before .before .before .before .before .if1 .left) in
-    let r = row-below _ w (c .before .before .before .before .before .before .before .before .before .args .k .0) (omega arith) in
+    let back = c .before .before .before .before .before in
+    let b = back .before .before .before .shared-slice-known .given in
+    let w = passed _ _ (back .before .before .is-whole .ensures) (back .before .if1 .left) in
+    let r = row-below _ w (back .before .before .before .before .args .k .0) (omega arith) in
     omega (arith, count-small _ _ _ (omega (arith, c .before .before .row-of .ensures, r)) (λ i. omega (arith, b i)) (c .count-at .ensures))
 
 returns-3 : tie.Need-returns-3
 returns-3 c =
-    let w = passed _ _ (c .before .before .before .before .before .before .before .is-whole .ensures) (c .before .before .before .before .before .before .if1 .left) in
+    let back = c .before .before .before .before .before in
+    let w = passed _ _ (back .before .before .is-whole .ensures) (back .before .if1 .left) in
     split-given _ _ _ (split-found _ w _ _ _ _ (omega arith) (c .before .before .row-of .ensures) (c .before .mask-at .ensures) (c .count-at .ensures))
 
 pub one-split-spec : {M : Type 1} → statement M

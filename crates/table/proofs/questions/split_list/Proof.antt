@@ -16,11 +16,14 @@ returns-3 : tie.Need-returns-3
 returns-3 c = list-short _ _ _ (passed _ _ (c .before .before .before .before .is-whole .ensures) (c .before .before .before .if1 .left)) (inr (omega arith))
 
 copy-splits-requires : tie.Need-copy-splits-requires
-copy-splits-requires c κs = (passed _ _ (c .before .before .before .before .before .before .is-whole .ensures) (c .before .before .before .before .before .if1 .left), (omega arith, omega arith))
+copy-splits-requires c κs =
+    let back = c .before .before .before .before .before in
+    (passed _ _ (back .before .is-whole .ensures) (c .before .before .before .before .before .if1 .left), (omega arith, omega arith))
 
 returns-4 : tie.Need-returns-4
 returns-4 c =
-    let d = c .before .before .before .before .before .before .before .before .before in
+    let back = c .before .before .before .before .before in
+    let d = back .before .before .before .before in
     let w = passed _ _ (d .before .before .is-whole .ensures) (d .before .if1 .left) in
     let e = c .before .before .before .before .copy-splits .ensures in
     list-given _ _ _ w _ _ _ (d .splits-held .ensures .0) (omega arith) (omega arith) (e .0) (e .1)

@@ -23,13 +23,15 @@ splits-in-requires c κs =
 
 returns-3 : tie.Need-returns-3
 returns-3 c =
-    let a = c .before .before .before .before .before .before .before .before .before .args in
-    let w = passed _ _ (c .before .before .before .before .before .before .is-whole .ensures) (c .before .before .before .before .before .if1 .left) in
+    let back = c .before .before .before .before .before in
+    let a = back .before .before .before .before .args in
+    let w = passed _ _ (back .before .is-whole .ensures) (c .before .before .before .before .before .if1 .left) in
     filled-short _ _ _ (tree-found _ w _ _ (omega arith)) (omega (arith, tree-length (a .s .now) (a .i .0)))
 
 copy-tree-requires : tie.Need-copy-tree-requires
 copy-tree-requires c κs =
-    let d = c .before .before .before .before .before .before in
+    let back = c .before .before .before .before .before in
+    let d = back .before in
     let w = passed _ _ (d .before .is-whole .ensures) (d .if1 .left) in
     (whole-at-facts _ w .head, (omega arith, (rows-at _ w _ (omega arith), omega arith)))
 
@@ -37,7 +39,9 @@ returns-4 : tie.Need-returns-4
 returns-4 c =
     let d = c .before .before .before .before .before in
     let w = passed _ _ (d .before .before .before .before .before .is-whole .ensures) (d .before .before .before .before .if1 .left) in
-    let a = c .before .before .before .before .before .before .before .before .before .before .before .before .before .args in
+    let back = c .before .before .before .before .before in
+    let far = back .before .before .before .before .before in
+    let a = far .before .before .before .args in
     let n = tree-length (a .s .now) (a .i .0) in
     filled-given _ (a .masks .now) _ (tree-found (a .s .now) w (a .i .0) _ (omega arith)) (d .splits-in .result) _ (d .splits-in .ensures ∙ sym n) (omega arith) (rw n (c .before .before .copy-tree .ensures))
 
