@@ -7,7 +7,6 @@ use answers::Fed;
 use answers::Lane;
 use answers::Number;
 use answers::Progress;
-ghost use Prim.Native.Nat.{_≤_};
 
 // `feed LANE HEX`.
 pub(crate) fn feed(

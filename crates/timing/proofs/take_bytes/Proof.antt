@@ -1,6 +1,5 @@
 -- `timing::take_bytes` is safe and ends. Assumes nothing.
 use native.Mathlib.Omega.{arith}
-use lib.ListN.{length}
 use lib.ListN.{length-take}
 use borrow.Author.Needs.{needs}
 use Rattle.timing.proofs.take_bytes.Statement.{statement}

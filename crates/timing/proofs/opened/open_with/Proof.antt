@@ -1,6 +1,5 @@
 -- `timing::opened::open_with` is safe and ends. Assumes nothing.
 use native.Mathlib.Omega.{arith}
-use lib.ListN.{length}
 use lib.ListN.{length-take}
 use borrow.Author.Needs.{needs}
 use Rattle.timing.proofs.opened.open_with.Statement.{statement}
