@@ -10,6 +10,7 @@ use answers::Lane;
 use answers::Number;
 use answers::Progress;
 use answers::Refusal;
+use head::KEYS;
 
 mod texts;
 mod verdicts;
@@ -30,7 +31,7 @@ pub fn feed(s: &mut [u8], l: Lane, piece: &[u8]) -> Fed
             progress: Progress::Refused(Refusal::NoLane),
         };
     }
-    let mut starts = [0u8; 128];
+    let mut starts = [0u8; KEYS];
     let mut links = [0u8; 64];
     head::build_index(s, &mut starts, &mut links);
     texts::feed_piece(s, &starts, &links, l, piece)
@@ -66,7 +67,7 @@ pub fn batch(s: &mut [u8], l: Lane, piece: &[u8], verdicts: &mut [u32]) -> Numbe
     if verdicts.len() < n {
         return Number::Refused(Refusal::TooShort);
     }
-    let mut starts = [0u8; 128];
+    let mut starts = [0u8; KEYS];
     let mut links = [0u8; 64];
     head::build_index(s, &mut starts, &mut links);
     texts::feed_texts(s, &starts, &links, l, piece, n, verdicts);

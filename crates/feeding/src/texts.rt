@@ -20,11 +20,12 @@ use crate::verdicts;
 use answers::Fed;
 use answers::Lane;
 use answers::Progress;
+use head::KEYS;
 
 // Feeds one piece.
 pub(crate) fn feed_piece(
     s: &mut [u8],
-    starts: &[u8; 128],
+    starts: &[u8; KEYS],
     links: &[u8; 64],
     l: Lane,
     piece: &[u8],
@@ -95,16 +96,19 @@ fn has_semicolon(piece: &[u8]) -> bool
     found
 }
 
-// How many semicolons a piece has: in its blocks of 128 bytes, and in what is left.
+// How many bytes are compared at once.
+const BLOCK: usize = 128;
+
+// How many semicolons a piece has: in its blocks, and in what is left.
 pub(crate) fn count_texts(piece: &[u8]) -> usize
     ensures { λ r. ⌜ r ≡ semicolons (now (piece .entry)) ⌝ }
 {
     let mut n = 0;
     let mut at = 0;
-    while 128 <= piece.len() - at {
-        let more = count_block(&piece[at..at + 128]);
+    while BLOCK <= piece.len() - at {
+        let more = count_block(&piece[at..at + BLOCK]);
         n += more;
-        at += 128;
+        at += BLOCK;
     }
     let last = count_block(&piece[at..]);
     n + last
@@ -130,7 +134,7 @@ fn count_block(block: &[u8]) -> usize
 // Feeds a piece of n texts, and what is behind them; writes each verdict.
 pub(crate) fn feed_texts(
     s: &mut [u8],
-    starts: &[u8; 128],
+    starts: &[u8; KEYS],
     links: &[u8; 64],
     l: Lane,
     piece: &[u8],

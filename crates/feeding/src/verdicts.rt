@@ -14,11 +14,12 @@ ghost use Rattle.feeding.specs.Texts.{Finished};
 use answers::Lane;
 use answers::Progress;
 use answers::Refusal;
+use head::KEYS;
 use layout::RAN_OVER;
 use newick::Judged;
 
 // The verdict on the text of a lane, which is empty afterwards.
-pub(crate) fn finish_text(s: &mut [u8], starts: &[u8; 128], links: &[u8; 64], l: Lane) -> Progress
+pub(crate) fn finish_text(s: &mut [u8], starts: &[u8; KEYS], links: &[u8; 64], l: Lane) -> Progress
     requires { ⌜ wholeAt (now s) ≡ true ⌝ }
     requires { ⌜ l .0 < numbersAt (now s) .lanes ⌝ }
     requires { ⌜ Indexed (namesAt (now s)) (now starts) (now links) ⌝ }
@@ -41,7 +42,7 @@ pub(crate) fn finish_text(s: &mut [u8], starts: &[u8; 128], links: &[u8; 64], l:
 // The verdict on the n bytes that a lane holds.
 fn judge_lane(
     s: &[u8],
-    starts: &[u8; 128],
+    starts: &[u8; KEYS],
     links: &[u8; 64],
     l: Lane,
     n: usize,

@@ -1,7 +1,8 @@
 -- An index of the names by a key, so that a label is compared with few of them.
 -- A taxon stands in it as its number and one more; 0 stands for none.
 --
---   key w                         a key below 128, of all bytes of a name or label
+--   keys                          how many keys there are
+--   key w                         a key, of all bytes of a name or label
 --   nextWith ns k i               the first taxon from i on whose name has the key k
 --   Indexed ns starts links       the first taxon of each key, and for each taxon the next of its key
 --   foundOf o                     a search's answer
@@ -25,9 +26,12 @@ unfoldable pub keyFrom : ℕ → List ℕ → ℕ
 keyFrom k [] = k
 keyFrom k (b ∷ w) = keyFrom ((k * 37 + b) % 65536) w
 
+abbrev pub keys : ℕ
+keys = 128
+
 unfoldable pub key : List ℕ → ℕ
 unfolding keyFrom
-key w = keyFrom 0 w % 128
+key w = keyFrom 0 w % keys
 
 -- the first name with the key k, of names whose first is that of taxon i
 unfoldable pub nextFrom : ℕ → ℕ → List (List ℕ) → ℕ
@@ -40,7 +44,7 @@ unfolding nextFrom
 nextWith ns k i = nextFrom k i (drop i ns)
 
 pub record Indexed (ns : List (List ℕ)) (starts links : List ℕ) : Type 0 where
-  pub firsts : (k : ℕ) → k < 128 → getD starts k 0 ≡ nextWith ns k 0
+  pub firsts : (k : ℕ) → k < keys → getD starts k 0 ≡ nextWith ns k 0
   pub nexts : (i : ℕ) → i < length ns → getD links i 0 ≡ nextWith ns (key (getD ns i [])) (i + 1)
 
 -- ---- the answer
@@ -56,7 +60,7 @@ Below n (At t) = t .0 < n
 -- ---- halfway
 
 pub record IndexedFrom (ns : List (List ℕ)) (from : ℕ) (starts links : List ℕ) : Type 0 where
-  pub firsts : (k : ℕ) → k < 128 → getD starts k 0 ≡ nextWith ns k from
+  pub firsts : (k : ℕ) → k < keys → getD starts k 0 ≡ nextWith ns k from
   pub nexts : (i : ℕ) → from ≤ i → i < length ns → getD links i 0 ≡ nextWith ns (key (getD ns i [])) (i + 1)
 
 -- what is found from the entry n on

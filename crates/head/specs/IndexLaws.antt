@@ -19,11 +19,11 @@ use borrow.Author.Tests.{eq-eqb, ne-eqb}
 use Rattle.trees.specs.Plain.{sameBytes}
 use Rattle.theorems.specs.ListLaws.{less-or-not, equal-or-not, if-true, if-false}
 use Rattle.theorems.specs.NameLaws.{same-true}
-use Rattle.head.specs.Index.{keyFrom, key, nextFrom, nextWith, Indexed, IndexedFrom, left}
+use Rattle.head.specs.Index.{keys, keyFrom, key, nextFrom, nextWith, Indexed, IndexedFrom, left}
 
 -- ---- the key
 
-pub key-below : (w : List ℕ) → key w < 128
+pub key-below : (w : List ℕ) → key w < keys
 unfolding key
 key-below w = omega arith
 
@@ -95,17 +95,17 @@ next-left ns k i =
 
 -- ---- the index as the loop makes it
 
-pub index-none : (ns : List (List ℕ)) (links : List ℕ) → IndexedFrom ns (length ns) (replicate 128 0) links
+pub index-none : (ns : List (List ℕ)) (links : List ℕ) → IndexedFrom ns (length ns) (replicate keys 0) links
 index-none ns links =
     record {
-      firsts = λ k h. getD-replicate 128 k 0 0 h ∙ sym (next-none ns k (length ns) (omega arith));
+      firsts = λ k h. getD-replicate keys k 0 0 h ∙ sym (next-none ns k (length ns) (omega arith));
       nexts = λ i f h. absurd (omega arith);
     }
 
 module _ (ns : List (List ℕ)) (i k : ℕ) (starts links : List ℕ)
-    (h : i < length ns) (q : key (getD ns i []) ≡ k) (a : length starts ≡ 128) (b : i < length links)
+    (h : i < length ns) (q : key (getD ns i []) ≡ k) (a : length starts ≡ keys) (b : i < length links)
     (p : IndexedFrom ns (i + 1) starts links) where
-  first-more : (j : ℕ) → j < 128 → (j ≡ k) ⊎ (j ≡ k → ⊥) → getD (set starts k (i + 1)) j 0 ≡ nextWith ns j i
+  first-more : (j : ℕ) → j < keys → (j ≡ k) ⊎ (j ≡ k → ⊥) → getD (set starts k (i + 1)) j 0 ≡ nextWith ns j i
   first-more j l (inl e) = rw e (getD-set-same starts k (i + 1) 0 (omega arith) ∙ sym (next-here ns k i h q))
   first-more j l (inr e) =
       getD-set-other starts k j (i + 1) 0 e ∙ p .firsts j l ∙ sym (next-later ns j i h (λ d. e (sym d ∙ q)))

@@ -13,7 +13,7 @@ ghost use Rattle.trees.specs.Plain.{sameBytes};
 ghost use Rattle.trees.specs.Names.{taxonOf};
 ghost use Rattle.fields.specs.Field.{number};
 ghost use Rattle.head.specs.Head.{numbersAt, nameAt, namesAt};
-ghost use Rattle.head.specs.Index.{key, Indexed, foundOf, Below};
+ghost use Rattle.head.specs.Index.{keys, key, Indexed, foundOf, Below};
 use answers::Taxon;
 
 // The answer of a search for a name.
@@ -102,13 +102,16 @@ pub fn second_constant(s: &[u8], i: Taxon) -> u64
     fields::get64(s, 2256 + 8 * i.0 as usize)
 }
 
+// How many keys names and labels have.
+pub const KEYS: usize = 128;
+
 // Makes the index of the names, whatever the two arrays held, from the last taxon down to the first.
-pub fn build_index(s: &[u8], starts: &mut [u8; 128], links: &mut [u8; 64])
+pub fn build_index(s: &[u8], starts: &mut [u8; KEYS], links: &mut [u8; 64])
     requires { ⌜ headBytes ≤ length (now s) ⌝ }
     requires { ⌜ numbersAt (now s) .taxa ≤ 64 ⌝ }
     ensures { λ r. ⌜ Indexed (namesAt (now (s .entry))) (now (starts .exit)) (now (links .exit)) ⌝ }
 {
-    *starts = [0; 128];
+    *starts = [0; KEYS];
     *links = [0; 64];
     let mut i = taxa(s) as usize;
     while 0 < i {
@@ -122,7 +125,7 @@ pub fn build_index(s: &[u8], starts: &mut [u8; 128], links: &mut [u8; 64])
 // The taxon whose name is the bytes of the text from b up to e: the names of their key, in list order.
 pub fn find_taxon(
     s: &[u8],
-    starts: &[u8; 128],
+    starts: &[u8; KEYS],
     links: &[u8; 64],
     text: &[u8],
     b: usize,
@@ -188,7 +191,7 @@ fn same_runs(s: &[u8], a: usize, z: usize, text: &[u8], b: usize, e: usize) -> b
 fn name_key(s: &[u8], i: usize) -> usize
     requires { ⌜ headBytes ≤ length (now s) ⌝ }
     requires { ⌜ i < 64 ⌝ }
-    ensures { λ r. ⌜ (r ≡ key (nameAt (now (s .entry)) i)) × (r < 128) ⌝ }
+    ensures { λ r. ⌜ (r ≡ key (nameAt (now (s .entry)) i)) × (r < keys) ⌝ }
 {
     let a = 17 + 33 * i;
     key_of(s, a, a + name_length(s, i))
@@ -207,7 +210,7 @@ fn name_length(s: &[u8], i: usize) -> usize
 fn key_of(s: &[u8], b: usize, e: usize) -> usize
     requires { ⌜ b ≤ e ⌝ }
     requires { ⌜ e ≤ length (now s) ⌝ }
-    ensures { λ r. ⌜ (r ≡ key (slice b e (now (s .entry)))) × (r < 128) ⌝ }
+    ensures { λ r. ⌜ (r ≡ key (slice b e (now (s .entry)))) × (r < keys) ⌝ }
 {
     let mut k = 0u32;
     let mut i = b;
@@ -215,5 +218,5 @@ fn key_of(s: &[u8], b: usize, e: usize) -> usize
         k = (k * 37 + s[i] as u32) % 65536;
         i += 1;
     }
-    (k % 128) as usize
+    k as usize % KEYS
 }

@@ -1,5 +1,6 @@
 // Reading nodes: each reader gathers what the leaves give and writes a record of each inner node into a lent list.
 use head::Found;
+use head::KEYS;
 use text::Cursor;
 use text::Next;
 use text::Read;
@@ -49,7 +50,7 @@ pub enum Gots {
 // One node, with at most `depth` brackets open at once.
 pub(crate) fn read_node(
     head: &[u8],
-    starts: &[u8; 128],
+    starts: &[u8; KEYS],
     links: &[u8; 64],
     text: &[u8],
     c: Mark,
@@ -124,7 +125,7 @@ pub(crate) fn read_node(
 // One node or more, with commas between.
 pub(crate) fn read_nodes(
     head: &[u8],
-    starts: &[u8; 128],
+    starts: &[u8; KEYS],
     links: &[u8; 64],
     text: &[u8],
     c: Mark,
@@ -165,7 +166,7 @@ pub(crate) fn read_nodes(
 // The leaf whose label stands from b up to e, behind the leaves that the mark c has seen.
 pub(crate) fn take_leaf(
     head: &[u8],
-    starts: &[u8; 128],
+    starts: &[u8; KEYS],
     links: &[u8; 64],
     text: &[u8],
     b: usize,

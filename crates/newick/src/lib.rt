@@ -6,6 +6,7 @@
 use answers::Refusal;
 use gather::Got;
 use gather::Mark;
+use head::KEYS;
 use text::Next;
 ghost use Prim.Native.Nat.{_≤_};
 ghost use lib.ListN.{length};
@@ -26,7 +27,7 @@ pub enum Judged {
 // The verdict on a text, by the index of the names; the records of its splits stand at the front of a list.
 pub fn judge(
     head: &[u8],
-    starts: &[u8; 128],
+    starts: &[u8; KEYS],
     links: &[u8; 64],
     text: &[u8],
     records: &mut [u64],

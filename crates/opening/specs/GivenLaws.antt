@@ -17,13 +17,13 @@ use lib.ListN.{length, getD, drop, drop-of-length-le}
 use lib.Seq.{drop-cons}
 use borrow.Author.Tests.{leb-true, lt-ltb, eq-eqb, ne-eqb, not-true, not-false}
 use Rattle.trees.specs.Plain.{every}
-use Rattle.trees.specs.Opening.{Numbers, between, inRange, storeSize, goodConstants, mostRoom}
+use Rattle.trees.specs.Opening.{Numbers, between, inRange, storeSize, goodConstants, mostRoom, headBytes}
 use Rattle.theorems.specs.ListLaws.{and-right}
 
 -- ---- the size of a store
 
 -- "at most 64 bytes per split of room, 256 per tree of room, 8,192 per lane and 8,192 besides"
-pub size-least : (x : Numbers) → mostRoom ≤ storeSize x
+pub size-least : (x : Numbers) → headBytes ≤ storeSize x
 unfolding storeSize
 size-least x = omega arith
 

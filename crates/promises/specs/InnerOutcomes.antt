@@ -23,6 +23,7 @@ use Rattle.records.specs.Slot.{SlotFound}
 use Rattle.records.specs.SlotLaws.{insert-taken, mem-at}
 use Rattle.records.specs.declared.Slot.{Slot}
 use Rattle.records.specs.declared.Slot.the-variants.{Free, Taken}
+use Rattle.head.specs.Index.{keys}
 use Rattle.head.specs.Head.{namesAt}
 use Rattle.newick.specs.Judge.{JudgedAs}
 use Rattle.newick.specs.declared.Judged.{Judged}
@@ -82,7 +83,7 @@ find-slot-once k x q r y z p a b = slot-both _ _ q r (p .1) a b
 -- ---- names
 
 pub build-index-once : Once build-index.Post
-    (λ x q r y z. ((i : ℕ) → i < 128 → getD (now (arg2 y)) i 0 ≡ getD (now (arg2 z)) i 0)
+    (λ x q r y z. ((i : ℕ) → i < keys → getD (now (arg2 y)) i 0 ≡ getD (now (arg2 z)) i 0)
     × ((i : ℕ) → i < length (namesAt (now (arg1 x))) → getD (now (arg3 y)) i 0 ≡ getD (now (arg3 z)) i 0))
 build-index-once k x q r y z a b = (λ i h. both (a .firsts i h) (b .firsts i h), λ i h. both (a .nexts i h) (b .nexts i h))
 

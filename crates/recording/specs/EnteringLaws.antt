@@ -18,7 +18,7 @@ use lib.ListN.{length, getD, take, drop}
 use lib.Seq.{take-suc, take-length, drop-cons, drop-length}
 use borrow.Author.Tests.{eqb-true, eqb-false}
 use Rattle.trees.specs.Plain.{member}
-use Rattle.trees.specs.Opening.{Numbers, headBytes, treeBytes}
+use Rattle.trees.specs.Opening.{Numbers, headBytes, treeBytes, mostRoom}
 use Rattle.theorems.specs.ListLaws.{less-or-not, mem-getD, mem-member, member-not}
 use Rattle.theorems.specs.RisingLaws.{Rising}
 use Rattle.fields.specs.Field.{number, put}
@@ -41,7 +41,7 @@ abbrev pub nextFrom : List ℕ → ℕ
 nextFrom s = treeFrom (numbersAt s) (treesHeldAt s)
 
 pub record Room (s : List ℕ) : Type 0 where
-  pub few : (numbersAt s .taxa ≤ 64) × (treesHeldAt s ≤ 1023) × (splitsHeldAt s ≤ headBytes)
+  pub few : (numbersAt s .taxa ≤ 64) × (treesHeldAt s ≤ 1023) × (splitsHeldAt s ≤ mostRoom)
   pub list : (headBytes ≤ treeFrom (numbersAt s) 0) × (treeFrom (numbersAt s) 0 ≤ nextFrom s) × (nextFrom s + treeBytes ≤ masksFrom (numbersAt s))
   pub masks : masksFrom (numbersAt s) + 8 * splitsHeldAt s ≤ identifiersFrom (numbersAt s)
   pub identifiers : identifiersFrom (numbersAt s) + 8 * splitsHeldAt s ≤ countsFrom (numbersAt s)

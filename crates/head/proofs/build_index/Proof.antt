@@ -6,14 +6,14 @@ use mathlib.Core.List.{[]}
 use lib.ListN.{length, getD, length-set}
 use Rattle.head.specs.Head.{numbersAt, namesAt}
 use Rattle.head.specs.HeadLaws.{names-length, names-at}
-use Rattle.head.specs.Index.{key, IndexedFrom}
+use Rattle.head.specs.Index.{keys, key, IndexedFrom}
 use Rattle.head.specs.IndexLaws.{index-none, index-more, index-all}
 use Rattle.head.proofs.build_index.Statement.{statement}
 use Rattle.head.proofs.build_index.Tie as tie
 
 abbrev Inv-loop : tie.InvT-loop
 Inv-loop s starts₀ links₀ i₀ starts links i =
-    (i ≤ numbersAt s .taxa) × (length starts ≡ 128) × (length links ≡ 64) × IndexedFrom (namesAt s) i starts links
+    (i ≤ numbersAt s .taxa) × (length starts ≡ keys) × (length links ≡ 64) × IndexedFrom (namesAt s) i starts links
 
 abbrev μ-loop : tie.MeasureT-loop
 μ-loop s starts₀ links₀ i₀ starts links i = i
