@@ -91,6 +91,13 @@ pub fn is_same(a: u64, b: u64) -> bool
     a == b
 }
 
+// Whether m has no taxon.
+pub fn is_empty(m: u64) -> bool
+    ensures { λ r. ⌜ r ≡ eqb m 0 ⌝ }
+{
+    m == 0
+}
+
 // The mask of all n taxa.
 pub fn every_taxon(n: u32) -> u64
     requires { ⌜ n ≤ 64 ⌝ }

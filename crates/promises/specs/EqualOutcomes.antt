@@ -4,7 +4,7 @@
 --   fields      get16-once, get32-once, get64-once, put16-once, put32-once, put64-once, copy-within-once, copy-from-once, clear-run-
 --               once
 --   masks       is-within-once, are-apart-once, is-proper-once, count-taxa-once, lowest-taxon-once, comes-before-once, is-same-once,
---               every-taxon-once, side-once, union-of-once, taxa-without-once, has-taxon-once, only-taxon-once
+--               is-empty-once, every-taxon-once, side-once, union-of-once, taxa-without-once, has-taxon-once, only-taxon-once
 --   text        is-blank-once, is-label-byte-once
 --   words       decimal-once
 --   records     mask-of-once, place-of-once, identifier-of-once, insert-record-once, put-record-once
@@ -37,6 +37,7 @@ use Rattle.masks.proofs.count_taxa.Reads as count-taxa
 use Rattle.masks.proofs.lowest_taxon.Reads as lowest-taxon
 use Rattle.masks.proofs.comes_before.Reads as comes-before
 use Rattle.masks.proofs.is_same.Reads as is-same
+use Rattle.masks.proofs.is_empty.Reads as is-empty
 use Rattle.masks.proofs.every_taxon.Reads as every-taxon
 use Rattle.masks.proofs.side.Reads as side
 use Rattle.masks.proofs.union_of.Reads as union-of
@@ -148,6 +149,9 @@ comes-before-once k x q r y z a b = both a b
 
 pub is-same-once : AnswerOnce is-same.Post
 is-same-once k x q r y z a b = both a b
+
+pub is-empty-once : AnswerOnce is-empty.Post
+is-empty-once k x q r y z a b = both a b
 
 pub every-taxon-once : AnswerOnce every-taxon.Post
 every-taxon-once k x q r y z a b = both a b
