@@ -5,6 +5,7 @@
 --   verdictOn s l           the verdict on the text of lane l
 --   Finished s l r t        the verdict on the lane's text, and the lane empty
 --   Small a                 the number of an accepted tree is at most 1,024
+--   blockBytes              how many bytes are counted at once, in a byte
 use Prim.Native.Nat.{ℕ, _≤_}
 use mathlib.Core.Path.{_≡_}
 use mathlib.Core.Bool.{false}
@@ -36,6 +37,9 @@ verdictOn s l = verdict (heldAt s) (laneOf (heldAt s) l)
 pub record Finished (s : List ℕ) (l : ℕ) (r : Progress) (t : List ℕ) : Type 0 where
   pub answer : progressGiven r ≡ finished (heldAt s) (verdictOn s l)
   pub left : Left (withLane (recording (heldAt s) (verdictOn s l)) l (holding [])) s l (finished (heldAt s) (verdictOn s l)) t
+
+abbrev pub blockBytes : ℕ
+blockBytes = 128
 
 -- a tree's number that fits its room
 unfoldable pub Small : Answer held.Progress → Type 0

@@ -15,7 +15,7 @@ ghost use Rattle.trees.specs.Batch.{verdictNumber};
 ghost use Rattle.answers.specs.Answers.{progressGiven};
 ghost use Rattle.store.specs.Lent.{Holds};
 ghost use Rattle.feeding.specs.Feeding.{SameOutside, noneAccepted};
-ghost use Rattle.feeding.specs.Texts.{FedWell, Small};
+ghost use Rattle.feeding.specs.Texts.{FedWell, Small, blockBytes};
 use crate::verdicts;
 use answers::Fed;
 use answers::Lane;
@@ -96,7 +96,7 @@ fn has_semicolon(piece: &[u8]) -> bool
     found
 }
 
-// How many bytes are compared at once.
+// How many bytes are compared at once: `blockBytes` of specs/Texts.antt.
 const BLOCK: usize = 128;
 
 // How many semicolons a piece has: in its blocks, and in what is left.
@@ -114,9 +114,9 @@ pub(crate) fn count_texts(piece: &[u8]) -> usize
     n + last
 }
 
-// How many semicolons a block of at most 128 bytes has. They are counted in a byte, so that many bytes are compared at once.
+// How many semicolons a block has. They are counted in a byte, so that many bytes are compared at once.
 fn count_block(block: &[u8]) -> usize
-    requires { ⌜ length (now block) ≤ 128 ⌝ }
+    requires { ⌜ length (now block) ≤ blockBytes ⌝ }
     ensures { λ r. ⌜ r ≡ semicolons (now (block .entry)) ⌝ }
     ensures { λ r. ⌜ r ≤ length (now (block .entry)) ⌝ }
 {

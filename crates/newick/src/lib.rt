@@ -11,6 +11,7 @@ use text::Next;
 ghost use Prim.Native.Nat.{_≤_};
 ghost use lib.ListN.{length};
 ghost use Rattle.trees.specs.Held.{mostText};
+ghost use Rattle.records.specs.Records.{room};
 ghost use Rattle.head.specs.Head.{openingAt};
 ghost use Rattle.newick.specs.Gather.{Prepared};
 ghost use Rattle.newick.specs.Judge.{JudgedAs};
@@ -34,7 +35,7 @@ pub fn judge(
 ) -> Judged
     requires { ⌜ Prepared (now head) (now starts) (now links) ⌝ }
     requires { ⌜ length (now text) ≤ mostText ⌝ }
-    requires { ⌜ 192 ≤ length (now records) ⌝ }
+    requires { ⌜ room ≤ length (now records) ⌝ }
     ensures { λ r. ⌜ JudgedAs (openingAt (now (head .entry))) (now (text .entry)) r (now (records .entry)) (now (records .exit)) ⌝ }
 {
     let mut found = [0u64; 192];

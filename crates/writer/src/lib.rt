@@ -72,14 +72,14 @@ fn write_branches(
     requires { ⌜ at + length (branchText (namesAt (now head)) (take k (now list)) m r) ≤ 65536 ⌝ }
     ensures { λ e. ⌜ Put (now (out .entry)) at (branchText (namesAt (now (head .entry))) (take k (now (list .entry))) m r) (now (out .exit)) e ⌝ }
 {
-    if r == 0 {
+    if masks::is_empty(r) {
         return at;
     }
     let i = masks::lowest_taxon(r);
     let x = widest_in(list, k, m, i);
     let e = write_child(head, list, k, i, x, out, at);
     let rest = masks::taxa_without(r, child_mask(i, x));
-    if rest == 0 {
+    if masks::is_empty(rest) {
         return e;
     }
     put_byte(out, e, b',');
@@ -103,7 +103,7 @@ fn write_child(
     requires { ⌜ at + length (childText (namesAt (now head)) (take k (now list)) (i .0) x) ≤ 65536 ⌝ }
     ensures { λ e. ⌜ Put (now (out .entry)) at (childText (namesAt (now (head .entry))) (take k (now (list .entry))) (i .0) x) (now (out .exit)) e ⌝ }
 {
-    if x == 0 {
+    if masks::is_empty(x) {
         return write_name(head, i, out, at);
     }
     put_byte(out, at, b'(');
@@ -117,7 +117,7 @@ fn child_mask(i: Taxon, x: u64) -> u64
     requires { ⌜ i .0 < 64 ⌝ }
     ensures { λ r. ⌜ r ≡ childMask (i .0) x ⌝ }
 {
-    if x == 0 {
+    if masks::is_empty(x) {
         return masks::only_taxon(i);
     }
     x

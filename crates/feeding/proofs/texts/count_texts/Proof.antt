@@ -4,6 +4,7 @@ use mathlib.Core.Path.{_≡_}
 use native.Mathlib.Omega.{arith}
 use lib.ListN.{length, drop}
 use Rattle.trees.specs.Batch.{semicolons}
+use Rattle.feeding.specs.Texts.{blockBytes}
 use Rattle.feeding.specs.EndLaws.{texts-none, texts-skip}
 use Rattle.feeding.proofs.texts.count_texts.Statement.{statement}
 use Rattle.feeding.proofs.texts.count_texts.Tie as tie
@@ -18,7 +19,7 @@ loop-again : tie.Need-loop-again Inv-loop μ-loop
 loop-again c =
     let l = c .before .before .before .loop in
     let p = c .before .before .before .before .before .args .piece .now in
-    let e = texts-skip p (l .at) (l .at + 128) (omega arith) in
+    let e = texts-skip p (l .at) (l .at + blockBytes) (omega arith) in
     let b = c .count-block .ensures in
     (omega arith, omega (arith, b .1, l .inv .1), omega (arith, b .0, e, l .inv .2))
 
