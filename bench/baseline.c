@@ -1,11 +1,12 @@
 /* The yardstick: the same work as crate timing makes the library do, as a C programmer would write it for one program.
  *
  * It keeps the collection in its own structures and never tests them. Splits are told apart by their whole masks. Input and output
- * are those of crate timing: a line `answers` or `times R`, a line of names, then texts. */
+ * are those of crate timing: a line `answers` or `PART N`, a line of names, then texts. For the line `text` it writes the matrix and both
+ * consensus trees as treecalls writes them. */
 #include "small.h"
 
 enum { TAXA = 64, TREES = 1024, SPLITS = 4096, SLOTS = 8192, NAME_SLOTS = 256, TEXT = 4096, NESTING = 63 };
-enum { INPUT = 2097152, CALLS = 16 };
+enum { INPUT = 4194304 };
 
 static u8 input[INPUT];
 static u32 verdicts[2 * TREES];
@@ -374,29 +375,49 @@ static void answers(u32 n)
     put_char('\n');
 }
 
-static void put_time(const char *what, long from, long to, u64 calls)
+static void text(void)
 {
-    put_text(what);
-    put_number((u64)(to - from) * 1000 / calls);
+    put_text("matrix ");
+    put_number(trees);
+    put_char(':');
+    for (u64 i = 0; i < (u64)trees * trees; i++) {
+        put_char(' ');
+        put_number(matrix[i]);
+    }
+    put_text("\ntext ");
+    put_bytes(strict_text, strict_size);
+    put_text("\ntext ");
+    put_bytes(majority_text, majority_size);
+    put_char('\n');
 }
 
-/* One round of each part; the times, in nanoseconds a call, are written where they are wanted. */
-static void round_of(const u8 *p, const u8 *end, int wanted)
+static u32 fill(const u8 *p, const u8 *end)
 {
     open();
-    long a = clock();
-    batch(p, end);
-    long b = clock();
-    write_matrix();
-    long c = clock();
-    for (int i = 0; i < CALLS; i++)
+    return batch(p, end);
+}
+
+/* Makes a part, named by its first letter: opening; opening and a batch; all pairs of trees; or both consensus trees. */
+static void make_part(u8 part, const u8 *p, const u8 *end)
+{
+    if (part == 'o')
+        open();
+    else if (part == 'b')
+        fill(p, end);
+    else if (part == 'm')
+        write_matrix();
+    else
         both_trees();
-    long d = clock();
-    if (!wanted)
-        return;
-    put_time("batch ", a, b, 1);
-    put_time(" matrix ", b, c, 1);
-    put_time(" consensus ", c, d, CALLS);
+}
+
+/* Fills the collection, makes a part n times, and writes the nanoseconds of one time. */
+static void time_part(u8 part, u64 n, const u8 *p, const u8 *end)
+{
+    fill(p, end);
+    long from = clock();
+    for (u64 i = 0; i < n; i++)
+        make_part(part, p, end);
+    put_number(n ? (u64)(clock() - from) * 1000 / n : 0);
     put_char('\n');
 }
 
@@ -445,21 +466,23 @@ int main(void)
     const u8 *p = memchr(input, '\n', (u64)(end - input));
     if (!p)
         return 1;
-    int rounds = 0;
+    u64 times = 0;
     for (const u8 *q = input; q < p; q++)
         if ('0' <= *q && *q <= '9')
-            rounds = rounds * 10 + *q - '0';
+            times = times * 10 + *q - '0';
     set_kinds();
     p = take_names(p + 1, end);
-    if (input[0] == 'a') {
-        open();
-        u32 n = batch(p, end);
+    if (input[0] != 'a' && input[0] != 't') {
+        time_part(input[0], times, p, end);
+    } else {
+        u32 n = fill(p, end);
         write_matrix();
         both_trees();
-        answers(n);
+        if (input[0] == 'a')
+            answers(n);
+        else
+            text();
     }
-    for (int i = 0; i <= rounds && input[0] == 't'; i++)
-        round_of(p, end, 0 < i);
     flush_output();
     return 0;
 }

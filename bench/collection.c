@@ -1,10 +1,13 @@
 /* Writes a collection of 1,024 trees over 64 taxa, the same for the same kind and seed: a line of names, then a text a line.
  *
- *     collection equal|random|mixed SEED
+ *     collection equal|random|mixed|posterior SEED
  *
  * equal: one tree, its branches turned about in each text. random: each tree is a base tree after some exchanges of neighbouring
- * branches, as many as keep the collection's splits growing evenly to just below 4,096. mixed: the two in turn. Two texts in four
- * have lengths; of the random trees one in eight has nodes of more than two children. */
+ * branches, as many as keep the collection's splits growing evenly to just below 4,096. mixed: the two in turn. Of these, two texts in
+ * four have lengths, and of the random trees one in eight has nodes of more than two children.
+ *
+ * posterior: trees as a Bayesian analysis samples them. Each is a few exchanges away from the one before; an exchange that loses splits
+ * of the base tree is mostly taken back, nearly always where they are firm, as every other one is. All texts have lengths. */
 #include "small.h"
 
 enum { TAXA = 64, TREES = 1024, SPLITS = 4096, NODES = 2 * TAXA - 1, ROOT = NODES - 1, MOST_MOVES = 200, SLOTS = 16384 };
@@ -102,7 +105,18 @@ static int take_splits(const struct tree *t, u32 limit)
     return 0;
 }
 
-static char names[TAXA][10];
+static char names[TAXA][16];
+
+/* Names of one species' strains, in which only the number differs. */
+static void make_strains(void)
+{
+    for (u32 i = 0; i < TAXA; i++) {
+        u64 n = (i + 1) * 131 + draw(131);
+        memcpy(names[i], "Lc_lactis_0000", 15);
+        for (u32 k = 14; n; n /= 10)
+            names[i][--k] = (char)('0' + n % 10);
+    }
+}
 
 static void make_names(void)
 {
@@ -111,15 +125,17 @@ static void make_names(void)
         for (u32 k = 0; k < size; k++)
             names[i][k] = (char)(k ? 'a' + draw(26) : 'A' + draw(26));
         for (u32 j = 0; j < i; j++)
-            if (!memcmp(names[i], names[j], 10))
+            if (!memcmp(names[i], names[j], 16))
                 names[i][0] = '_';
     }
 }
 
+static u64 least = 100; /* the smallest number that stands behind the point of a length */
+
 static void put_length(void)
 {
     put_text(":0.");
-    put_number(100 + draw(900));
+    put_number(least + draw(9 * least));
 }
 
 /* The children of a node in any order, those of a joined child in its place. */
@@ -172,6 +188,52 @@ static void make_near(struct tree *t, const struct tree *base, u32 limit)
     }
 }
 
+static u64 base_splits[TAXA];
+static u32 base_count;
+
+static u64 side_of(u64 cluster) { return cluster & 1 ? ~cluster : cluster; }
+
+/* How far a tree is from the base: 1 for each split of the base that it lacks, 8 for a firm one. */
+static u32 away(const struct tree *t)
+{
+    u64 clusters[NODES];
+    u32 far = 0;
+    cluster_of(t, ROOT, clusters);
+    for (u32 i = 0; i < base_count; i++) {
+        u32 node = TAXA;
+        while (node < ROOT && side_of(clusters[node]) != base_splits[i])
+            node++;
+        if (node == ROOT)
+            far += i % 2 ? 8 : 1;
+    }
+    return far;
+}
+
+static void keep_base(const struct tree *base)
+{
+    u64 clusters[NODES];
+    cluster_of(base, ROOT, clusters);
+    for (u32 node = TAXA; node < ROOT; node++) {
+        u64 mask = side_of(clusters[node]);
+        if (mask & (mask - 1) && mask != ~1ul)
+            base_splits[base_count++] = mask;
+    }
+}
+
+/* The next tree of the sample: some exchanges, each taken back unless it leads no farther away or chance allows it. */
+static void walk(struct tree *t)
+{
+    struct tree tried;
+    for (u32 i = 0; i < 12; i++) {
+        u32 now = away(t);
+        tried = *t;
+        exchange(&tried);
+        u32 then = away(&tried);
+        if ((then <= now || draw(1ul << 2 * (then - now)) == 0) && take_splits(&tried, SPLITS))
+            *t = tried;
+    }
+}
+
 static u64 seed_of(const char *text)
 {
     u64 n = 0;
@@ -186,19 +248,30 @@ int main(int count, char **words)
     if (count != 3)
         return 1;
     char kind = words[1][0];
+    int sampled = kind == 'p';
     state = seed_of(words[2]);
-    make_names();
+    if (sampled) {
+        least = 100000;
+        make_strains();
+    } else {
+        make_names();
+    }
     make_base(&base);
     take_splits(&base, SPLITS);
+    keep_base(&base);
     for (u32 i = 0; i < TAXA; i++) {
         put_text(names[i]);
         put_char(i + 1 < TAXA ? ' ' : '\n');
     }
+    tree = base;
     for (u32 i = 0; i < TREES; i++) {
-        tree = base;
+        if (sampled)
+            walk(&tree);
+        else
+            tree = base;
         if (kind == 'r' || (kind == 'm' && i % 2))
             make_near(&tree, &base, TAXA + (SPLITS - TAXA) * (i + 1) / TREES);
-        write_node(&tree, ROOT, i % 4 < 2);
+        write_node(&tree, ROOT, sampled || i % 4 < 2);
         put_text(";\n");
     }
     flush_output();

@@ -16,7 +16,7 @@ extern void *memset(void *to, int value, u64 bytes);
 extern void *memchr(const void *in, int value, u64 bytes);
 
 /* Output, collected and written in one go. */
-static char out_bytes[1 << 22];
+static char out_bytes[1 << 23];
 static u64 out_used;
 
 static inline void put_char(char c) { out_bytes[out_used++] = c; }

@@ -232,6 +232,11 @@ impl Collection {
         self.consensus_text(&self.majority_splits(), room)
     }
 
+    /// Both, each into a buffer of so many bytes.
+    pub fn both_texts(&self, room: usize) -> Result<(Vec<u8>, Vec<u8>), u32> {
+        Ok((self.strict_text(room)?, self.majority_text(room)?))
+    }
+
     pub fn tree_text(&self, number: u64, room: usize) -> Result<Vec<u8>, u32> {
         fitting(written(&self.opening.names, self.masks(number)?), room)
     }

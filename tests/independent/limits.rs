@@ -117,7 +117,7 @@ fn taxa(random: &mut Random) -> Vec<u8> {
         lines.push(open_line(&numbers, &names.join(&b' '), &zeros, &zeros));
         let text = bare_text(random, &names, 2);
         lines.push(format!("feed 0 {}3b", hex(&text)));
-        lines.extend(["splits", "majority", "collisions", "matrix"].map(str::to_string));
+        lines.extend(["splits", "majority", "both", "collisions", "matrix"].map(str::to_string));
     }
     joined(&lines)
 }
@@ -219,7 +219,7 @@ fn largest_tree_room(random: Random) -> Vec<u8> {
     let text = written(&maker.names, &pool[0]);
     maker.feed(0, &text);
     maker.peek();
-    for line in ["trees", "count", "splits", "matrix", "strict", "majority", "collisions", "tree 1023", "write 1023"] {
+    for line in ["trees", "count", "splits", "matrix", "strict", "majority", "both", "collisions", "tree 1023", "write 1023"] {
         maker.ask(line);
     }
     maker.script()

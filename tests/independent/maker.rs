@@ -80,7 +80,7 @@ impl Maker {
 
     /// Every question, with every tree, behind a lifted limit.
     pub fn questions(&mut self) {
-        for line in ["room -", "trees", "count", "splits", "matrix", "strict", "majority", "collisions"] {
+        for line in ["room -", "trees", "count", "splits", "matrix", "strict", "majority", "both", "collisions"] {
             self.ask(line);
         }
         for tree in 0..=self.held.number_of_trees() {
@@ -97,7 +97,7 @@ pub fn every_call(piece: &[u8]) -> Vec<String> {
     calls
 }
 
-pub const QUESTIONS: [&str; 12] = [
+pub const QUESTIONS: [&str; 13] = [
     "trees",
     "count",
     "splits",
@@ -108,6 +108,7 @@ pub const QUESTIONS: [&str; 12] = [
     "matrix",
     "strict",
     "majority",
+    "both",
     "write 0",
     "collisions",
 ];

@@ -2,7 +2,7 @@
 
 use std::ops::Range;
 
-pub const MOST_LENT: u64 = 1_048_576;
+pub const MOST_LENT: u64 = 8_388_608;
 const LENT_BYTE: u8 = 165;
 
 pub struct Memory {

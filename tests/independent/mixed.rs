@@ -96,6 +96,7 @@ fn some_question(random: &mut Random) -> String {
         format!("two {a} {b}"),
         "strict".to_string(),
         "majority".to_string(),
+        "both".to_string(),
         format!("write {b}"),
         "collisions".to_string(),
     ];

@@ -4,7 +4,7 @@ use crate::maker::joined;
 use crate::random::Random;
 
 /// A line of every call that is one once something is opened.
-const GOOD: [&str; 22] = [
+const GOOD: [&str; 23] = [
     "size 4 1 1 1 1",
     "open 4 1 1 1 1 41204220432044 0,0,0,0 0,0,0,0",
     "feed 0 28",
@@ -21,6 +21,7 @@ const GOOD: [&str; 22] = [
     "matrix",
     "strict",
     "majority",
+    "both",
     "write 0",
     "collisions",
     "agree 6 12",
@@ -38,7 +39,7 @@ const OTHERS: [&str; 42] = [
     "xyzzy",
     "lend",
     "lend -",
-    "lend 1048577",
+    "lend 8388609",
     "lend 18446744073709551615",
     "lend 18446744073709551616",
     "peek 0 18446744073709551615",
@@ -86,7 +87,7 @@ pub fn oddities(seed: u64, count: usize) -> Vec<u8> {
         lines.extend(OTHERS.map(str::to_string));
         lines.extend(edges_of_memory());
     }
-    lines.push("x".repeat(3_000_000));
+    lines.extend(longest_lines());
     let mut script = joined(&lines);
     script.extend(any_bytes(&mut random));
     script.extend(b"trees");
@@ -129,17 +130,17 @@ fn cut_anywhere(random: &mut Random, line: &str) -> String {
 
 fn edges_of_memory() -> Vec<String> {
     let lines = [
-        "lend 1048576",
-        "peek 1048576 0",
-        "peek 1048575 1",
-        "peek 1048575 2",
-        "peek 1048576 1",
-        "poke 1048576 -",
-        "poke 1048575 07",
-        "peek 1048574 2",
-        "poke 1048575 0708",
-        "poke 1048576 07",
-        "peek 1048575 1",
+        "lend 8388608",
+        "peek 8388608 0",
+        "peek 8388607 1",
+        "peek 8388607 2",
+        "peek 8388608 1",
+        "poke 8388608 -",
+        "poke 8388607 07",
+        "peek 8388606 2",
+        "poke 8388607 0708",
+        "poke 8388608 07",
+        "peek 8388607 1",
         "trees",
         "lend 2",
         "peek 0 2",
@@ -162,6 +163,20 @@ fn edges_of_memory() -> Vec<String> {
         "room -",
     ];
     lines.map(str::to_string).to_vec()
+}
+
+/// The longest line with room for all bytes that can be lent, one of the greatest length that is no call, and a line longer than that.
+fn longest_lines() -> Vec<String> {
+    let lend = "lend 8388608".to_string();
+    let poke = format!("poke 0 {}", "3b".repeat(8_388_608));
+    vec![
+        lend,
+        poke,
+        "peek 8388605 3".to_string(),
+        "x".repeat(16_777_224),
+        "x".repeat(16_777_225),
+        "x".repeat(34_000_000),
+    ]
 }
 
 /// Lines of bytes by chance.

@@ -16,6 +16,7 @@ pub enum Question {
     Matrix,
     Strict,
     Majority,
+    Both,
     Write(u64),
     Collisions,
 }
@@ -35,6 +36,7 @@ impl Question {
             [b"matrix"] => Question::Matrix,
             [b"strict"] => Question::Strict,
             [b"majority"] => Question::Majority,
+            [b"both"] => Question::Both,
             [b"write", t] => Question::Write(number(t)?),
             [b"collisions"] => Question::Collisions,
             _ => return None,
@@ -56,6 +58,7 @@ impl Question {
             Question::Matrix => matrix_line(collection.number_of_trees(), &collection.matrix(room)?),
             Question::Strict => text_line(&collection.strict_text(room)?),
             Question::Majority => text_line(&collection.majority_text(room)?),
+            Question::Both => both_line(&collection.both_texts(room)?),
             Question::Write(t) => text_line(&collection.tree_text(*t, room)?),
             Question::Collisions => number_line(collection.collisions()),
         })
@@ -119,6 +122,10 @@ fn verdict_word(verdict: &Result<usize, u32>) -> String {
 
 fn text_line(text: &[u8]) -> Vec<u8> {
     [b"text ", text].concat()
+}
+
+fn both_line((strict, majority): &(Vec<u8>, Vec<u8>)) -> Vec<u8> {
+    [b"both ", &strict[..], b" ", majority].concat()
 }
 
 /// A word, and each element after one space.

@@ -63,7 +63,7 @@ fn no_trees(maker: &mut Maker) {
     maker.peek();
     for room in ["room 0", "room -"] {
         maker.ask(room);
-        for line in ["strict", "majority", "tree 0", "write 0", "split 0", "one 0 0", "two 0 0", "matrix", "splits"] {
+        for line in ["strict", "majority", "both", "tree 0", "write 0", "split 0", "one 0 0", "two 0 0", "matrix", "splits"] {
             maker.watched(line);
         }
         maker.watched("batch 0 -");
@@ -181,6 +181,7 @@ fn answers_with_lengths(held: &Collection) -> Vec<(String, usize)> {
         ("matrix".to_string(), held.number_of_trees().pow(2)),
         ("strict".to_string(), long(held.strict_text(all))),
         ("majority".to_string(), long(held.majority_text(all))),
+        ("both".to_string(), long(held.majority_text(all))),
     ];
     for tree in 0..held.number_of_trees() {
         out.push((format!("tree {tree}"), held.trees()[tree].len()));

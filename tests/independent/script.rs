@@ -122,7 +122,7 @@ impl Script {
     fn question_line(&mut self) -> String {
         let (a, b) = (self.small(), self.small());
         let masks = (self.random.next() % 64, self.random.next() % 64);
-        match self.random.below(14) {
+        match self.random.below(15) {
             0 => "trees".to_string(),
             1 => "count".to_string(),
             2 => "splits".to_string(),
@@ -133,9 +133,10 @@ impl Script {
             7 => "matrix".to_string(),
             8 => "strict".to_string(),
             9 => "majority".to_string(),
-            10 => format!("write {a}"),
-            11 => "collisions".to_string(),
-            12 => format!("agree {} {}", masks.0, masks.1),
+            10 => "both".to_string(),
+            11 => format!("write {a}"),
+            12 => "collisions".to_string(),
+            13 => format!("agree {} {}", masks.0, masks.1),
             _ => format!("agree {} {}", self.random.next(), self.random.next()),
         }
     }
@@ -191,9 +192,9 @@ impl Script {
             "agree 1",
             "Trees",
             "size 4 1 1 1",
-            "lend 1048577",
-            "peek 1048576 1",
-            "poke 1048576 00",
+            "lend 8388609",
+            "peek 8388608 1",
+            "poke 8388608 00",
             "room",
             "room x",
             "batch 0",

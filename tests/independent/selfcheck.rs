@@ -205,7 +205,7 @@ fn agree_in_pairs(splits: &Masks) -> bool {
 }
 
 /// Calls and answers in order; NAMES, T0; and the like stand for their hex.
-const CALLS: [(&str, &str); 54] = [
+const CALLS: [(&str, &str); 57] = [
     ("trees", "refused 1"),
     ("size 5 2 2 3 6", "bytes 12644"),
     ("lend 12643", "done"),
@@ -218,6 +218,7 @@ const CALLS: [(&str, &str); 54] = [
     ("open 5 2 2 3 6 NAMES 0,0,0,0,0 0,0,0,0,0", "done"),
     ("matrix", "matrix 0:"),
     ("strict", "refused 14"),
+    ("both", "refused 14"),
     ("splits", "splits"),
     ("feed 2 -", "refused 0 5"),
     ("feed 1 -", "more 0"),
@@ -236,10 +237,12 @@ const CALLS: [(&str, &str); 54] = [
     ("two 1 0", "number 1"),
     ("matrix", "matrix 2: 0 1 1 0"),
     ("majority", "text (A,B,(C,D,E));"),
+    ("both", "both (A,B,(C,D,E)); (A,B,(C,D,E));"),
     ("write 0", "text (A,B,(C,(D,E)));"),
     ("collisions", "number 1"),
     ("room 3", "done"),
     ("matrix", "refused 4"),
+    ("both", "refused 4"),
     ("tree 2", "refused 13"),
     ("room -", "done"),
     ("agree 20 24", "agree 0"),

@@ -98,6 +98,6 @@ fn calls_on(random: &mut Random, maker: &Maker) -> Vec<String> {
     let text = [one_text(random, &maker.names, &[tree]), b";".to_vec()].concat();
     let mut lines = every_call(&text);
     lines.extend(["close 0".to_string(), format!("feed 0 {}", hex(&text))]);
-    lines.extend(["splits", "matrix", "majority", "strict", "collisions"].map(str::to_string));
+    lines.extend(["splits", "matrix", "majority", "strict", "both", "collisions"].map(str::to_string));
     lines
 }

@@ -5,20 +5,27 @@
 --   filled-refused                   a call that fills a buffer leaves it as found where it refuses
 --   filled-short, filled-given       4 where the buffer is too short for the whole answer, else the answer at its front
 --   filled-as                        a call that leaves the answer to another one
+--   gives≢refused                    no answer gives and refuses
+--   both-refused                     a call that fills two buffers leaves them as found where it refuses
+--   both-as                          a call that leaves the answer to another one
+--   both-second, both-filled         the first buffer's answer is given, and the second's is left to another call: its refusal, or both
 use Prim.Native.Nat.{ℕ, _≤_, _<_}
+use native.Mathlib.Omega.{arith}
 use mathlib.Core.Path.{_≡_, refl, sym, ap, _∙_}
 use mathlib.Core.List.{List, _++_}
 use lib.ListN.{length, drop}
 use borrow.Author.Tests.{lt-ltb, le-ltb}
-use Rattle.trees.specs.Plain.{Answer, gives}
-use Rattle.trees.specs.Questions.{ifRoom}
+use Rattle.trees.specs.Plain.{Answer, refused, gives}
+use Rattle.trees.specs.Questions.{ifRoom, together}
 use Rattle.answers.specs.declared.Refusal.{Refusal}
 use Rattle.answers.specs.declared.Refusal.the-variants as why
 use Rattle.answers.specs.declared.Number.{Number}
 use Rattle.answers.specs.declared.Number.the-variants as number
+use Rattle.answers.specs.declared.Both.{Both}
+use Rattle.answers.specs.declared.Both.the-variants as both
 use Rattle.answers.specs.declared.Recorded.the-variants as recorded
-use Rattle.answers.specs.Answers.{refusalNumber, refusing, numberGiven, splitGiven}
-use Rattle.answers.specs.Filled.{lengthGiven, front, FilledAs}
+use Rattle.answers.specs.Answers.{refusalNumber, refusing, numberGiven, bothGiven, splitGiven}
+use Rattle.answers.specs.Filled.{lengthGiven, front, FilledAs, firstOf, secondOf, lengthsGiven, BothFilledAs}
 
 -- ---- a number, a split
 
@@ -58,3 +65,34 @@ module _ (x : Answer (List ℕ)) (out : List ℕ) where
 
   pub filled-as : (y : Answer (List ℕ)) → x ≡ y → (r : Number) (m : List ℕ) → FilledAs y r out m → FilledAs x r out m
   filled-as y e r m f = rw e f
+
+-- ---- two buffers
+
+pub gives≢refused : {A : Type 0} (x : A) (k : ℕ) → _≡_ {A = Answer A} (gives x) (refused k) → ⊥
+gives≢refused x k e = let z : _≡_ {A = ℕ} 0 1 = cc in omega arith
+
+module _ (x : Answer (List ℕ × List ℕ)) (first second : List ℕ) where
+  pub both-refused : (r : Refusal) → x ≡ refusing r → BothFilledAs x (both.Refused r) first second first second
+  unfolding bothGiven lengthsGiven firstOf secondOf front
+  both-refused r e = rw e (refl, (refl, refl))
+
+  pub both-as : (y : Answer (List ℕ × List ℕ)) → x ≡ y → (r : Both) (m n : List ℕ) → BothFilledAs y r first second m n → BothFilledAs x r first second m n
+  both-as y e r m n f = rw e f
+
+  module _ (xs : List ℕ) (y : Answer (List ℕ)) (e : x ≡ together (gives xs) y) (m : List ℕ) where
+    pub both-second : (r : Refusal) → FilledAs y (number.Refused r) second m → BothFilledAs x (both.Refused r) first second first m
+    unfolding together numberGiven bothGiven lengthGiven lengthsGiven firstOf secondOf front
+    both-second r f = rw e (go y f)
+      where
+        go : (z : Answer (List ℕ)) → FilledAs z (number.Refused r) second m → BothFilledAs (together (gives xs) z) (both.Refused r) first second first m
+        go (refused k) g = (ap (λ (n : ℕ). refused n) (cc), (refl, g .1))
+        go (gives ys) g = absurd (gives≢refused (length ys) (refusalNumber r) (sym (g .0)))
+
+    pub both-filled : (k n : ℕ) (l : List ℕ) → k ≡ length xs → l ≡ xs ++ drop (length xs) first → FilledAs y (number.Gives n) second m
+        → BothFilledAs x (both.Gives k n) first second l m
+    unfolding together numberGiven bothGiven lengthGiven lengthsGiven firstOf secondOf front
+    both-filled k n l p q f = rw e (go y f)
+      where
+        go : (z : Answer (List ℕ)) → FilledAs z (number.Gives n) second m → BothFilledAs (together (gives xs) z) (both.Gives k n) first second l m
+        go (refused j) g = absurd (gives≢refused n j (g .0))
+        go (gives ys) g = (cc, (q, g .1))

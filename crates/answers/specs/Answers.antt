@@ -2,7 +2,7 @@
 --
 --   refusalNumber r                                   the number of a refusal in the table of document 01
 --   refusing r                                        the answer that refuses with that number
---   finishGiven, numberGiven, splitGiven, progressGiven     an answer of the code, as the definitions of crate trees have it
+--   finishGiven, numberGiven, bothGiven, splitGiven, progressGiven     an answer of the code, as the definitions of crate trees have it
 use Prim.Native.Nat.{ℕ}
 use Rattle.trees.specs.Plain.{Answer, refused, gives}
 use Rattle.trees.specs.Held.{moreWanted, accepted}
@@ -13,6 +13,8 @@ use Rattle.answers.specs.declared.Finish.{Finish}
 use Rattle.answers.specs.declared.Finish.the-variants as finish
 use Rattle.answers.specs.declared.Number.{Number}
 use Rattle.answers.specs.declared.Number.the-variants as number
+use Rattle.answers.specs.declared.Both.{Both}
+use Rattle.answers.specs.declared.Both.the-variants as both
 use Rattle.answers.specs.declared.Recorded.{Recorded}
 use Rattle.answers.specs.declared.Recorded.the-variants as recorded
 use Rattle.answers.specs.declared.Progress.{Progress}
@@ -47,6 +49,12 @@ unfoldable pub numberGiven : Number → Answer ℕ
 unfolding refusalNumber
 numberGiven (number.Refused r) = refused (refusalNumber r)
 numberGiven (number.Gives n) = gives n
+
+-- two numbers at once
+unfoldable pub bothGiven : Both → Answer (ℕ × ℕ)
+unfolding refusalNumber
+bothGiven (both.Refused r) = refused (refusalNumber r)
+bothGiven (both.Gives m n) = gives (m, n)
 
 -- a split's mask and its count
 unfoldable pub splitGiven : Recorded → Answer (ℕ × ℕ)

@@ -46,6 +46,13 @@ pub enum Number {
     Gives(usize),
 }
 
+// The answer of a call that gives two numbers: how many elements it wrote into each of two buffers, or how many
+// bytes it wrote and how many lines they are.
+pub enum Both {
+    Refused(Refusal),
+    Gives(usize, usize),
+}
+
 // The answer of a call that gives one split: its mask and its count.
 pub enum Recorded {
     Refused(Refusal),

@@ -29,11 +29,10 @@ use Rattle.layout.specs.Store.{treesHeldAt, listAt, treeAt, heldAt, heldIn}
 use Rattle.layout.specs.WholeStore.{wholeAt}
 use Rattle.rows.specs.ReadLaws.{tree-length}
 use Rattle.store.specs.RecordedAtLaws.{tree-at}
-use Rattle.store.specs.Lent.{ifWhole}
-use Rattle.store.specs.LentLaws.{asked-missing, asked-there, asked-none, asked-some}
+use Rattle.store.specs.LentLaws.{asked-missing, asked-there, trees-none, trees-some}
 use Rattle.writer.specs.declared.Text.the-variants.{Bytes, TooShort}
 use Rattle.writer.specs.Text.{Wrote}
-use Rattle.consensus.specs.Consensus.{strictAsked, majorityAsked, writtenAsked, textAsked}
+use Rattle.consensus.specs.Consensus.{writtenAsked, textAsked}
 
 -- ---- a text that is written
 
@@ -56,26 +55,22 @@ text-held s l room = refl
 abbrev pub consensusBy : (List (List ℕ) → List ℕ) → ℕ → Held → Answer (List ℕ)
 consensusBy g room h = ifTrees h (ifRoom room (written (h .opening .names) (g (h .trees))))
 
-module _ (s : List ℕ) (room : ℕ) where
-  pub strict-by : strictAsked s room ≡ ifWhole s (consensusBy strict room)
+module _ (h : Held) (room : ℕ) where
+  pub strict-by : strictOf h room ≡ consensusBy strict room h
   unfolding strictOf
   strict-by = refl
 
-  pub majority-by : majorityAsked s room ≡ ifWhole s (consensusBy majority room)
+  pub majority-by : majorityOf h room ≡ consensusBy majority room h
   unfolding majorityOf
   majority-by = refl
 
-module _ (g : List (List ℕ) → List ℕ) (s out : List ℕ) (w : wholeAt s ≡ true) (x : Answer (List ℕ)) (is : x ≡ ifWhole s (consensusBy g (length out))) where
-  -- what is asked where there are trees
-  abbrev text : Held → Answer (List ℕ)
-  text h = ifRoom (length out) (written (h .opening .names) (g (h .trees)))
-
+module _ (g : List (List ℕ) → List ℕ) (s out : List ℕ) (x : Answer (List ℕ)) (is : x ≡ consensusBy g (length out) (heldAt s)) where
   pub no-consensus : treesHeldAt s ≡ 0 → FilledAs x (number.Refused why.NoTrees) out out
-  no-consensus z = filled-refused x out why.NoTrees (is ∙ asked-none s w text z)
+  no-consensus z = filled-refused x out why.NoTrees (is ∙ trees-none s _ z)
 
   pub consensus-given : (treesHeldAt s ≡ 0 → ⊥) → (l : List ℕ) → l ≡ g (heldAt s .trees) → (r : Number) (m : List ℕ)
       → FilledAs (textAsked s l (length out)) r out m → FilledAs x r out m
-  consensus-given z l e r m f = filled-as x out _ (is ∙ asked-some s w text z ∙ text-held s _ _) r m (rw (← e) f)
+  consensus-given z l e r m f = filled-as x out _ (is ∙ trees-some s _ z ∙ text-held s _ _) r m (rw (← e) f)
 
 -- ---- an accepted tree
 

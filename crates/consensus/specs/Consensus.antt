@@ -2,13 +2,14 @@
 --
 --   strictAsked s room         the tree of the splits that all trees have, into a buffer of `room` bytes
 --   majorityAsked s room       the tree of the splits that more than half of the trees have
+--   bothAsked s a b            both of these trees, into buffers of a and b bytes
 --   writtenAsked s i room      accepted tree i
 --   textAsked s l room         the tree of the splits l, over the names of the store
 use Prim.Native.Nat.{ℕ}
 use mathlib.Core.List.{List}
 use Rattle.trees.specs.Plain.{Answer}
 use Rattle.trees.specs.Written.{written}
-use Rattle.trees.specs.Questions.{ifRoom, strictOf, majorityOf, writtenOf}
+use Rattle.trees.specs.Questions.{ifRoom, strictOf, majorityOf, bothOf, writtenOf}
 use Rattle.head.specs.Head.{namesAt}
 use Rattle.store.specs.Lent.{ifWhole}
 
@@ -17,6 +18,9 @@ strictAsked s room = ifWhole s (λ h. strictOf h room)
 
 abbrev pub majorityAsked : List ℕ → ℕ → Answer (List ℕ)
 majorityAsked s room = ifWhole s (λ h. majorityOf h room)
+
+abbrev pub bothAsked : List ℕ → ℕ → ℕ → Answer (List ℕ × List ℕ)
+bothAsked s a b = ifWhole s (λ h. bothOf h a b)
 
 abbrev pub writtenAsked : List ℕ → ℕ → ℕ → Answer (List ℕ)
 writtenAsked s i room = ifWhole s (λ h. writtenOf h i room)

@@ -2,7 +2,8 @@
 --
 --   good-few                           a good tree over n names has at most n - 2 splits
 -- of a whole store that holds t trees:
---   tree-few                           a good tree over its names has at most 62
+--   names-good                         its names are good
+--   tree-few, tree-short               a good tree over them has at most 62 splits, and its text at most 2,236 bytes
 --   trees-good                         its trees are good
 --   strict-chosen, majority-chosen     the strict splits are those that t trees have, the majority splits those that half of t and one more have
 --   strict-tree, majority-tree         and these are good trees
@@ -15,15 +16,15 @@ use lib.ListN.{length}
 use Rattle.trees.specs.Names.{goodNames}
 use Rattle.trees.specs.Consensus.{strict, majority}
 use Rattle.trees.specs.Opening.{inRange, goodConstants}
-use Rattle.trees.specs.Written.{treeOf, shown}
+use Rattle.trees.specs.Written.{treeOf, shown, written}
 use Rattle.trees.specs.Whole.{goodTree, goodOpening}
 use Rattle.theorems.specs.ListLaws.{and-right}
 use Rattle.theorems.specs.NameLaws.{good-count}
 use Rattle.theorems.specs.FewLaws.{few-splits}
-use Rattle.theorems.specs.WrittenLaws.{written-tree-reads-back}
+use Rattle.theorems.specs.WrittenLaws.{written-tree-reads-back, written-length}
 use Rattle.theorems.specs.ConsensusLaws.{AllGood, strict-good, majority-good}
 use Rattle.head.specs.Head.{numbersAt, namesAt, openingAt}
-use Rattle.layout.specs.Store.{treesHeldAt, heldAt, mostSplits}
+use Rattle.layout.specs.Store.{treesHeldAt, heldAt, heldIn, mostSplits}
 use Rattle.layout.specs.WholeStore.{wholeAt}
 use Rattle.layout.specs.WholeFacts.{whole-at-facts}
 use Rattle.store.specs.RecordedAtLaws.{trees-length, trees-mem}
@@ -39,7 +40,7 @@ good-few n ns l names good least most =
     omega (arith, few-splits ns (shown (treeOf ns l)) l (omega arith) (written-tree-reads-back n ns l names good least most))
 
 module _ (s : List ℕ) (w : wholeAt s ≡ true) where
-  names-good : goodNames (numbersAt s .taxa) (namesAt s) ≡ true
+  pub names-good : goodNames (numbersAt s .taxa) (namesAt s) ≡ true
   unfolding goodOpening openingAt
   names-good =
       let o = openingAt s in
@@ -52,6 +53,13 @@ module _ (s : List ℕ) (w : wholeAt s ≡ true) where
       let a = r .least-taxa in
       let b = r .most-taxa in
       omega (arith, good-few (numbersAt s .taxa) (namesAt s) l names-good g (omega arith) b)
+
+  pub tree-short : (l : List ℕ) → goodTree (numbersAt s .taxa) l ≡ true → length (written (heldAt s .opening .names) l) ≤ 2236
+  unfolding heldIn openingAt
+  tree-short l g =
+      let r = opening-facts s w .ranges in
+      let a = r .least-taxa in
+      written-length (numbersAt s .taxa) (namesAt s) l names-good g (omega arith) (r .most-taxa)
 
   pub trees-good : AllGood (numbersAt s .taxa) (heldAt s .trees)
   trees-good t h = let i = trees-mem s t h in rw (i .2) (tree-good s w (i .0) (i .1))

@@ -5,3 +5,4 @@ pub mod ChosenLaws
 pub mod ChooseLaws
 pub mod FewLaws
 pub mod AskedLaws
+pub mod BothLaws

@@ -5,17 +5,20 @@
 // functions between do.
 ghost use mathlib.Core.Path.{_≡_};
 ghost use mathlib.Core.Bool.{true};
-ghost use mathlib.Core.List.{_++_};
+ghost use mathlib.Core.List.{map, _++_};
 ghost use Prim.Native.Nat.{_*_, _≤_, _<_};
 ghost use lib.ListN.{length, drop};
 ghost use Rattle.trees.specs.Distance.{oneSided, doubled, matrix};
 ghost use Rattle.layout.specs.Store.{treesHeldAt, treeAt, heldAt};
 ghost use Rattle.layout.specs.WholeStore.{wholeAt};
+use crate::short::MOST_TREES;
+use crate::short::PLACES;
 use answers::Tree;
 use layout::MOST_ROOM;
 
 mod entries;
 mod marks;
+mod short;
 
 // The number of splits of tree a that tree b lacks.
 pub fn one_sided(s: &[u8], a: Tree, b: Tree) -> u16
@@ -24,7 +27,7 @@ pub fn one_sided(s: &[u8], a: Tree, b: Tree) -> u16
     ensures { λ r. ⌜ r ≡ oneSided (treeAt (now (s .entry)) (a .0)) (treeAt (now (s .entry)) (b .0)) ⌝ }
 {
     let mut marks = [1; MOST_ROOM];
-    marks::mark_tree(s, b.0, 0, &mut marks);
+    marks::mark_tree(s, b.0, &mut marks);
     marks::lacking(s, b.0, &marks, a.0) as u16
 }
 
@@ -35,8 +38,25 @@ pub fn doubled(s: &[u8], a: Tree, b: Tree) -> u16
     ensures { λ r. ⌜ r ≡ doubled (treeAt (now (s .entry)) (a .0)) (treeAt (now (s .entry)) (b .0)) ⌝ }
 {
     let mut marks = [1; MOST_ROOM];
-    marks::mark_tree(s, a.0, 0, &mut marks);
+    marks::mark_tree(s, a.0, &mut marks);
     marks::distance(s, a.0, &marks, b.0)
+}
+
+// Writes the doubled distances of tree i from all trees, in their order, to the front of `out`.
+pub fn write_row(s: &[u8], i: Tree, out: &mut [u16])
+    requires { ⌜ wholeAt (now s) ≡ true ⌝ }
+    requires { ⌜ i .0 < treesHeldAt (now s) ⌝ }
+    requires { ⌜ treesHeldAt (now s) ≤ length (now out) ⌝ }
+    ensures { λ r. ⌜ now (out .exit) ≡ map (doubled (treeAt (now (s .entry)) (i .0))) (heldAt (now (s .entry)) .trees) ++ drop (treesHeldAt (now (s .entry))) (now (out .entry)) ⌝ }
+{
+    let trees = layout::trees_held(s);
+    let mut marks = [1; MOST_ROOM];
+    marks::mark_tree(s, i.0, &mut marks);
+    let mut j = 0;
+    while j < trees {
+        out[j] = marks::distance(s, i.0, &marks, j);
+        j += 1;
+    }
 }
 
 // Writes the doubled distances of all pairs of trees to the front of `out`, row by row.
@@ -46,12 +66,8 @@ pub fn write_matrix(s: &[u8], out: &mut [u16])
     ensures { λ r. ⌜ now (out .exit) ≡ matrix (heldAt (now (s .entry)) .trees) ++ drop (treesHeldAt (now (s .entry)) * treesHeldAt (now (s .entry))) (now (out .entry)) ⌝ }
 {
     let trees = layout::trees_held(s);
-    let mut marks = [1; MOST_ROOM];
-    let mut i = 0;
-    while i < trees {
-        marks::mark_tree(s, i, 0, &mut marks);
-        entries::write_row(s, i, &marks, out);
-        marks::mark_tree(s, i, 1, &mut marks);
-        i += 1;
-    }
+    let mut short = [0; PLACES];
+    let mut sizes = [0; MOST_TREES];
+    short::shorten(s, trees, &mut short, &mut sizes);
+    entries::write_entries(s, trees, &short, &sizes, out);
 }

@@ -14,19 +14,19 @@ ghost use Rattle.distances.specs.Marks.{marked, marksOf, markSum};
 use answers::Tree;
 use layout::MOST_ROOM;
 
-// Puts v at each row that tree i lists.
-pub(crate) fn mark_tree(s: &[u8], i: usize, v: u8, marks: &mut [u8; MOST_ROOM])
+// Marks each row that tree i lists.
+pub(crate) fn mark_tree(s: &[u8], i: usize, marks: &mut [u8; MOST_ROOM])
     requires { ⌜ wholeAt (now s) ≡ true ⌝ }
     requires { ⌜ i < treesHeldAt (now s) ⌝ }
     requires { ⌜ length (now marks) ≡ mostRoom ⌝ }
-    ensures { λ r. ⌜ now (marks .exit) ≡ marked v (listAt (now (s .entry)) i) (now (marks .entry)) ⌝ }
+    ensures { λ r. ⌜ now (marks .exit) ≡ marked 0 (listAt (now (s .entry)) i) (now (marks .entry)) ⌝ }
 {
     let from = rows::tree_from(s, Tree(i));
     let n = rows::splits_in(s, Tree(i));
     let mut j = 0;
     while j < n {
         let k = rows::row_in(s, Tree(i), from, j);
-        marks[k] = v;
+        marks[k] = 0;
         j += 1;
     }
 }
@@ -76,7 +76,7 @@ fn sum_marks(s: &[u8], marks: &[u8; MOST_ROOM], j: usize) -> usize
 }
 
 // A mark as a number to add.
-fn wide(x: u8) -> usize
+pub(crate) fn wide(x: u8) -> usize
     ensures { λ r. ⌜ (r ≡ x) × (r < 256) ⌝ }
 {
     x as usize

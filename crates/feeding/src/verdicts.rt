@@ -5,11 +5,11 @@ ghost use mathlib.Core.Bool.{true};
 ghost use Prim.Native.Nat.{_+_, _≤_, _<_};
 ghost use lib.ListN.{length, take, drop};
 ghost use Rattle.trees.specs.Held.{mostText};
+ghost use Rattle.records.specs.Records.{mostWords};
 ghost use Rattle.head.specs.Head.{numbersAt, namesAt, openingAt};
 ghost use Rattle.head.specs.Index.{Indexed};
 ghost use Rattle.layout.specs.Store.{laneFrom};
 ghost use Rattle.layout.specs.WholeStore.{wholeAt};
-ghost use Rattle.records.specs.Records.{room};
 ghost use Rattle.newick.specs.Judge.{JudgedAs};
 ghost use Rattle.feeding.specs.Texts.{Finished};
 use answers::Lane;
@@ -18,7 +18,7 @@ use answers::Refusal;
 use head::KEYS;
 use layout::RAN_OVER;
 use newick::Judged;
-use records::ROOM;
+use records::MOST_WORDS;
 
 // The verdict on the text of a lane, which is empty afterwards.
 pub(crate) fn finish_text(s: &mut [u8], starts: &[u8; KEYS], links: &[u8; 64], l: Lane) -> Progress
@@ -32,7 +32,7 @@ pub(crate) fn finish_text(s: &mut [u8], starts: &[u8; KEYS], links: &[u8; 64], l
         lanes::empty_lane(s, l);
         return Progress::Refused(Refusal::TooLong);
     }
-    let mut records = [0u64; ROOM];
+    let mut records = [0u64; MOST_WORDS];
     let judged = judge_lane(s, starts, links, l, n, &mut records);
     lanes::empty_lane(s, l);
     match judged {
@@ -54,7 +54,7 @@ fn judge_lane(
     requires { ⌜ l .0 < numbersAt (now s) .lanes ⌝ }
     requires { ⌜ Indexed (namesAt (now s)) (now starts) (now links) ⌝ }
     requires { ⌜ n ≤ mostText ⌝ }
-    requires { ⌜ room ≤ length (now records) ⌝ }
+    requires { ⌜ mostWords ≤ length (now records) ⌝ }
     ensures { λ r. ⌜ JudgedAs (openingAt (now (s .entry))) (take n (drop (laneFrom (l .0) + 8) (now (s .entry)))) r (now (records .entry)) (now (records .exit)) ⌝ }
 {
     newick::judge(s, starts, links, lanes::text_of(s, l, n), records)

@@ -8,7 +8,7 @@ use Prim.Native.Nat.{ℕ, zero, suc, _+_, _-_, _≤_, _<_}
 use native.Mathlib.Numerals.{add-one}
 use native.Mathlib.Omega.{arith}
 use mathlib.Core.Path.{_≡_, refl, sym, ap, _∙_}
-use mathlib.Core.Bool.{Bool, true, false, _&&_}
+use mathlib.Core.Bool.{true, false, _&&_}
 use mathlib.Core.List.{List, []}
 use mathlib.Core.Option.{Option, none, some}
 use lib.Dec.{eqb}
@@ -23,8 +23,7 @@ use Rattle.answers.specs.declared.Taxon.{Taxon}
 use Rattle.head.specs.declared.Found.{Found}
 use Rattle.head.specs.declared.Found.the-variants.{At, Nothing}
 use Rattle.head.specs.Index.{key, nextWith, Indexed, foundOf, Below, after, Sought, left}
-use Rattle.theorems.specs.NameLaws.{same-true}
-use Rattle.head.specs.IndexLaws.{key-below, other-key, next-cases, next-left}
+use Rattle.head.specs.IndexLaws.{key-below, same-not, other-key, next-cases, next-left}
 
 -- ---- the names from a taxon on
 
@@ -159,8 +158,4 @@ module _ (s t : List ℕ) (z e i j : ℕ) where
 
 -- of other lengths
 pub run-unlike : (v w : List ℕ) → (length v ≡ length w → ⊥) → sameBytes v w ≡ false
-run-unlike v w n = go (sameBytes v w) refl
-  where
-    go : (t : Bool) → sameBytes v w ≡ t → t ≡ false
-    go true e = absurd (n (ap length (same-true v w e)))
-    go false e = refl
+run-unlike v w n = same-not v w (λ e. n (ap length e))

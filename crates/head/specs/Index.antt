@@ -2,14 +2,14 @@
 -- A taxon stands in it as its number and one more; 0 stands for none.
 --
 --   keys                          how many keys there are
---   key w                         a key, of all bytes of a name or label
+--   key w                         a key, of bytes at both ends and in the middle of a name or label
 --   nextWith ns k i               the first taxon from i on whose name has the key k
 --   Indexed ns starts links       the first taxon of each key, and for each taxon the next of its key
 --   foundOf o                     a search's answer
 --   Below n f                     the taxon, if one is found, is below n
 --   IndexedFrom ns i starts links     the index of the taxa from i on
 --   Sought ns w n                 the search for the label w has come to the entry n
-use Prim.Native.Nat.{ℕ, zero, suc, _+_, _-_, _*_, _%_, _≤_, _<_}
+use Prim.Native.Nat.{ℕ, zero, suc, _+_, _-_, _/_, _%_, _^_, _≤_, _<_}
 use mathlib.Core.Path.{_≡_}
 use mathlib.Core.List.{List, [], _∷_}
 use mathlib.Core.Option.{Option, none, some}
@@ -17,21 +17,20 @@ use lib.Dec.{eqb}
 use lib.ListN.{length, getD, drop}
 use Rattle.trees.specs.Plain.{if_then_else_}
 use Rattle.trees.specs.Names.{taxonFrom, taxonOf}
+use Rattle.fields.specs.Field.{number}
 use Rattle.head.specs.declared.Found.{Found}
 use Rattle.head.specs.declared.Found.the-variants.{At, Nothing}
 
 -- ---- the index
 
-unfoldable pub keyFrom : ℕ → List ℕ → ℕ
-keyFrom k [] = k
-keyFrom k (b ∷ w) = keyFrom ((k * 37 + b) % 65536) w
-
 abbrev pub keys : ℕ
 keys = 128
 
+-- 8 bytes at the front, in the middle and at the end, as numbers; of a label of at most 8 bytes all of them, three times. The remainder by 113
+-- parts labels that end in different numbers
 unfoldable pub key : List ℕ → ℕ
-unfolding keyFrom
-key w = keyFrom 0 w % keys
+unfolding number
+key w = (number 8 w 0 + number 8 w (length w / 2 - 4) + number 8 w (length w - 8)) % 2 ^ 64 % 113
 
 -- the first name with the key k, of names whose first is that of taxon i
 unfoldable pub nextFrom : ℕ → ℕ → List (List ℕ) → ℕ

@@ -1,12 +1,12 @@
 -- The laws of the keys and of the index. Assumes nothing.
 --
---   key-below, key-none, key-more      the key, as a loop makes it
---   other-key                          other keys, other bytes
+--   key-below                          a key is below 128
+--   same-not, other-key                other lists, and so those of other keys, are not the same bytes
 --   next-none, next-here, next-later   `nextWith`, a taxon at a time
 --   next-cases                         what holds a taxon at a time holds of `nextWith`
 --   next-left                          the entries of a chain rise
 --   index-none, index-more, index-all  the index as the loop makes it
-use Prim.Native.Nat.{ℕ, zero, suc, _+_, _-_, _*_, _%_, _≤_, _<_}
+use Prim.Native.Nat.{ℕ, zero, suc, _+_, _-_, _≤_, _<_}
 use native.Mathlib.Numerals.{add-one}
 use native.Mathlib.Omega.{arith}
 use mathlib.Core.Path.{_≡_, refl, sym, ap, _∙_}
@@ -14,38 +14,28 @@ use mathlib.Core.Logic.{_⊎_, inl, inr}
 use mathlib.Core.Bool.{Bool, true, false}
 use mathlib.Core.List.{List, []}
 use lib.ListN.{length, getD, set, drop, drop-of-length-le, replicate, getD-replicate}
-use lib.Seq.{slice, slice-empty, slice-cons, drop-cons, getD-set-same, getD-set-other}
+use lib.Seq.{drop-cons, getD-set-same, getD-set-other}
 use borrow.Author.Tests.{eq-eqb, ne-eqb}
 use Rattle.trees.specs.Plain.{sameBytes}
 use Rattle.theorems.specs.ListLaws.{less-or-not, equal-or-not, if-true, if-false}
 use Rattle.theorems.specs.NameLaws.{same-true}
-use Rattle.head.specs.Index.{keys, keyFrom, key, nextFrom, nextWith, Indexed, IndexedFrom, left}
+use Rattle.head.specs.Index.{keys, key, nextFrom, nextWith, Indexed, IndexedFrom, left}
 
--- ---- the key
+-- ---- the key, and other bytes
 
 pub key-below : (w : List ℕ) → key w < keys
 unfolding key
 key-below w = omega arith
 
-module _ (s : List ℕ) (e : ℕ) where
-  pub key-none : (k i : ℕ) → i ≡ e → keyFrom k (slice i e s) ≡ k
-  unfolding keyFrom
-  key-none k i q = rw (q, slice-empty e s)
-
-  pub key-more : (k i : ℕ) → i < e → e ≤ length s
-      → keyFrom k (slice i e s) ≡ keyFrom ((k * 37 + getD s i 0) % 65536) (slice (i + 1) e s)
-  unfolding keyFrom
-  key-more k i h l = rw (add-one i, slice-cons i e s 0 h l)
-
-same-key : (v w : List ℕ) → sameBytes v w ≡ true → key v ≡ key w
-same-key v w e = ap key (same-true v w e)
-
-pub other-key : (v w : List ℕ) → (key v ≡ key w → ⊥) → sameBytes v w ≡ false
-other-key v w n = go (sameBytes v w) refl
+pub same-not : (v w : List ℕ) → (v ≡ w → ⊥) → sameBytes v w ≡ false
+same-not v w n = go (sameBytes v w) refl
   where
     go : (t : Bool) → sameBytes v w ≡ t → t ≡ false
-    go true e = absurd (n (same-key v w e))
+    go true e = absurd (n (same-true v w e))
     go false e = refl
+
+pub other-key : (v w : List ℕ) → (key v ≡ key w → ⊥) → sameBytes v w ≡ false
+other-key v w n = same-not v w (λ e. n (ap key e))
 
 -- ---- the next taxon of a key
 

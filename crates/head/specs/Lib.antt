@@ -4,3 +4,4 @@ pub mod HeadLaws
 pub mod Index
 pub mod IndexLaws
 pub mod FindLaws
+pub mod WordLaws

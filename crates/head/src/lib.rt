@@ -5,7 +5,7 @@
 // `foundOf`); crate trees, `specs/Names.antt`, says what `taxonOf` is. The laws that callers use
 // stand in `HeadLaws` and `FindLaws`.
 ghost use mathlib.Core.Path.{_≡_};
-ghost use Prim.Native.Nat.{_+_, _*_, _≤_, _<_};
+ghost use Prim.Native.Nat.{_+_, _*_, _%_, _^_, _≤_, _<_};
 ghost use lib.ListN.{length, getD};
 ghost use lib.Seq.{slice};
 ghost use Rattle.trees.specs.Opening.{headBytes};
@@ -167,7 +167,8 @@ fn name_is(s: &[u8], i: usize, text: &[u8], b: usize, e: usize) -> bool
     same_runs(s, a, a + n, text, b, e)
 }
 
-// Whether the bytes of s from a up to z are those of the text from b up to e, which are as many.
+// Whether the bytes of s from a up to z are those of the text from b up to e, which are as many: a word of 8 bytes at a time,
+// the last word from their end.
 fn same_runs(s: &[u8], a: usize, z: usize, text: &[u8], b: usize, e: usize) -> bool
     requires { ⌜ a ≤ z ⌝ }
     requires { ⌜ z ≤ length (now s) ⌝ }
@@ -175,16 +176,19 @@ fn same_runs(s: &[u8], a: usize, z: usize, text: &[u8], b: usize, e: usize) -> b
     requires { ⌜ b + z ≡ e + a ⌝ }
     ensures { λ r. ⌜ r ≡ sameBytes (slice a z (now (s .entry))) (slice b e (now (text .entry))) ⌝ }
 {
+    if z - a < 8 {
+        return first_word(s, a, z) == first_word(text, b, e);
+    }
     let mut i = a;
     let mut j = b;
-    while i < z {
-        if s[i] != text[j] {
+    while i + 8 < z {
+        if fields::get64(s, i) != fields::get64(text, j) {
             return false;
         }
-        i += 1;
-        j += 1;
+        i += 8;
+        j += 8;
     }
-    true
+    fields::get64(s, z - 8) == fields::get64(text, e - 8)
 }
 
 // The key of the name of taxon i.
@@ -212,11 +216,49 @@ fn key_of(s: &[u8], b: usize, e: usize) -> usize
     requires { ⌜ e ≤ length (now s) ⌝ }
     ensures { λ r. ⌜ (r ≡ key (slice b e (now (s .entry)))) × (r < keys) ⌝ }
 {
-    let mut k = 0u32;
-    let mut i = b;
-    while i < e {
-        k = (k * 37 + s[i] as u32) % 65536;
-        i += 1;
+    let first = first_word(s, b, e);
+    let n = e - b;
+    if n <= 8 {
+        return fold(first, first, first);
     }
-    k as usize % KEYS
+    fold(
+        first,
+        fields::get64(s, b + (n / 2 - 4)),
+        fields::get64(s, e - 8),
+    )
+}
+
+// The key of a first, a middle and a last word.
+fn fold(first: u64, middle: u64, last: u64) -> usize
+    ensures { λ r. ⌜ (r ≡ (first + middle + last) % 2 ^ 64 % 113) × (r < keys) ⌝ }
+{
+    let two = std::num::wrapping_add_u64(first, middle);
+    (std::num::wrapping_add_u64(two, last) % 113) as usize
+}
+
+// The first 8 of the bytes of s from b up to e, as a number; where they are fewer, all of them.
+fn first_word(s: &[u8], b: usize, e: usize) -> u64
+    requires { ⌜ b ≤ e ⌝ }
+    requires { ⌜ e ≤ length (now s) ⌝ }
+    ensures { λ r. ⌜ r ≡ number 8 (slice b e (now (s .entry))) 0 ⌝ }
+{
+    let n = e - b;
+    if 8 <= n {
+        return fields::get64(s, b);
+    }
+    if 8 <= s.len() - b {
+        return fields::get64(s, b) % (1 << (8 * n));
+    }
+    short_word(s, b, n)
+}
+
+// The n bytes of s from b, as a number, where s may end behind them.
+fn short_word(s: &[u8], b: usize, n: usize) -> u64
+    requires { ⌜ n ≤ 8 ⌝ }
+    requires { ⌜ b + n ≤ length (now s) ⌝ }
+    ensures { λ r. ⌜ r ≡ number 8 (slice b (b + n) (now (s .entry))) 0 ⌝ }
+{
+    let mut word = [0u8; 8];
+    fields::copy_from(&mut word, 0, s, b, n);
+    fields::get64(&word, 0)
 }

@@ -3,29 +3,33 @@
 --   agree-both         agreement, by what two masks have in common
 --   shift-one          taxon i alone is the first taxon, i places up
 --   and-not            what is not in b is what is in the word's other bits
+--   two-none, two-less whether a mask has two taxa: one is left without the lowest
 --   proper-odd         no split that counts has taxon 0 on its side
---   proper-few-ones    nor fewer than two taxa there
---   proper-many-ones   nor fewer than two taxa on the other side
---   proper-narrow      what else it takes, where the word is wider than n: nothing from bit n on
---   proper-wide        and where the word is no wider than n: no more
+--   proper-few         nor fewer than two taxa there
+--   proper-outside     nor a taxon beyond the n
+--   proper-wide        where n is above the word's width, that is all
+--   proper-others      else the others are two taxa too
 --   trailing-lowest    the smallest taxon is the number of zeros below the lowest one
 --   trailing-lt        that number is below the word's width
 --   lowest-none        the smallest taxon, of no taxa
 use Prim.Native.Nat.{ℕ, zero, suc, _+_, _-_, _*_, _/_, _%_, _^_, _≤_, _<_, min}
 use mathlib.Core.Path.{_≡_, refl, sym, ap, _∙_}
-use mathlib.Core.Bool.{true, false, _||_, and-false}
-use mathlib.Core.Logic.{_⊎_, ⊎-elim}
-use native.Mathlib.Nat.{pow-suc, one-mul, div-eq-of-lt, div-lt-iff-lt-mul, lt-of-lt-of-le}
+use mathlib.Core.Bool.{true, false, _||_, not, and-true, and-false}
+use mathlib.Core.Logic.{_⊎_, inl, inr, ⊎-elim}
+use native.Mathlib.Nat.{pow-suc, one-mul, lt-of-lt-of-le}
 use native.Mathlib.Omega.{arith}
+use lib.Arith.{bin-ind}
 use lib.Pow.{pow-pos, pow-mono, shl-exact}
-use lib.Bits.{bitAnd, and-step, and-comm}
-use lib.Count.{ones, trailingZeros}
-use lib.Dec.{ltb, eqb}
-use borrow.Author.Tests.{eq-eqb, ne-eqb, lt-ltb, le-ltb, le-leb, lt-leb}
-use Rattle.trees.specs.Mask.{without, apart, within, agree, proper, lowestFrom, lowest}
-use Rattle.theorems.specs.ListLaws.{less-or-not}
+use lib.Bits.{bitAnd, and-step, and-comm, and-self}
+use lib.Count.{ones, ones-step, ones-le, trailingZeros}
+use lib.Dec.{leb, eqb}
+use borrow.Author.Tests.{leb-true, eq-eqb, ne-eqb, lt-ltb, le-ltb, le-leb, lt-leb}
+use Rattle.trees.specs.Mask.{everyTaxon, without, apart, within, agree, proper, lowestFrom, lowest}
+use Rattle.theorems.specs.ListLaws.{less-or-not, equal-or-not}
 use Rattle.theorems.specs.BitLaws.{even-odd}
-use Rattle.theorems.specs.ProperLaws.{proper-ones}
+use Rattle.theorems.specs.OnesLaws.{ones-zero, ones-pos, ones-part}
+use Rattle.theorems.specs.MaskLaws.{below-sub, others-xor}
+use Rattle.theorems.specs.ProperLaws.{proper-ones, every-ones}
 
 -- ---- agree
 
@@ -34,18 +38,6 @@ unfolding agree apart within
 agree-both a b = rw (and-comm b a)
 
 -- ---- shifts
-
-shift-some : (m k : ℕ) → 2 ^ k ≤ m → m / 2 ^ k ≡ 0 → ⊥
-shift-some m k h e =
-    let l : m < 1 * 2 ^ k = div-lt-iff-lt-mul (pow-pos k) .0 (omega arith) in
-    omega arith
-
-shift-none : (m k : ℕ) → eqb (m / 2 ^ k) 0 ≡ ltb m (2 ^ k)
-shift-none m k =
-    ⊎-elim
-    (λ (h : m < 2 ^ k). eq-eqb _ _ (div-eq-of-lt h) ∙ sym (lt-ltb _ _ h))
-    (λ (h : 2 ^ k ≤ m). ne-eqb _ _ (shift-some m k h) ∙ sym (le-ltb _ _ h))
-    (less-or-not m (2 ^ k))
 
 pub shift-one : (k i : ℕ) → i < k → 1 * 2 ^ i % 2 ^ k ≡ 2 ^ i
 shift-one k i h = shl-exact 1 i k (omega arith) (omega arith) ∙ one-mul (2 ^ i)
@@ -72,37 +64,108 @@ pub and-not : (k a b : ℕ) → a < 2 ^ k → b < 2 ^ k → bitAnd a (2 ^ k - 1 
 unfolding without
 and-not k a b ha hb = omega (arith, and-not-and k a b ha hb)
 
+-- ---- two taxa
+
+-- a mask without its lowest taxon
+less-odd : (m : ℕ) → m % 2 ≡ 1 → bitAnd m (m - 1) ≡ m / 2 * 2
+less-odd m e =
+    let h : (m - 1) / 2 ≡ m / 2 = omega arith in
+    let z : min (m % 2) ((m - 1) % 2) ≡ 0 = omega arith in
+    let s : bitAnd m (m - 1) ≡ bitAnd (m / 2) (m / 2) * 2 + min (m % 2) ((m - 1) % 2) = and-step m (m - 1) ∙ rw h in
+    omega (arith, and-self (m / 2))
+
+less-even : (m : ℕ) → 0 < m → m % 2 ≡ 0 → bitAnd m (m - 1) ≡ bitAnd (m / 2) (m / 2 - 1) * 2
+less-even m p e =
+    let h : (m - 1) / 2 ≡ m / 2 - 1 = omega arith in
+    let z : min (m % 2) ((m - 1) % 2) ≡ 0 = omega arith in
+    let s : bitAnd m (m - 1) ≡ bitAnd (m / 2) (m / 2 - 1) * 2 + min (m % 2) ((m - 1) % 2) = and-step m (m - 1) ∙ rw h in
+    omega arith
+
+-- what is left is empty exactly where there was one taxon
+pub less-none : (m : ℕ) → 0 < m → bitAnd m (m - 1) ≡ 0 → ones m ≡ 1
+less-none = bin-ind (λ (m : ℕ). 0 < m → bitAnd m (m - 1) ≡ 0 → ones m ≡ 1) (λ h q. absurd (omega arith)) (λ m ih h q. go m ih h q (even-odd m))
+  where
+    go : (m : ℕ) → (0 < m / 2 → bitAnd (m / 2) (m / 2 - 1) ≡ 0 → ones (m / 2) ≡ 1) → 0 < m → bitAnd m (m - 1) ≡ 0
+        → (m % 2 ≡ 0) ⊎ (m % 2 ≡ 1) → ones m ≡ 1
+    go m ih h q (inl e) =
+        let d = less-even m h e in
+        omega (arith, ones-step m, ih (omega arith) (omega arith))
+    go m ih h q (inr e) =
+        let d = less-odd m e in
+        let z : m / 2 ≡ 0 = omega arith in
+        let o : ones (m / 2) ≡ 0 = ap ones z ∙ ones-zero in
+        omega (arith, ones-step m)
+
+pub less-some : (m : ℕ) → (bitAnd m (m - 1) ≡ 0 → ⊥) → 2 ≤ ones m
+less-some = bin-ind (λ (m : ℕ). (bitAnd m (m - 1) ≡ 0 → ⊥) → 2 ≤ ones m) (λ q. absurd (q refl)) (λ m ih q. go m ih q (even-odd m))
+  where
+    go : (m : ℕ) → ((bitAnd (m / 2) (m / 2 - 1) ≡ 0 → ⊥) → 2 ≤ ones (m / 2)) → (bitAnd m (m - 1) ≡ 0 → ⊥)
+        → (m % 2 ≡ 0) ⊎ (m % 2 ≡ 1) → 2 ≤ ones m
+    go m ih q (inl e) =
+        let p : m ≡ 0 → ⊥ = λ z. q (rw z) in
+        let d = less-even m (omega (arith, p)) e in
+        omega (arith, ones-step m, ih (λ z. q (omega arith)))
+    go m ih q (inr e) =
+        let d = less-odd m e in
+        let p : m / 2 ≡ 0 → ⊥ = λ z. q (omega arith) in
+        omega (arith, ones-step m, ones-pos (m / 2) (omega (arith, p)))
+
+pub two-none : leb 2 (ones 0) ≡ false
+two-none = lt-leb 2 (ones 0) (omega (arith, ones-zero))
+
+pub two-less : (m : ℕ) → 0 < m → not (eqb (bitAnd m (m - 1)) 0) ≡ leb 2 (ones m)
+two-less m h =
+    ⊎-elim
+    (λ (e : bitAnd m (m - 1) ≡ 0). rw (eq-eqb _ _ e) (sym (lt-leb 2 (ones m) (omega (arith, less-none m h e)))))
+    (λ (e : bitAnd m (m - 1) ≡ 0 → ⊥). rw (ne-eqb _ _ e) (sym (le-leb 2 (ones m) (less-some m e))))
+    (equal-or-not (bitAnd m (m - 1)) 0)
+
 -- ---- proper
+
+-- an even mask lacks a taxon
+even-ones : (k m : ℕ) → m % 2 ≡ 0 → m < 2 ^ suc k → ones m ≤ k
+even-ones k m e h = omega (arith, ones-step m, ones-le k (m / 2) (omega (arith, pow-suc 2 k)))
+
+-- the taxa of a mask and the others
+others-ones : (n m : ℕ) → m < 2 ^ n → ones m + ones (everyTaxon n - m) ≡ n
+others-ones n m h =
+    let s = below-sub n m h in
+    rw (others-xor (everyTaxon n) m s) (ones-part m (everyTaxon n) s ∙ every-ones n)
 
 module _ (n m : ℕ) where
   pub proper-odd : (m % 2 ≡ 0 → ⊥) → proper n m ≡ false
   proper-odd h = proper-ones n m ∙ simp (ne-eqb _ _ h)
 
-  pub proper-few-ones : ones m < 2 → proper n m ≡ false
-  proper-few-ones h = proper-ones n m ∙ rw (lt-leb 2 (ones m) h) (and-false (eqb (m % 2) 0))
+  pub proper-few : leb 2 (ones m) ≡ false → proper n m ≡ false
+  proper-few h = proper-ones n m ∙ rw h (and-false (eqb (m % 2) 0))
 
-  few-or-more : (ones m < 2) ⊎ (2 ≤ ones m)
-  few-or-more = less-or-not (ones m) 2
+  pub proper-outside : everyTaxon n < m → proper n m ≡ false
+  unfolding everyTaxon
+  proper-outside h =
+      proper-ones n m
+      ∙ rw (le-ltb m (2 ^ n) (omega arith), and-false (leb (ones m) (n - 2)), and-false (leb 2 (ones m))) (and-false (eqb (m % 2) 0))
 
-  two-and-too-many : 2 ≤ ones m → n < ones m + 2 → proper n m ≡ false
-  two-and-too-many h l =
-      let l′ : n - 2 < ones m = omega arith in
-      proper-ones n m ∙ rw (le-leb 2 (ones m) h, lt-leb (ones m) (n - 2) l′) (and-false (eqb (m % 2) 0))
+  module _ (e : m % 2 ≡ 0) (t : leb 2 (ones m) ≡ true) where
+    pub proper-wide : (k : ℕ) → m < 2 ^ suc k → suc k < n → proper n m ≡ true
+    proper-wide k h l =
+        let o = even-ones k m e h in
+        proper-ones n m
+        ∙ simp (eq-eqb _ _ e, t, le-leb (ones m) (n - 2) (omega arith), lt-ltb _ _ (lt-of-lt-of-le h (pow-mono {i = suc k} {j = n} (omega arith))))
 
-  pub proper-many-ones : n < ones m + 2 → proper n m ≡ false
-  proper-many-ones l = ⊎-elim (λ h. proper-few-ones h) (λ h. two-and-too-many h l) few-or-more
+    rest-two : m < 2 ^ n → leb 2 (ones (everyTaxon n - m)) ≡ leb (ones m) (n - 2)
+    rest-two h =
+        let o = others-ones n m h in
+        let l = leb-true 2 (ones m) t in
+        ⊎-elim
+        (λ (f : ones (everyTaxon n - m) < 2). lt-leb _ _ f ∙ sym (lt-leb (ones m) (n - 2) (omega arith)))
+        (λ (f : 2 ≤ ones (everyTaxon n - m)). le-leb _ _ f ∙ sym (le-leb (ones m) (n - 2) (omega arith)))
+        (less-or-not (ones (everyTaxon n - m)) 2)
 
-  module _ (e : m % 2 ≡ 0) (h : 2 ≤ ones m) (l : ones m + 2 ≤ n) where
-    proper-rest : proper n m ≡ ltb m (2 ^ n)
-    proper-rest =
-        let l′ : ones m ≤ n - 2 = omega arith in
-        proper-ones n m ∙ simp (eq-eqb _ _ e, le-leb _ _ h, le-leb _ _ l′)
-
-    pub proper-narrow : proper n m ≡ eqb (m / 2 ^ n) 0
-    proper-narrow = proper-rest ∙ sym (shift-none m n)
-
-    pub proper-wide : (k : ℕ) → m < 2 ^ k → k ≤ n → proper n m ≡ true
-    proper-wide k p q = proper-rest ∙ lt-ltb _ _ (lt-of-lt-of-le p (pow-mono q))
+    pub proper-others : m ≤ everyTaxon n → leb 2 (ones (everyTaxon n - m)) ≡ proper n m
+    unfolding everyTaxon
+    proper-others h =
+        let l : m < 2 ^ n = omega (arith, pow-pos n) in
+        rest-two l ∙ sym (proper-ones n m ∙ simp (eq-eqb _ _ e, t, lt-ltb m (2 ^ n) l, and-true (leb (ones m) (n - 2))))
 
 -- ---- lowest
 

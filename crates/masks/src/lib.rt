@@ -5,7 +5,7 @@ ghost use mathlib.Core.Path.{_≡_};
 ghost use Prim.Native.Nat.{_≤_, _<_, _^_};
 ghost use lib.Bits.{bitOr};
 ghost use lib.Count.{ones};
-ghost use lib.Dec.{eqb, ltb};
+ghost use lib.Dec.{leb, ltb, eqb};
 ghost use Rattle.trees.specs.Mask.{has, everyTaxon, without, apart, within, proper, lowest};
 ghost use Rattle.trees.specs.Mask.{agree as Mask·agree, side as Mask·side};
 use answers::Taxon;
@@ -45,17 +45,27 @@ pub fn is_proper(m: u64, n: u32) -> bool
     if m % 2 != 0 {
         return false;
     }
-    let taxa = count_taxa(m);
-    if taxa < 2 {
+    if !has_two_taxa(m) {
         return false;
     }
-    if n < taxa + 2 {
+    if 64 < n {
+        return true;
+    }
+    let every = every_taxon(n);
+    if every < m {
         return false;
     }
-    if n < 64 {
-        return m >> n == 0;
+    has_two_taxa(every - m)
+}
+
+// Whether m has at least two taxa: one is left when the lowest is taken away.
+fn has_two_taxa(m: u64) -> bool
+    ensures { λ r. ⌜ r ≡ leb 2 (ones m) ⌝ }
+{
+    if m == 0 {
+        return false;
     }
-    true
+    m & (m - 1) != 0
 }
 
 // The number of taxa in m.
@@ -133,6 +143,16 @@ pub fn taxa_without(a: u64, b: u64) -> u64
     ensures { λ r. ⌜ r ≡ without a b ⌝ }
 {
     a & !b
+}
+
+// The taxa of m without its smallest.
+pub fn without_lowest(m: u64) -> u64
+    ensures { λ r. ⌜ r ≡ without m (2 ^ lowest m) ⌝ }
+{
+    if m == 0 {
+        return 0;
+    }
+    (m - 1) & m
 }
 
 // Whether taxon i is in m.

@@ -1,5 +1,6 @@
 -- The masks of a tree's inner nodes give the tree's splits: what they lack are single leaves, and what they have besides is the root.
 --
+--   inners ns t        the masks of the inner nodes, children before their parents
 --   inners-clusters    the mask of an inner node is a cluster
 --   clusters-inners    a cluster is the mask of an inner node, or that of one leaf
 --   root-never         the root is no split
@@ -10,6 +11,7 @@ use mathlib.Core.Path.{_≡_, refl, ap, sym, _∙_, subst}
 use mathlib.Core.Logic.{_⊎_, inl, inr, ⊎-map}
 use mathlib.Core.Bool.{true}
 use mathlib.Core.List.{List, [], _∷_, _++_}
+use lib.Bits.{or-zero-r}
 use lib.ListN.{length}
 use Rattle.trees.specs.Mask.{everyTaxon, side, proper}
 use Rattle.trees.specs.Text.{Symbol}
@@ -23,10 +25,14 @@ use Rattle.theorems.specs.RisingLaws.{rising-same}
 use Rattle.theorems.specs.OpeningLaws.{GoodOpening}
 use Rattle.theorems.specs.FewLaws.{nothing-never, leaf-never}
 use Rattle.theorems.specs.SplitLaws.{counted-mem, mem-counted, counted-rising}
-use Rattle.newick.proofs.GotLaws.{inner-taxa}
-use Rattle.newick.proofs.HashedLaws.{inners}
 
 -- ---- the masks of the inner nodes
+
+unfoldable pub inners : List (List ℕ) → Nodes → List ℕ
+unfolding taxa
+inners ns nil = []
+inners ns (leaf w r) = inners ns r
+inners ns (inner c r) = inners ns c ++ (taxa ns c ∷ inners ns r)
 
 module _ (ns : List (List ℕ)) where
   inners-clusters : (t : Nodes) (x : ℕ) → Mem x (inners ns t) → Mem x (clusters ns t)
@@ -103,6 +109,6 @@ module _ (o : Opening) (g : GoodOpening o) (c : Nodes) (all : taxa (o .names) c 
 
 pub inners-splits : (o : Opening) → GoodOpening o → {d : ℕ} {ss : List Symbol} {t : Nodes} → IsNode d ss t → taxa (o .names) t ≡ everyTaxon (length (o .names))
     → counted (length (o .names)) (inners (o .names) t) ≡ splitsOf (o .names) t
-unfolding splitsOf children clusters inners counted
+unfolding splitsOf children clusters inners counted taxa
 inners-splits o g (is-leaf e) all = refl
-inners-splits o g (is-inner {c = c} z n h l e) all = inner-splits o g c (inner-taxa (o .names) c ∙ all)
+inners-splits o g (is-inner {c = c} z n h l e) all = inner-splits o g c (sym (or-zero-r (taxa (o .names) c)) ∙ all)

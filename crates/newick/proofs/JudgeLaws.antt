@@ -1,198 +1,250 @@
 -- The verdict on a text, over a prepared head: one law for each way out of `judge`, and what it asks of `gather_splits`.
 --
---   first-mark          where reading a text begins
---   judged-none         no node stands in the text
---   judged-more         more stands behind the node
---   judged-unknown      a leaf is no taxon
---   judged-repeated     a taxon comes twice
+--   judged-none         the text is no tree
+--   summing-asks        it is one: the tokens of its first leaves lie in it
+--   judged-wrong        a leaf is no taxon, or a taxon comes twice
 --   judged-missing      a taxon is missing
---   gathering-asks      no leaf has a fault, and no taxon is missing: the records are in order
+--   gathering-asks      no leaf has a fault, and no taxon is missing: the spans are in order
 --   judged-splits       and their splits are those of the text
-use Prim.Native.Nat.{ℕ, suc, _+_, _*_, _≤_}
+use Prim.Native.Nat.{ℕ, zero, suc, _+_, _*_, _^_, _≤_, _<_, min}
 use native.Mathlib.Omega.{arith}
-use mathlib.Core.Path.{_≡_, refl, ap, ap₂, sym, _∙_}
-use mathlib.Core.Logic.{inl, ⊎-elim}
-use mathlib.Core.List.{List, [], _∷_, _++_}
+use native.Mathlib.Nat.{zero-add}
+use mathlib.Core.Path.{_≡_, refl, ap, ap₂, sym, _∙_, subst}
+use mathlib.Core.List.{List, [], _∷_, _++_, append-nil}
 use mathlib.Core.Option.{none, some}
+use lib.Count.{ones}
 use lib.Dec.{eqb}
-use lib.ListN.{length, drop}
-use lib.Seq.{length-sets, sets-eq}
-use types.Run.{OneOf, miss}
+use lib.ListN.{length, getD, take, drop, length-append, take-append-drop}
+use lib.Seq.{sets, sets-eq, take-all, take-append-seam}
 use borrow.Author.Tests.{eq-eqb, ne-eqb}
-use Rattle.trees.specs.Held.{mostText}
 use Rattle.trees.specs.Plain.{if_then_else_, refused, gives}
 use Rattle.trees.specs.Mask.{everyTaxon}
-use Rattle.trees.specs.Text.{Symbol}
-use Rattle.trees.specs.Tree.{Nodes, leaves}
-use Rattle.trees.specs.Reading.{alone, reading}
-use Rattle.trees.specs.Splits.{counted, splitsOf}
+use Rattle.trees.specs.Tree.{Nodes, nil, leaf, leaves}
+use Rattle.trees.specs.Reading.{reading}
+use Rattle.trees.specs.Splits.{taxa, counted, splitsOf}
 use Rattle.trees.specs.Opening.{Opening}
 use Rattle.trees.specs.Verdict.{leafFault, judged}
 use Rattle.theorems.specs.ListLaws.{if-true, if-false}
+use Rattle.theorems.specs.BitLaws.{Dis}
+use Rattle.theorems.specs.MaskLaws.{below-sub}
+use Rattle.theorems.specs.OnesLaws.{ones-part}
+use Rattle.theorems.specs.ProperLaws.{every-ones}
+use Rattle.theorems.specs.FewLaws.{none-missing}
 use Rattle.theorems.specs.OpeningLaws.{GoodOpening}
 use Rattle.theorems.specs.GrammarLaws.{reading-sound}
-use Rattle.theorems.specs.SplitLaws.{Distinct}
-use Rattle.theorems.specs.VerdictLaws.{judged-step, tree-step, tree-distinct}
+use Rattle.theorems.specs.VerdictLaws.{judged-step, tree-step, leaves-distinct}
 use Rattle.answers.specs.Answers.{refusalNumber}
 use Rattle.answers.specs.declared.Refusal.{Refusal}
-use Rattle.answers.specs.declared.Refusal.the-variants.{BadForm, UnknownLeaf, RepeatedLeaf, MissingTaxon}
-use Rattle.text.specs.Read.{symbolsAt, Seen}
-use Rattle.text.specs.declared.Next.{Next}
-use Rattle.text.specs.declared.Next.the-variants.{End, Open, Close, Comma, Colon, Stray, Token}
-use Rattle.records.specs.Records.{wide, recordsOf, withRecords, masksOf}
-use Rattle.records.specs.RecordLaws.{records-length, masks-records}
+use Rattle.answers.specs.declared.Refusal.the-variants as why
+use Rattle.records.specs.Records.{wide, withRecords}
 use Rattle.head.specs.Head.{numbersAt, openingAt}
-use Rattle.newick.specs.Gather.{records, leavesOf, Prepared, Ready, NoNode, NodeIs, Gathered}
-use Rattle.newick.specs.Splits.{Hashed, AllHashed}
 use Rattle.newick.specs.Judge.{JudgedAs}
-use Rattle.newick.specs.declared.gather.Mark.{Mark}
-use Rattle.newick.specs.declared.gather.Sums.{Sums}
+use Rattle.newick.specs.Shape.{spans, Shaped, ShapeRead}
+use Rattle.newick.specs.Chains.{Spans}
+use Rattle.newick.specs.Running.{labelsAt, labelTaxa, spanMasks, Running}
+use Rattle.newick.specs.Leaves.{mostLeaves, Tokens, AllSummed, LeavesSummed}
 use Rattle.newick.specs.declared.Judged.the-variants.{Refused, Splits}
-use Rattle.newick.proofs.NodeLaws.{tag}
-use Rattle.newick.proofs.FaultLaws.{faultOf, fault-is, fault-kinds, all-seen}
-use Rattle.newick.proofs.HashedLaws.{inners, hashed-nodes, records-are, inners-hashed}
-use Rattle.newick.proofs.FewLaws.{records-few}
+use Rattle.newick.specs.declared.shape.Mark.{Mark}
+use Rattle.newick.specs.declared.leaves.Summed.{Summed}
+use Rattle.newick.specs.declared.leaves.Summed.the-variants.{Wrong, Distinct}
 use Rattle.newick.proofs.ClusterLaws.{inners-splits}
-
-abbrev pub first-mark : Mark
-first-mark = record { at = 0; used = 0; seen = 0; fault = 0 }
+use Rattle.newick.proofs.LabelLaws.{leaves-taxa}
+use Rattle.newick.proofs.TokenLaws.{tokens-lie, labels-first}
+use Rattle.newick.proofs.SpanLaws.{innerNodes, Lies, spans-length, spans-few, spans-within, spans-inners}
 
 -- ---- the verdict by what is read
 
 unread : (ns : List (List ℕ)) (s : List ℕ) → reading s ≡ none → judged ns s ≡ refused 7
 unread ns s e = rw e at (judged-step ns s)
 
-faulty : (ns : List (List ℕ)) (s : List ℕ) (t : Nodes) (k : ℕ) → reading s ≡ some t → leafFault ns 0 (leaves t) ≡ suc k → judged ns s ≡ refused (suc k)
-faulty ns s t k e f = rw e at (judged-step ns s) ∙ rw f at (tree-step ns t)
+faulty : (ns : List (List ℕ)) (s : List ℕ) (t : Nodes) (k : ℕ) → 0 < k → reading s ≡ some t → leafFault ns 0 (leaves t) ≡ k → judged ns s ≡ refused k
+faulty ns s t zero h e f = absurd (omega arith)
+faulty ns s t (suc k) h e f = rw e at (judged-step ns s) ∙ rw f at (tree-step ns t)
 
 faultless : (ns : List (List ℕ)) (s : List ℕ) (t : Nodes) → reading s ≡ some t → leafFault ns 0 (leaves t) ≡ 0 → judged ns s ≡ gives (splitsOf ns t)
 faultless ns s t e f = rw e at (judged-step ns s) ∙ rw f at (tree-step ns t)
 
--- ---- a text that is no tree
+unread-none : (o : Opening) (s u : List ℕ) → reading s ≡ none → JudgedAs o s (Refused why.BadForm) u u
+unfolding JudgedAs refusalNumber
+unread-none o s u e = (unread (o .names) s e, refl)
 
-module _ (o : Opening) (s u : List ℕ) where
-  pub judged-none : NoNode s 63 0 → JudgedAs o s (Refused BadForm) u u
-  unfolding JudgedAs reading refusalNumber
-  judged-none n = (unread (o .names) s (ap alone (n (suc (2 * length s)) (omega arith))), refl)
+some-number : (r : Refusal) → 0 < refusalNumber r
+unfolding refusalNumber
+some-number why.NotWhole = omega arith
+some-number why.OutOfRange = omega arith
+some-number why.BadNames = omega arith
+some-number why.TooShort = omega arith
+some-number why.NoLane = omega arith
+some-number why.TooLong = omega arith
+some-number why.BadForm = omega arith
+some-number why.UnknownLeaf = omega arith
+some-number why.RepeatedLeaf = omega arith
+some-number why.MissingTaxon = omega arith
+some-number why.NoTreeRoom = omega arith
+some-number why.NoSplitRoom = omega arith
+some-number why.NoSuchNumber = omega arith
+some-number why.NoTrees = omega arith
 
-  pub judged-more : (t : Nodes) (j : ℕ) (r : Next) → NodeIs s 63 0 t j → Seen s j r → OneOf (1 ∷ 2 ∷ 3 ∷ 4 ∷ 5 ∷ 6 ∷ []) (tag r)
-      → JudgedAs o s (Refused BadForm) u u
-  unfolding JudgedAs reading Seen refusalNumber
-  judged-more t j r n q k = (unread (o .names) s (ap alone (n .reads (suc (2 * length s)) (omega arith)) ∙ go r q k), refl)
-    where
-      more : (y : Symbol) (l : List Symbol) → symbolsAt s j ≡ y ∷ l → alone (some (t, symbolsAt s j)) ≡ none
-      more y l e = ap (λ x. alone (some (t, x))) e
+-- leaves without a fault: their taxa are all taxa
+all-seen : (ns : List (List ℕ)) (t : Nodes) → leafFault ns 0 (leaves t) ≡ 0 → taxa ns t ≡ everyTaxon (length ns)
+unfolding leafFault
+all-seen ns t z =
+    let d = leaves-distinct ns t 0 [] (ap (leafFault ns 0) (append-nil (leaves t)) ∙ z) in
+    sym (zero-add (taxa ns t)) ∙ none-missing (0 + taxa ns t) (length ns) (d .2)
 
-      go : (r : Next) → Seen s j r → OneOf (1 ∷ 2 ∷ 3 ∷ 4 ∷ 5 ∷ 6 ∷ []) (tag r) → alone (some (t, symbolsAt s j)) ≡ none
-      go End q k = absurd (miss (1 ∷ 2 ∷ 3 ∷ 4 ∷ 5 ∷ 6 ∷ []) 0 tt k)
-      go (Open e) q k = more _ _ (q .0)
-      go (Close e) q k = more _ _ (q .0)
-      go (Comma e) q k = more _ _ (q .0)
-      go (Colon e) q k = more _ _ (q .0)
-      go Stray q k = more _ _ (q .1)
-      go (Token b e) q k = more _ _ (q .0)
+-- ---- labels of different taxa
 
--- ---- a text that is a tree
+-- the leaves with the labels ws, side by side
+unfoldable flat : List (List ℕ) → Nodes
+flat [] = nil
+flat (w ∷ ws) = leaf w (flat ws)
 
-module _ (o : Opening) (g : GoodOpening o) (s l l′ : List ℕ) (t : Nodes) (e : Mark) (x : Sums) (n : NodeIs s 63 0 t (e .at)) (w : Gathered o t first-mark l e x l′) (z : Seen s (e .at) End) where
-  is-read : reading s ≡ some t
-  unfolding reading Seen
-  is-read = ap alone (n .reads (suc (2 * length s)) (omega arith)) ∙ ap (λ y. alone (some (t, y))) z
+flat-leaves : (ws : List (List ℕ)) → leaves (flat ws) ≡ ws
+unfolding flat leaves
+flat-leaves [] = refl
+flat-leaves (w ∷ ws) = ap (λ r. w ∷ r) (flat-leaves ws)
 
-  leaf-fault : leafFault (o .names) 0 (leaves t) ≡ faultOf (o .numbers .taxa) (leavesOf e)
-  leaf-fault = fault-is (o .names) 0 (leaves t) ∙ ap₂ faultOf (g .named .count) (sym (w .judged))
+-- behind leaves with the taxa seen, labels without a fault name others
+labels-apart : (ns : List (List ℕ)) (seen : ℕ) (ws zs : List (List ℕ)) → leafFault ns seen (ws ++ zs) ≡ 0
+    → Dis seen (labelTaxa ns ws) × (leafFault ns (seen + labelTaxa ns ws) zs ≡ 0)
+labels-apart ns seen ws zs z =
+    let e : taxa ns (flat ws) ≡ labelTaxa ns ws = sym (leaves-taxa ns (flat ws)) ∙ ap (labelTaxa ns) (flat-leaves ws) in
+    let d = leaves-distinct ns (flat ws) seen zs (ap (λ l. leafFault ns seen (l ++ zs)) (flat-leaves ws) ∙ z) in
+    (rw e at (d .0), rw e at (d .2))
 
-  refused-with : (r : Refusal) (k : ℕ) → refusalNumber r ≡ suc k → leafFault (o .names) 0 (leaves t) ≡ suc k → (u : List ℕ) → JudgedAs o s (Refused r) u u
-  unfolding JudgedAs
-  refused-with r k p q u = (faulty (o .names) s t k is-read q ∙ ap refused (sym p), refl)
+parts-apart : (ns xs vs zs : List (List ℕ)) → leafFault ns 0 (xs ++ (vs ++ zs)) ≡ 0 → Dis (labelTaxa ns xs) (labelTaxa ns vs)
+parts-apart ns xs vs zs z =
+    let a = labels-apart ns 0 xs (vs ++ zs) z in
+    rw (zero-add (labelTaxa ns xs)) at (labels-apart ns (0 + labelTaxa ns xs) vs zs (a .1) .0)
 
-  leaf-refused : (r : Refusal) (k : ℕ) → refusalNumber r ≡ suc k → e .fault ≡ suc k → (u : List ℕ) → JudgedAs o s (Refused r) u u
-  unfolding faultOf
-  leaf-refused r k p q = refused-with r k p (leaf-fault ∙ if-false _ (e .fault) (ne-eqb (e .fault) 0 (λ f. omega arith)) ∙ q)
+ones-most : (n m : ℕ) → m < 2 ^ n → ones m ≤ n
+ones-most n m h = omega (arith, ones-part m (everyTaxon n) (below-sub n m h), every-ones n)
 
-  pub judged-unknown : e .fault ≡ 8 → (u : List ℕ) → JudgedAs o s (Refused UnknownLeaf) u u
-  unfolding refusalNumber
-  judged-unknown = leaf-refused UnknownLeaf 7 refl
+-- ---- a text that is a tree: its first k leaves are judged, which are all, or more than there are taxa
 
-  pub judged-repeated : e .fault ≡ 9 → (u : List ℕ) → JudgedAs o s (Refused RepeatedLeaf) u u
-  unfolding refusalNumber
-  judged-repeated = leaf-refused RepeatedLeaf 8 refl
+module _ (o : Opening) (g : GoodOpening o) (s l u : List ℕ) (t : Nodes) (k : ℕ) (is-read : reading s ≡ some t) (few : k ≡ min (length (leaves t)) mostLeaves) (first : (j : ℕ) → j ≤ k → labelsAt s l j ≡ take j (leaves t)) where
+  leaves-are : leaves t ≡ labelsAt s l k ++ drop k (leaves t)
+  leaves-are = sym (ap (λ z. z ++ drop k (leaves t)) (first k (omega arith)) ∙ take-append-drop k (leaves t))
 
-  module _ (unknown : e .fault ≡ 8 → ⊥) (repeated : e .fault ≡ 9 → ⊥) where
-    no-leaf-fault : e .fault ≡ 0
-    no-leaf-fault =
-        ⊎-elim
-        (λ f. f)
-        (λ f. ⊎-elim (λ q. absurd (unknown q)) (λ q. absurd (repeated q)) f)
-        (rw (← w .judged) at (fault-kinds (o .names) (leavesOf first-mark) (leaves t) (inl refl)))
+  tree-wrong : (r : Refusal) → LeavesSummed o s l k u (Wrong r) → (v : List ℕ) → JudgedAs o s (Refused r) v v
+  unfolding JudgedAs LeavesSummed
+  tree-wrong r h v =
+      (faulty (o .names) s t (refusalNumber r) (some-number r) is-read (ap (leafFault (o .names) 0) leaves-are ∙ h (drop k (leaves t))), refl)
 
-    seen-fault : leafFault (o .names) 0 (leaves t) ≡ (if eqb (e .seen) (everyTaxon (o .numbers .taxa)) then 0 else 10)
-    unfolding faultOf
-    seen-fault = leaf-fault ∙ if-true _ (e .fault) (eq-eqb (e .fault) 0 no-leaf-fault)
+  module _ (a : AllSummed o s l k u) where
+    some-taxa : k ≤ 64
+    some-taxa =
+        omega
+        (arith, a .count, g .ranges .most-taxa, ones-most (o .numbers .taxa) _ (rw (a .masked k (omega arith)) at (a .running .each k (omega arith) .small)))
 
-    pub judged-missing : (e .seen ≡ everyTaxon (o .numbers .taxa) → ⊥) → (u : List ℕ) → JudgedAs o s (Refused MissingTaxon) u u
-    unfolding refusalNumber
-    judged-missing h = refused-with MissingTaxon 9 refl (seen-fault ∙ if-false 0 10 (ne-eqb (e .seen) (everyTaxon (o .numbers .taxa)) h))
+    all-leaves : k ≡ length (leaves t)
+    all-leaves = let b = some-taxa in omega arith
 
-    module _ (h : e .seen ≡ everyTaxon (o .numbers .taxa)) (room : length l ≡ 192) where
+    labels-are : labelsAt s l k ≡ leaves t
+    labels-are = let b = all-leaves in first k (omega arith) ∙ take-all k (leaves t) (omega arith)
+
+    leaf-fault : leafFault (o .names) 0 (leaves t) ≡ (if eqb (getD u (wide * k) 0) (everyTaxon (o .numbers .taxa)) then 0 else 10)
+    unfolding leafFault
+    leaf-fault =
+        ap (leafFault (o .names) 0) (sym (append-nil (leaves t)) ∙ ap (λ z. z ++ []) (sym labels-are))
+        ∙ a .judged []
+        ∙ ap₂ (λ (x n : ℕ). if eqb x (everyTaxon n) then 0 else 10) (sym (a .masked k (omega arith))) (g .named .count)
+
+    tree-missing : (getD u (wide * k) 0 ≡ everyTaxon (o .numbers .taxa) → ⊥) → (v : List ℕ) → JudgedAs o s (Refused why.MissingTaxon) v v
+    unfolding JudgedAs refusalNumber
+    tree-missing h v =
+        (faulty (o .names) s t 10 (omega arith) is-read (leaf-fault ∙ if-false 0 10 (ne-eqb (getD u (wide * k) 0) (everyTaxon (o .numbers .taxa)) h)), refl)
+
+    module _ (every : getD u (wide * k) 0 ≡ everyTaxon (o .numbers .taxa)) (nodes nodes′ : List ℕ) (room : length nodes ≡ 128) (spanned : nodes′ ≡ sets nodes 0 (spans 0 t)) (n : ℕ) (nested : 2 * n ≡ length (spans 0 t)) where
       no-fault : leafFault (o .names) 0 (leaves t) ≡ 0
-      no-fault = seen-fault ∙ if-true 0 10 (eq-eqb (e .seen) (everyTaxon (o .numbers .taxa)) h)
+      no-fault = leaf-fault ∙ if-true 0 10 (eq-eqb (getD u (wide * k) 0) (everyTaxon (o .numbers .taxa)) every)
 
-      distinct : Distinct (o .names) t
-      distinct = tree-distinct (o .names) t no-fault
+      count : n ≡ innerNodes t
+      count = omega (arith, spans-length 0 t)
 
-      -- the masks of the inner nodes, whose records are found
-      abbrev masks : List ℕ
-      masks = inners (o .names) t
+      fits : 2 * n ≤ 128
+      fits = omega (arith, spans-few (reading-sound s t is-read), count, all-leaves, some-taxa)
 
-      fits : length (records o t) ≤ 192
-      fits = records-few o g (reading-sound s t is-read) no-fault
+      lie : nodes′ ≡ spans 0 t ++ drop (0 + length (spans 0 t)) nodes
+      lie = let b = fits in spanned ∙ sets-eq (spans 0 t) nodes 0 (omega arith)
 
-      size : length (records o t) ≡ wide * length masks
-      size = ap length (records-are o g t distinct) ∙ records-length o masks
+      gathering-room : n ≤ 64
+      gathering-room = let b = fits in omega arith
 
-      used-is : e .used ≡ length masks
-      used-is = omega (arith, w .moved, size)
+      gathering-lies : (j : ℕ) → j < n → Lies nodes′ k j
+      gathering-lies j h =
+          let q = spans-within nodes′ 0 t [] (drop (0 + length (spans 0 t)) nodes) 0 refl lie j (omega arith) (omega (arith, count)) in
+          (q .0, omega (arith, q .1, all-leaves))
 
-      found : l′ ≡ recordsOf o masks ++ drop (0 + length (records o t)) l
-      found =
-          let b = fits in
-          w .stored ∙ sets-eq (records o t) l 0 (omega arith) ∙ ap (λ y. y ++ drop (0 + length (records o t)) l) (records-are o g t distinct)
+      masked : (xs zs : List (List ℕ)) → leaves t ≡ xs ++ zs → getD u (wide * length xs) 0 ≡ labelTaxa (o .names) xs
+      masked xs zs e =
+          let b : length xs ≤ k = omega (arith, all-leaves, ap length e, length-append xs zs) in
+          a .masked (length xs) b ∙ ap (labelTaxa (o .names)) (first (length xs) b ∙ ap (take (length xs)) e ∙ take-append-seam xs zs)
 
-      all-taxa : x .mask ≡ everyTaxon (o .numbers .taxa)
-      all-taxa = w .masked ∙ all-seen (o .names) t no-fault ∙ ap everyTaxon (g .named .count)
-
-      root : Hashed o (x .mask) (x .place) (x .identifier)
-      root = rw (w .masked, w .placed, w .identified) (hashed-nodes o g t distinct)
-
-      pub gathering-asks : ((wide * e .used ≤ length l′) × (e .used ≤ 64) × AllHashed o (e .used) l′)
-          × Hashed o (x .mask) (x .place) (x .identifier) × (x .mask ≡ everyTaxon (o .numbers .taxa))
-      gathering-asks =
-          let b = fits in
-          let c = size in
-          let u = used-is in
-          let v : length l′ ≡ length l = ap length (w .stored) ∙ length-sets l 0 (records o t) in
-          ((omega arith, omega arith, rw (used-is, found) (inners-hashed o g t _)), root, all-taxa)
-
-      splits-are : counted (o .numbers .taxa) (masksOf (e .used) l′) ≡ splitsOf (o .names) t
+      splits-are : counted (o .numbers .taxa) (spanMasks u nodes′ n) ≡ splitsOf (o .names) t
       splits-are =
-          ap₂ counted (sym (g .named .count)) (ap₂ masksOf used-is found ∙ masks-records o masks _)
+          ap₂ counted (sym (g .named .count))
+          (ap (spanMasks u nodes′) count
+          ∙ spans-inners (o .names) t u nodes′ (drop (0 + length (spans 0 t)) nodes) lie masked
+          (λ xs vs zs e. parts-apart (o .names) xs vs zs (ap (leafFault (o .names) 0) (sym e) ∙ no-fault)))
           ∙ inners-splits o g (reading-sound s t is-read) (all-seen (o .names) t no-fault)
 
-      pub judged-splits : (k : ℕ) (u v : List ℕ)
-          → (k ≡ length (counted (o .numbers .taxa) (masksOf (e .used) l′))) × (v ≡ withRecords o (counted (o .numbers .taxa) (masksOf (e .used) l′)) u)
-          → JudgedAs o s (Splits k) u v
+      tree-splits : (i : ℕ) (v w : List ℕ)
+          → (i ≡ length (counted (o .numbers .taxa) (spanMasks u nodes′ n))) × (w ≡ withRecords o (counted (o .numbers .taxa) (spanMasks u nodes′ n)) v)
+          → JudgedAs o s (Splits i) v w
       unfolding JudgedAs
-      judged-splits k u v p =
-          (counted (o .numbers .taxa) (masksOf (e .used) l′), faultless (o .names) s t is-read no-fault ∙ ap gives (sym splits-are), p .0, p .1)
+      tree-splits i v w p =
+          (counted (o .numbers .taxa) (spanMasks u nodes′ n), faultless (o .names) s t is-read no-fault ∙ ap gives (sym splits-are), p .0, p .1)
 
--- ---- over a head
+-- ---- by what was read of the text, over a head
 
-module _ (h : List ℕ) where
-  pub ready : (starts links s : List ℕ) (m : ℕ) → Prepared h starts links → length s ≤ mostText → m ≡ numbersAt h .places → Ready h starts links s m
-  unfolding openingAt
-  ready starts links s m p l e = record { prepared = p; short = l; places = e }
+module _ (o : Opening) (s : List ℕ) (c : Mark) (tokens nodes tokens′ nodes′ : List ℕ) (h : ShapeRead s c tokens nodes tokens′ nodes′) where
+  pub judged-none : length s < c .at → (v : List ℕ) → JudgedAs o s (Refused why.BadForm) v v
+  judged-none b v = unread-none o s v (h .fault b)
 
-  pub every-taxon-here : (n r : ℕ) → n ≡ numbersAt h .taxa → r ≡ everyTaxon n → r ≡ everyTaxon (openingAt h .numbers .taxa)
-  unfolding openingAt
-  every-taxon-here n r e q = q ∙ ap everyTaxon e
+  module _ (room : length tokens ≡ 130) (b : c .at ≤ length s) (k : ℕ) (few : k ≡ min (c .leaves) mostLeaves) where
+    tree : Nodes
+    tree = h .good b .0
+
+    shaped : Shaped s tree c tokens nodes tokens′ nodes′
+    unfolding tree
+    shaped = h .good b .1
+
+    fewest : k ≡ min (length (leaves tree)) mostLeaves
+    fewest = few ∙ ap (λ (n : ℕ). min n mostLeaves) (shaped .leaved)
+
+    first : (j : ℕ) → j ≤ k → labelsAt s tokens′ j ≡ take j (leaves tree)
+    first = let e = fewest in labels-first s tokens tokens′ (shaped .labels) (shaped .tokened) k (omega arith) (omega arith)
+
+    pub summing-asks : (k ≤ mostLeaves) × Tokens s tokens′ k
+    summing-asks = let e = fewest in (omega arith, tokens-lie s tokens tokens′ (shaped .labels) (shaped .tokened) k (omega arith) (omega arith))
+
+    module _ (g : GoodOpening o) (u : List ℕ) (f : Summed) (l : LeavesSummed o s tokens′ k u f) where
+      pub judged-wrong : (r : Refusal) → f ≡ Wrong r → (v : List ℕ) → JudgedAs o s (Refused r) v v
+      judged-wrong r e = tree-wrong o g s tokens′ u tree k (shaped .reads) fewest first r (subst (LeavesSummed o s tokens′ k u) e l)
+
+      module _ (e : f ≡ Distinct) where
+        summed : AllSummed o s tokens′ k u
+        unfolding LeavesSummed
+        summed = rw e at l
+
+        pub judged-missing : (getD u (wide * k) 0 ≡ everyTaxon (o .numbers .taxa) → ⊥) → (v : List ℕ) → JudgedAs o s (Refused why.MissingTaxon) v v
+        judged-missing = tree-missing o g s tokens′ u tree k (shaped .reads) fewest first summed
+
+        module _ (every : getD u (wide * k) 0 ≡ everyTaxon (o .numbers .taxa)) (size : length nodes ≡ 128) where
+          pub gathering-asks : ((k ≤ 64) × Running o k u × (getD u (wide * k) 0 ≡ everyTaxon (o .numbers .taxa))) × (c .inner ≤ 64) × Spans k (c .inner) nodes′
+          gathering-asks =
+              let lies = gathering-lies o g s tokens′ u tree k (shaped .reads) fewest first summed every nodes nodes′ size (shaped .spanned) (c .inner) (shaped .nested) in (
+                (some-taxa o g s tokens′ u tree k (shaped .reads) fewest first summed, summed .running, every),
+                gathering-room o g s tokens′ u tree k (shaped .reads) fewest first summed every nodes nodes′ size (shaped .spanned) (c .inner) (shaped .nested),
+                record { rises = λ j a. lies j a .0; within = λ j a. lies j a .1 },
+              )
+
+          pub judged-splits : (i : ℕ) (v w : List ℕ)
+              → (i ≡ length (counted (o .numbers .taxa) (spanMasks u nodes′ (c .inner)))) × (w ≡ withRecords o (counted (o .numbers .taxa) (spanMasks u nodes′ (c .inner))) v)
+              → JudgedAs o s (Splits i) v w
+          judged-splits = tree-splits o g s tokens′ u tree k (shaped .reads) fewest first summed every nodes nodes′ size (shaped .spanned) (c .inner) (shaped .nested)
+
+pub every-taxon-here : (h : List ℕ) (n r : ℕ) → n ≡ numbersAt h .taxa → r ≡ everyTaxon n → r ≡ everyTaxon (openingAt h .numbers .taxa)
+unfolding openingAt
+every-taxon-here h n r e q = q ∙ ap everyTaxon e

@@ -1,3 +1,6 @@
-pub mod Gather
+pub mod Shape
 pub mod Splits
+pub mod Running
+pub mod Leaves
+pub mod Chains
 pub mod Judge

@@ -1,14 +1,13 @@
 -- From the records of inner nodes to the splits of a tree.
 --
 --   Hashed o m p i     p and i are the place and the identifier of the mask m
---   AllHashed o n s    the first n records of s are of masks of n taxa, and hashed
 --   nextSplits n m l   the splits l with the side of the cluster m, if it counts
---   Standing o k s     k splits stand in s, rising, with room for one more
+--   Standing o k s     k splits stand in s, rising
 --   Taken o f k s r t  of the splits l that stood in s, r stand in t: those of f l
 use Prim.Native.Nat.{ℕ, _+_, _*_, _^_, _≤_, _<_}
 use mathlib.Core.Path.{_≡_}
 use mathlib.Core.List.{List}
-use lib.ListN.{length, getD}
+use lib.ListN.{length}
 use Rattle.trees.specs.Plain.{if_then_else_}
 use Rattle.trees.specs.Mask.{side, proper}
 use Rattle.trees.specs.Splits.{insert}
@@ -22,9 +21,6 @@ pub record Hashed (o : Opening) (m p i : ℕ) : Type 0 where
   pub placed : p ≡ place (o .first) (o .numbers .places) m
   pub identified : i ≡ identifier (o .second) m
 
-pub record AllHashed (o : Opening) (n : ℕ) (s : List ℕ) : Type 0 where
-  pub each : (j : ℕ) → j < n → Hashed o (getD s (wide * j) 0) (getD s (wide * j + 1) 0) (getD s (wide * j + 2) 0)
-
 -- the splits l with the side of the cluster m, if it counts
 unfoldable pub nextSplits : ℕ → ℕ → List ℕ → List ℕ
 unfolding insert side proper
@@ -33,7 +29,7 @@ nextSplits n m l = if proper n (side n m) then insert (side n m) l else l
 pub record Standing (o : Opening) (k : ℕ) (s : List ℕ) : Type 0 where
   pub words : s ≡ withRecords o (masksOf k s) s
   pub rises : Rising (masksOf k s)
-  pub room : wide * k + wide ≤ length s
+  pub room : wide * k ≤ length s
 
 pub record Taken (o : Opening) (f : List ℕ → List ℕ) (k : ℕ) (s : List ℕ) (r : ℕ) (t : List ℕ) : Type 0 where
   pub least : k ≤ r

@@ -1,22 +1,26 @@
 // Reading a tree: the verdict on a text over an opening's names, and the records of an accepted text's splits: masks, places and
 // identifiers.
 //
-// The contracts cite `specs/Judge.antt` (`JudgedAs`) and `specs/Gather.antt` (`Prepared`); crate trees, `specs/Verdict.antt`, says
+// The contracts cite `specs/Judge.antt` (`Prepared`, `JudgedAs`); crate trees, `specs/Verdict.antt`, says
 // what `judged` is, and crate records, `specs/Records.antt`, what the records of splits are.
 use answers::Refusal;
-use gather::Got;
-use gather::Mark;
 use head::KEYS;
-use text::Next;
-ghost use Prim.Native.Nat.{_≤_};
+use leaves::MOST_LEAVES;
+use leaves::SUMS;
+use leaves::Summed;
+use shape::NODES;
+use shape::TOKENS;
+ghost use mathlib.Core.Path.{_≡_};
+ghost use Prim.Native.Nat.{_≤_, min};
 ghost use lib.ListN.{length};
 ghost use Rattle.trees.specs.Held.{mostText};
-ghost use Rattle.records.specs.Records.{room};
+ghost use Rattle.records.specs.Records.{mostWords};
 ghost use Rattle.head.specs.Head.{openingAt};
-ghost use Rattle.newick.specs.Gather.{Prepared};
-ghost use Rattle.newick.specs.Judge.{JudgedAs};
+ghost use Rattle.newick.specs.Judge.{Prepared, JudgedAs};
 
-mod gather;
+mod leaves;
+mod ordered;
+mod shape;
 mod splits;
 
 // The verdict on a text: its refusal, or how many splits it has.
@@ -35,36 +39,38 @@ pub fn judge(
 ) -> Judged
     requires { ⌜ Prepared (now head) (now starts) (now links) ⌝ }
     requires { ⌜ length (now text) ≤ mostText ⌝ }
-    requires { ⌜ room ≤ length (now records) ⌝ }
+    requires { ⌜ mostWords ≤ length (now records) ⌝ }
     ensures { λ r. ⌜ JudgedAs (openingAt (now (head .entry))) (now (text .entry)) r (now (records .entry)) (now (records .exit)) ⌝ }
 {
-    let mut found = [0u64; 192];
-    let m = head::places(head) as u64;
-    let from = Mark {
-        at: 0,
-        used: 0,
-        seen: 0,
-        fault: 0,
-    };
-    let got = gather::read_node(head, starts, links, text, from, 63, m, &mut found);
-    let Got::Taken(c, x) = got else {
+    let mut tokens = [0u16; TOKENS];
+    let mut nodes = [0u16; NODES];
+    let c = shape::read_shape(text, &mut tokens, &mut nodes);
+    if text.len() < c.at {
         return Judged::Refused(Refusal::BadForm);
-    };
-    let at = c.at;
-    let behind = text::next_symbol(text, at);
-    match behind {
-        Next::End => {
-            if c.fault == 8 {
-                return Judged::Refused(Refusal::UnknownLeaf);
-            }
-            if c.fault == 9 {
-                return Judged::Refused(Refusal::RepeatedLeaf);
-            }
-            if !masks::is_same(c.seen, masks::every_taxon(head::taxa(head))) {
+    }
+    let k = fewer(c.leaves, MOST_LEAVES);
+    let mut sums = [0u64; SUMS];
+    let l = leaves::sum_leaves(head, starts, links, text, k, &tokens, &mut sums);
+    match l {
+        Summed::Wrong(r) => Judged::Refused(r),
+        Summed::Distinct => {
+            if !masks::is_same(
+                records::mask_of(&sums, k),
+                masks::every_taxon(head::taxa(head)),
+            ) {
                 return Judged::Refused(Refusal::MissingTaxon);
             }
-            Judged::Splits(splits::gather_splits(head, &found, c.used, x, records))
+            Judged::Splits(ordered::gather_splits(head, k, &sums, c.inner, &nodes, records))
         }
-        _ => Judged::Refused(Refusal::BadForm),
     }
+}
+
+// n, but no more than most.
+fn fewer(n: usize, most: usize) -> usize
+    ensures { λ r. ⌜ r ≡ min n most ⌝ }
+{
+    if n < most {
+        return n;
+    }
+    most
 }

@@ -26,10 +26,9 @@ use Rattle.trees.specs.Text.{semicolon}
 use Rattle.trees.specs.Opening.{Numbers, opening}
 use Rattle.trees.specs.Held.{Held, beforeSemicolon}
 use Rattle.trees.specs.Batch.{semicolons, Batched, batch}
-use Rattle.trees.specs.Questions.{treesHeld, splitsHeld, splitList, splitNumber, treeNumber, oneSidedOf, doubledOf, matrixOf, collisionsOf, strictOf, majorityOf, writtenOf}
+use Rattle.trees.specs.Questions.{treesHeld, splitsHeld, splitList, splitNumber, treeNumber, oneSidedOf, doubledOf, matrixOf, collisionsOf, strictOf, majorityOf, bothOf, writtenOf}
 use Rattle.trees.specs.Runs.{Call, feed, Heard, answer, next, Final, acceptedAs, refusedWith, finals}
-use Rattle.answers.specs.Filled.{lengthGiven, front}
-use Rattle.table.specs.Asked.{masksOf, countsOf}
+use Rattle.answers.specs.Filled.{lengthGiven, front, firstOf, secondOf, lengthsGiven}
 
 -- ---- questions
 
@@ -45,6 +44,7 @@ pub data Question : Type 0 where
   collisions : Question
   strict : List ℕ → Question
   majority : List ℕ → Question
+  both : List ℕ → List ℕ → Question
   write-accepted : ℕ → List ℕ → Question
 
 pub data Reply : Type 0 where
@@ -52,6 +52,7 @@ pub data Reply : Type 0 where
   split : Answer (ℕ × ℕ) → Reply
   filled : Answer ℕ → List ℕ → Reply
   bothFilled : Answer ℕ → List ℕ → List ℕ → Reply
+  eachFilled : Answer (ℕ × ℕ) → List ℕ → List ℕ → Reply
 
 -- "Every written answer stands at its buffer's front; the rest of a longer buffer keeps its values"
 unfoldable pub fill : Answer (List ℕ) → List ℕ → Reply
@@ -59,11 +60,16 @@ unfolding lengthGiven front
 fill x out = filled (lengthGiven x) (front x out)
 
 unfoldable pub fillBoth : Answer (List ℕ × List ℕ) → List ℕ → List ℕ → Reply
-unfolding lengthGiven front masksOf countsOf
-fillBoth x masks counts = bothFilled (lengthGiven (masksOf x)) (front (masksOf x) masks) (front (countsOf x) counts)
+unfolding lengthGiven front firstOf secondOf
+fillBoth x masks counts = bothFilled (lengthGiven (firstOf x)) (front (firstOf x) masks) (front (secondOf x) counts)
+
+-- two buffers that are not filled with as many elements
+unfoldable pub fillEach : Answer (List ℕ × List ℕ) → List ℕ → List ℕ → Reply
+unfolding lengthsGiven front firstOf secondOf
+fillEach x xs ys = eachFilled (lengthsGiven x) (front (firstOf x) xs) (front (secondOf x) ys)
 
 unfoldable pub reply : Held → Question → Reply
-unfolding fill fillBoth treesHeld splitsHeld splitList splitNumber treeNumber oneSidedOf doubledOf matrixOf collisionsOf strictOf majorityOf writtenOf
+unfolding fill fillBoth fillEach treesHeld splitsHeld splitList splitNumber treeNumber oneSidedOf doubledOf matrixOf collisionsOf strictOf majorityOf bothOf writtenOf
 reply h tree-count = number (treesHeld h)
 reply h split-count = number (splitsHeld h)
 reply h (one-split k) = split (splitNumber h k)
@@ -75,6 +81,7 @@ reply h (matrix out) = fill (matrixOf h (length out)) out
 reply h collisions = number (collisionsOf h)
 reply h (strict out) = fill (strictOf h (length out)) out
 reply h (majority out) = fill (majorityOf h (length out)) out
+reply h (both xs ys) = fillEach (bothOf h (length xs) (length ys)) xs ys
 reply h (write-accepted i out) = fill (writtenOf h i (length out)) out
 
 -- ---- calls
@@ -182,6 +189,7 @@ isCollisions (ask (matrix out)) = false
 isCollisions (ask collisions) = true
 isCollisions (ask (strict out)) = false
 isCollisions (ask (majority out)) = false
+isCollisions (ask (both xs ys)) = false
 isCollisions (ask (write-accepted i out)) = false
 isCollisions (reopen x names first second) = false
 

@@ -4,7 +4,7 @@
 --   agree-once, is-whole-once                                     the tests
 --   refusal-number-once, size-once, tree-count-once, split-count-once, one-split-once, one-sided-once, doubled-once, collisions-once
 --                                                                 the questions without a buffer
---   split-list-once, tree-splits-once, matrix-once, strict-once, majority-once, write-accepted-once
+--   split-list-once, tree-splits-once, matrix-once, strict-once, majority-once, both-once, write-accepted-once
 --                                                                 the questions with one: the answer, and every element of the buffer
 --   openedFree, open-once                                         opening
 --   fedFree, feed-once                                            feeding
@@ -42,11 +42,12 @@ use Rattle.comparing.proofs.matrix.Reads as matrix
 use Rattle.comparing.proofs.collisions.Reads as collisions
 use Rattle.consensus.proofs.strict.Reads as strict
 use Rattle.consensus.proofs.majority.Reads as majority
+use Rattle.consensus.proofs.both.Reads as both-trees
 use Rattle.consensus.proofs.write_accepted.Reads as write-accepted
 use Rattle.feeding.proofs.feed.Reads as feed
 use Rattle.feeding.proofs.close.Reads as close
 use Rattle.promises.specs.Once.{Once, AnswerOnce, arg1, arg2, arg3, arg4, arg5, arg6, arg7, arg8, arg9, SameStore, Free, nothing, lane, store, SameBut}
-use Rattle.promises.specs.Outcomes.{both, split-one, progress-one, finish-both, number-both, filled-both, holds-both, outside-both}
+use Rattle.promises.specs.Outcomes.{both, split-one, progress-one, finish-both, number-both, lengths-both, filled-both, holds-both, outside-both}
 
 -- ---- tests
 
@@ -98,6 +99,9 @@ strict-once k x q r y z a b = filled-both q r a b
 
 pub majority-once : Once majority.Post (λ x q r y z. (q ≡ r) × (now (arg2 y) ≡ now (arg2 z)))
 majority-once k x q r y z a b = filled-both q r a b
+
+pub both-once : Once both-trees.Post (λ x q r y z. (q ≡ r) × (now (arg2 y) ≡ now (arg2 z)) × (now (arg3 y) ≡ now (arg3 z)))
+both-once k x q r y z a b = (lengths-both q r (a .0) (b .0), both (a .1 .0) (b .1 .0), both (a .1 .1) (b .1 .1))
 
 pub write-accepted-once : Once write-accepted.Post (λ x q r y z. (q ≡ r) × (now (arg3 y) ≡ now (arg3 z)))
 write-accepted-once k x q r y z a b = filled-both q r a b

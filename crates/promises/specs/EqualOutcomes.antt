@@ -4,8 +4,9 @@
 --   fields      get16-once, get32-once, get64-once, put16-once, put32-once, put64-once, copy-within-once, copy-from-once, clear-run-
 --               once
 --   masks       is-within-once, are-apart-once, is-proper-once, count-taxa-once, lowest-taxon-once, comes-before-once, is-same-once,
---               is-empty-once, every-taxon-once, side-once, union-of-once, taxa-without-once, has-taxon-once, only-taxon-once
---   text        is-blank-once, is-label-byte-once
+--               is-empty-once, every-taxon-once, side-once, union-of-once, taxa-without-once, without-lowest-once, has-taxon-once,
+--               only-taxon-once
+--   text        is-blank-once, is-label-byte-once, has-byte-once, has-label-byte-once
 --   words       decimal-once
 --   records     mask-of-once, place-of-once, identifier-of-once, insert-record-once, put-record-once
 --   head        taxa-once, lanes-once, tree-room-once, split-room-once, places-once, first-constant-once, second-constant-once, find-
@@ -17,8 +18,9 @@
 --   rows        row-of-once, mask-at-once, identifier-at-once, count-at-once, link-at-once, start-at-once, rows-tree-from-once,
 --               splits-in-once, row-in-once, copy-tree-once
 --   lanes       lane-length-once, text-of-once, closing-answer-once
---   distances   distances-one-sided-once, distances-doubled-once, write-matrix-once
+--   distances   distances-one-sided-once, distances-doubled-once, write-row-once, write-matrix-once
 --   colliding   collision-number-once
+--   consensus   write-strict-once, write-majority-once
 use mathlib.Core.Path.{_≡_}
 use denote.Ref.{now}
 use Rattle.fields.proofs.get16.Reads as get16
@@ -42,10 +44,13 @@ use Rattle.masks.proofs.every_taxon.Reads as every-taxon
 use Rattle.masks.proofs.side.Reads as side
 use Rattle.masks.proofs.union_of.Reads as union-of
 use Rattle.masks.proofs.taxa_without.Reads as taxa-without
+use Rattle.masks.proofs.without_lowest.Reads as without-lowest
 use Rattle.masks.proofs.has_taxon.Reads as has-taxon
 use Rattle.masks.proofs.only_taxon.Reads as only-taxon
 use Rattle.text.proofs.is_blank.Reads as is-blank
 use Rattle.text.proofs.is_label_byte.Reads as is-label-byte
+use Rattle.text.proofs.has_byte.Reads as has-byte
+use Rattle.text.proofs.has_label_byte.Reads as has-label-byte
 use Rattle.words.proofs.decimal.Reads as decimal
 use Rattle.records.proofs.mask_of.Reads as mask-of
 use Rattle.records.proofs.place_of.Reads as place-of
@@ -93,10 +98,13 @@ use Rattle.lanes.proofs.text_of.Reads as text-of
 use Rattle.lanes.proofs.closing_answer.Reads as closing-answer
 use Rattle.distances.proofs.one_sided.Reads as distances-one-sided
 use Rattle.distances.proofs.doubled.Reads as distances-doubled
+use Rattle.distances.proofs.write_row.Reads as write-row
 use Rattle.distances.proofs.write_matrix.Reads as write-matrix
 use Rattle.colliding.proofs.collision_number.Reads as collision-number
+use Rattle.consensus.proofs.write_strict.Reads as write-strict
+use Rattle.consensus.proofs.write_majority.Reads as write-majority
 use Rattle.promises.specs.Once.{Once, AnswerOnce, arg1, arg2, arg3}
-use Rattle.promises.specs.Outcomes.{both, finish-both}
+use Rattle.promises.specs.Outcomes.{both, finish-both, filled-both}
 
 -- ---- numbers in bytes, runs of bytes
 
@@ -165,6 +173,9 @@ union-of-once k x q r y z a b = both a b
 pub taxa-without-once : AnswerOnce taxa-without.Post
 taxa-without-once k x q r y z a b = both a b
 
+pub without-lowest-once : AnswerOnce without-lowest.Post
+without-lowest-once k x q r y z a b = both a b
+
 pub has-taxon-once : AnswerOnce has-taxon.Post
 has-taxon-once k x q r y z a b = both a b
 
@@ -178,6 +189,12 @@ is-blank-once k x q r y z a b = both (a .0) (b .0)
 
 pub is-label-byte-once : AnswerOnce is-label-byte.Post
 is-label-byte-once k x q r y z a b = both (a .0) (b .0)
+
+pub has-byte-once : AnswerOnce has-byte.Post
+has-byte-once k x q r y z a b = both a b
+
+pub has-label-byte-once : AnswerOnce has-label-byte.Post
+has-label-byte-once k x q r y z a b = both a b
 
 pub decimal-once : AnswerOnce decimal.Post
 decimal-once k x q r y z a b = both a b
@@ -330,8 +347,19 @@ distances-one-sided-once k x q r y z a b = both a b
 pub distances-doubled-once : AnswerOnce distances-doubled.Post
 distances-doubled-once k x q r y z a b = both a b
 
+pub write-row-once : Once write-row.Post (λ x q r y z. now (arg3 y) ≡ now (arg3 z))
+write-row-once k x q r y z a b = both a b
+
 pub write-matrix-once : Once write-matrix.Post (λ x q r y z. now (arg2 y) ≡ now (arg2 z))
 write-matrix-once k x q r y z a b = both a b
 
 pub collision-number-once : AnswerOnce collision-number.Post
 collision-number-once k x q r y z a b = both a b
+
+-- ---- the consensus trees of a whole store
+
+pub write-strict-once : Once write-strict.Post (λ x q r y z. (q ≡ r) × (now (arg2 y) ≡ now (arg2 z)))
+write-strict-once k x q r y z a b = filled-both q r a b
+
+pub write-majority-once : Once write-majority.Post (λ x q r y z. (q ≡ r) × (now (arg2 y) ≡ now (arg2 z)))
+write-majority-once k x q r y z a b = filled-both q r a b

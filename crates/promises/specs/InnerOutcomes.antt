@@ -17,6 +17,7 @@ use Rattle.trees.specs.Opening.{Opening}
 use Rattle.theorems.specs.ListLaws.{Mem, less-or-not}
 use Rattle.theorems.specs.RisingLaws.{Rising}
 use Rattle.answers.specs.Answers.{refusalNumber}
+use Rattle.answers.specs.AnswerLaws.{gives≢refused}
 use Rattle.records.specs.Records.{withRecords, putIn}
 use Rattle.records.specs.RecordLaws.{put-length}
 use Rattle.records.specs.Slot.{SlotFound}
@@ -37,7 +38,7 @@ use Rattle.newick.proofs.judge.Reads as judge
 use Rattle.writer.proofs.write_tree.Reads as write-tree
 use Rattle.promises.specs.Once.{Once, OnceIf, arg1, arg2, arg3, arg4, arg5}
 use Rattle.promises.specs.Calls.{refusalIn}
-use Rattle.promises.specs.Outcomes.{refusal-one, valueOr, gives≢refused, both}
+use Rattle.promises.specs.Outcomes.{refusal-one, valueOr, both}
 
 -- ---- a rising list
 

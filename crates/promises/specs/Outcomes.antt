@@ -1,17 +1,16 @@
 -- What two outcomes of a promise have in common, by what it says: the laws from which each promise's own theorem is a line or two.
 -- Assumes nothing.
 --
---   refusal-one, finish-one, number-one, split-one, progress-one     answers that mean the same are the same
---   valueOr, gives≢refused                the parts of an answer
+--   refusal-one, finish-one, number-one, lengths-one, split-one, progress-one     answers that mean the same are the same
+--   valueOr                               what an answer gives
 --   both                                  two that are equal to a third
---   finish-both, number-both              two answers that mean the same third
+--   finish-both, number-both, lengths-both     two answers that mean the same third
 --   holds-both                            two lent bytes that a promise lets hold the same
 --   outside-both                          two lent bytes that a promise lets differ from a third in one lane alone
 --   filled-both                           two outcomes of a call that fills a buffer
 use Prim.Native.Nat.{ℕ, suc, _≤_}
 use native.Mathlib.Omega.{arith}
 use mathlib.Core.Path.{_≡_, refl, sym, ap, subst, _∙_}
-use mathlib.Core.Bool.{Bool, true, false, true≢false}
 use mathlib.Core.List.{List}
 use lib.Dec.{eqb}
 use Rattle.trees.specs.Plain.{if_then_else_, Answer, refused, gives}
@@ -28,7 +27,10 @@ use Rattle.answers.specs.declared.Recorded.{Recorded}
 use Rattle.answers.specs.declared.Recorded.the-variants as recorded
 use Rattle.answers.specs.declared.Progress.{Progress}
 use Rattle.answers.specs.declared.Progress.the-variants as progress
-use Rattle.answers.specs.Answers.{refusalNumber, finishGiven, numberGiven, splitGiven, progressGiven}
+use Rattle.answers.specs.declared.Both.{Both}
+use Rattle.answers.specs.declared.Both.the-variants as lengths
+use Rattle.answers.specs.Answers.{refusalNumber, finishGiven, numberGiven, bothGiven, splitGiven, progressGiven}
+use Rattle.answers.specs.AnswerLaws.{gives≢refused}
 use Rattle.head.specs.Head.{openingAt}
 use Rattle.layout.specs.Store.{sizeAt, heldAt, heldIn}
 use Rattle.store.specs.Lent.{Holds}
@@ -81,14 +83,6 @@ unfoldable pub valueOr : {A : Type 0} → A → Answer A → A
 valueOr y (refused k) = y
 valueOr y (gives x) = x
 
-isGiven : {A : Type 0} → Answer A → Bool
-isGiven (refused k) = false
-isGiven (gives x) = true
-
-pub gives≢refused : {A : Type 0} (x : A) (k : ℕ) → _≡_ {A = Answer A} (gives x) (refused k) → ⊥
-unfolding isGiven
-gives≢refused {A} x k e = true≢false (ap (λ (a : Answer A). isGiven a) e)
-
 pub finish-one : (a b : Finish) → finishGiven a ≡ finishGiven b → a ≡ b
 unfolding finishGiven refusalIn
 finish-one (finish.Refused r) (finish.Refused q) e = ap finish.Refused (refusal-one r q (ap refusalIn e))
@@ -102,6 +96,13 @@ number-one (number.Refused r) (number.Refused q) e = ap number.Refused (refusal-
 number-one (number.Refused r) (number.Gives n) e = absurd (gives≢refused n (refusalNumber r) (sym e))
 number-one (number.Gives n) (number.Refused r) e = absurd (gives≢refused n (refusalNumber r) e)
 number-one (number.Gives n) (number.Gives m) e = ap number.Gives (ap (valueOr n) e)
+
+pub lengths-one : (a b : Both) → bothGiven a ≡ bothGiven b → a ≡ b
+unfolding bothGiven refusalIn valueOr
+lengths-one (lengths.Refused r) (lengths.Refused q) e = ap lengths.Refused (refusal-one r q (ap refusalIn e))
+lengths-one (lengths.Refused r) (lengths.Gives m n) e = absurd (gives≢refused (m, n) (refusalNumber r) (sym e))
+lengths-one (lengths.Gives m n) (lengths.Refused r) e = absurd (gives≢refused (m, n) (refusalNumber r) e)
+lengths-one (lengths.Gives m n) (lengths.Gives j k) e = ap (λ (x : ℕ × ℕ). lengths.Gives (x .0) (x .1)) (ap (valueOr (m, n)) e)
 
 pub split-one : (a b : Recorded) → splitGiven a ≡ splitGiven b → a ≡ b
 unfolding splitGiven refusalIn valueOr
@@ -138,6 +139,9 @@ finish-both q r a b = finish-one q r (both a b)
 
 pub number-both : {x : Answer ℕ} (q r : Number) → numberGiven q ≡ x → numberGiven r ≡ x → q ≡ r
 number-both q r a b = number-one q r (both a b)
+
+pub lengths-both : {x : Answer (ℕ × ℕ)} (q r : Both) → bothGiven q ≡ x → bothGiven r ≡ x → q ≡ r
+lengths-both q r a b = lengths-one q r (both a b)
 
 pub filled-both : {x : Answer ℕ} {m t u : List ℕ} (q r : Number) → (numberGiven q ≡ x) × (t ≡ m) → (numberGiven r ≡ x) × (u ≡ m) → (q ≡ r) × (t ≡ u)
 filled-both q r a b = (number-both q r (a .0) (b .0), both (a .1) (b .1))

@@ -1,47 +1,64 @@
--- The lines that are given one after another are those of the summary. Assumes nothing.
+-- The lines that are given, one call after another, are those of the summary. Assumes nothing.
 --
---   filled-line      a line that is given stands at the front of the buffer
---   lines-follow     the lines behind an answer of finishing, from the line j on
-use Prim.Native.Nat.{ℕ, zero, suc, _≤_, _<_}
+--   whole-none, whole-more     pieces, one behind another
+--   lines-follow     the bytes that are given behind an answer of finishing, from a line on
+use Prim.Native.Nat.{ℕ, zero, suc, _+_, _≤_, _<_}
 use native.Mathlib.Omega.{arith}
 use mathlib.Core.Path.{_≡_, refl, sym, ap, ap₂, _∙_}
 use mathlib.Core.Logic.{_⊎_, inl, inr}
-use mathlib.Core.List.{List, [], _∷_}
+use mathlib.Core.List.{List, [], _∷_, _++_, flatMap}
 use lib.ListN.{length, getD, take, drop, drop-of-length-le}
-use lib.Seq.{drop-cons, take-at}
+use lib.Seq.{drop-drop, take-at}
 use borrow.Author.Tests.{lt-ltb, le-ltb}
 use Rattle.theorems.specs.ListLaws.{less-or-not}
 use Rattle.trees.specs.Plain.{Answer, refused, gives}
-use Rattle.trees.specs.Questions.{ifRoom}
 use Rattle.answers.specs.declared.Number.{Number}
 use Rattle.answers.specs.declared.Number.the-variants as number
 use Rattle.answers.specs.declared.Refusal.{Refusal}
-use Rattle.answers.specs.Answers.{refusalNumber, numberGiven}
-use Rattle.answers.specs.Filled.{lengthGiven, front, FilledAs}
+use Rattle.answers.specs.declared.Both.the-variants as both
+use Rattle.answers.specs.Answers.{refusalNumber, bothGiven}
+use Rattle.answers.specs.Filled.{front}
+use Rattle.answers.specs.AnswerLaws.{gives≢refused}
 use Rattle.sheet.specs.Sheet.{refusalLine}
+use Rattle.sheet.specs.Asked.{fitted, ifAny, linesFrom, bytesOf, bytesGiven, sizesGiven, PrintsAs}
+use Rattle.sheet.specs.RunLaws.{bytes-append, fitted-first, fitted-rest}
 use Rattle.sheet.specs.LineRoomLaws.{lines-fit}
 use Rattle.summary.specs.Summary.{firstLine, summaryBytes, linesFor}
 use Rattle.summary.specs.OpeningLaws.{two-or-three}
-use Rattle.summary.specs.Summing.{SheetOf, CountedIn, lineFor}
+use Rattle.summary.specs.Summing.{SheetOf, CountedIn, refusalLines}
 use Rattle.summary.specs.StandsLaws.{sheet-is, sheet-counted, refusal-is}
-use Rattle.promises.specs.Outcomes.{valueOr, gives≢refused}
-use Rattle.promises.specs.SummarySteps.{LinesGiven}
+use Rattle.promises.specs.Outcomes.{valueOr}
+use Rattle.promises.specs.SummarySteps.{whole, LinesGiven}
 
--- ---- a line that is given
+-- ---- pieces, one behind another
 
-filled-never : (x : Answer (List ℕ)) (l : List ℕ) → x ≡ gives l → (w : Refusal) (out after : List ℕ) → FilledAs x (number.Refused w) out after → ⊥
-unfolding numberGiven lengthGiven
-filled-never x l e w out after f = gives≢refused (length l) (refusalNumber w) (ap lengthGiven (sym e) ∙ sym (f .0))
+pub whole-none : whole [] ≡ []
+unfolding whole flatMap
+whole-none = refl
 
-filled-line : (x : Answer (List ℕ)) (l : List ℕ) → x ≡ gives l → (k : ℕ) (out after : List ℕ) → FilledAs x (number.Gives k) out after → take k after ≡ l
-unfolding numberGiven lengthGiven front valueOr
-filled-line x l e k out after f =
-    let n : length l ≡ k = sym (ap (valueOr 0) (f .0 ∙ ap lengthGiven e)) in
-    ap (take k) (f .1 ∙ ap (λ (y : Answer (List ℕ)). front y out) e) ∙ take-at l (drop (length l) out) k n
+pub whole-more : (p : List ℕ) (ps : List (List ℕ)) → whole (p ∷ ps) ≡ p ++ whole ps
+unfolding whole flatMap
+whole-more p ps = refl
 
-refused-never : (x : Answer (List ℕ)) (m : ℕ) → x ≡ refused m → (k : ℕ) (out after : List ℕ) → FilledAs x (number.Gives k) out after → ⊥
-unfolding numberGiven lengthGiven
-refused-never x m e k out after f = gives≢refused k m (f .0 ∙ ap lengthGiven e)
+-- ---- lines that are given
+
+module _ (x : Answer (List (List ℕ))) (ls : List (List ℕ)) (e : x ≡ gives ls) (out after : List ℕ) where
+  never-refused : (w : Refusal) → PrintsAs x (both.Refused w) out after → ⊥
+  unfolding bothGiven sizesGiven
+  never-refused w f = gives≢refused (length (bytesOf ls), length ls) (refusalNumber w) (ap sizesGiven (sym e) ∙ sym (f .0))
+
+  bytes-given : (n k : ℕ) → PrintsAs x (both.Gives n k) out after → (take n after ≡ bytesOf ls) × (k ≡ length ls)
+  unfolding bothGiven sizesGiven bytesGiven front valueOr
+  bytes-given n k f =
+      let z : _≡_ {A = ℕ × ℕ} (n, k) (length (bytesOf ls), length ls) = ap (valueOr (0, 0)) (f .0 ∙ ap sizesGiven e) in
+      let a : length (bytesOf ls) ≡ n = sym (ap (λ (y : ℕ × ℕ). y .0) z) in (
+        ap (take n) (f .1 ∙ ap (λ (y : Answer (List (List ℕ))). front (bytesGiven y) out) e) ∙ take-at (bytesOf ls) (drop (length (bytesOf ls)) out) n a,
+        ap (λ (y : ℕ × ℕ). y .1) z,
+      )
+
+never-given : (x : Answer (List (List ℕ))) (m : ℕ) → x ≡ refused m → (n k : ℕ) (out after : List ℕ) → PrintsAs x (both.Gives n k) out after → ⊥
+unfolding bothGiven sizesGiven
+never-given x m e n k out after f = gives≢refused (n, k) m (f .0 ∙ ap sizesGiven e)
 
 -- ---- every line fits into 8,192 bytes
 
@@ -58,7 +75,7 @@ lines-short (number.Gives n) s v g small j =
     let c = sheet-counted n s v g small in
     rw (sheet-is n s v g small) (lines-fit s (unfold SheetOf in g .2) n c j)
 lines-short (number.Refused w) s v g small j =
-    rw (refusal-is w s v g) (one-short (refusalLine (refusalNumber w)) j
+    rw (refusal-is w s v g) (unfold refusalLines in one-short (refusalLine (refusalNumber w)) j
     (refusal-short (refusalNumber w) (two-or-three (firstLine v) summaryBytes (omega arith) (refusalNumber w) (unfold SheetOf in g))))
 
 -- ---- the lines of the summary of v
@@ -67,36 +84,48 @@ module _ (a : Number) (s v : List ℕ) (g : SheetOf a s v) (small : CountedIn v)
   abbrev lines : List (List ℕ)
   lines = linesFor v
 
-  line-there : (j k : ℕ) → j < length lines → 8192 ≤ k → lineFor v j k ≡ gives (getD lines j [])
-  unfolding lineFor ifRoom
-  line-there j k h l = rw (lt-ltb j (length lines) h, le-ltb k (length (getD lines j [])) (omega (arith, lines-short a s v g small j))) refl
+  abbrev fit : ℕ → ℕ → List (List ℕ)
+  fit from room = fitted room (drop from lines)
 
-  line-past : (j k : ℕ) → length lines ≤ j → lineFor v j k ≡ refused 13
-  unfolding lineFor
-  line-past j k h = rw (le-ltb j (length lines) h) refl
+  lines-there : (from room : ℕ) → from < length lines → 8192 ≤ room → linesFrom lines from room ≡ gives (fit from room)
+  unfolding linesFrom ifAny
+  lines-there from room h l =
+      let f = fitted-first room lines from h (omega (arith, lines-short a s v g small from)) in
+      rw (lt-ltb from (length lines) h, f .1) refl
+
+  lines-past : (from room : ℕ) → length lines ≤ from → linesFrom lines from room ≡ refused 13
+  unfolding linesFrom
+  lines-past from room h = rw (le-ltb from (length lines) h) refl
 
   -- a refusal: there are no more
-  given-none : (j : ℕ) (w : Refusal) (out after : List ℕ) → 8192 ≤ length out → FilledAs (lineFor v j (length out)) (number.Refused w) out after
-      → [] ≡ drop j lines
-  given-none j w out after l f = go (less-or-not j (length lines))
+  given-none : (from : ℕ) (w : Refusal) (out after : List ℕ) → 8192 ≤ length out → PrintsAs (linesFrom lines from (length out)) (both.Refused w) out after
+      → [] ≡ drop from lines
+  given-none from w out after l f = go (less-or-not from (length lines))
     where
-      go : (j < length lines) ⊎ (length lines ≤ j) → [] ≡ drop j lines
-      go (inl h) = absurd (filled-never _ (getD lines j []) (line-there j (length out) h l) w out after f)
+      go : (from < length lines) ⊎ (length lines ≤ from) → [] ≡ drop from lines
+      go (inl h) = absurd (never-refused _ (fit from (length out)) (lines-there from (length out) h l) out after w f)
       go (inr h) = sym (drop-of-length-le lines h)
 
-  given-more : (j k : ℕ) (out after : List ℕ) → 8192 ≤ length out → FilledAs (lineFor v j (length out)) (number.Gives k) out after
-      → take k after ∷ drop (suc j) lines ≡ drop j lines
-  given-more j k out after l f = go (less-or-not j (length lines))
+  given-more : (from n k : ℕ) (out after : List ℕ) → 8192 ≤ length out → PrintsAs (linesFrom lines from (length out)) (both.Gives n k) out after
+      → take n after ++ bytesOf (drop (from + k) lines) ≡ bytesOf (drop from lines)
+  given-more from n k out after l f = go (less-or-not from (length lines))
     where
-      go : (j < length lines) ⊎ (length lines ≤ j) → take k after ∷ drop (suc j) lines ≡ drop j lines
+      go : (from < length lines) ⊎ (length lines ≤ from) → take n after ++ bytesOf (drop (from + k) lines) ≡ bytesOf (drop from lines)
       go (inl h) =
-          ap (λ (x : List ℕ). x ∷ drop (suc j) lines) (filled-line _ (getD lines j []) (line-there j (length out) h l) k out after f)
-          ∙ sym (drop-cons lines j [] h)
-      go (inr h) = absurd (refused-never _ 13 (line-past j (length out) h) k out after f)
+          let fs = fit from (length out) in
+          let q = bytes-given _ fs (lines-there from (length out) h l) out after n k f in
+          let d : drop (from + k) lines ≡ drop (length fs) (drop from lines) =
+          ap (λ (i : ℕ). drop (from + i) lines) (q .1) ∙ sym (drop-drop (length fs) from lines) in
+          ap₂ (λ (y : List ℕ) (z : List (List ℕ)). y ++ bytesOf z) (q .0) d ∙ sym (bytes-append fs (drop (length fs) (drop from lines)))
+          ∙ ap bytesOf (fitted-rest (length out) (drop from lines))
+      go (inr h) = absurd (never-given _ 13 (lines-past from (length out) h) n k out after f)
 
-  pub lines-follow : (given : List (List ℕ)) (j : ℕ) → LinesGiven a s j given → given ≡ drop j lines
+  pub lines-follow : (parts : List (List ℕ)) (from : ℕ) → LinesGiven a s from parts → whole parts ≡ bytesOf (drop from lines)
   unfolding LinesGiven
-  lines-follow [] j q = given-none j (q .0) (q .1) (q .2) (q .3) (q .4 .carries v g small)
-  lines-follow (l ∷ given) j q =
-      ap₂ (λ (x : List ℕ) (xs : List (List ℕ)). x ∷ xs) (q .5) (lines-follow given (suc j) (q .6))
-      ∙ given-more j (q .0) (q .1) (q .2) (q .3) (q .4 .carries v g small)
+  lines-follow [] from q =
+      let e : bytesOf [] ≡ [] = unfold bytesOf flatMap in refl in
+      whole-none ∙ sym e ∙ ap bytesOf (given-none from (q .0) (q .1) (q .2) (q .3) (q .4 .carries v g small))
+  lines-follow (p ∷ ps) from q =
+      whole-more p ps
+      ∙ ap₂ (λ (x : List ℕ) (y : List ℕ). x ++ y) (q .6) (lines-follow ps (from + q .1) (q .7))
+      ∙ given-more from (q .0) (q .1) (q .2) (q .3) (q .4) (q .5 .carries v g small)

@@ -1,10 +1,11 @@
--- What the calls write reads back by the calls: the bytes that `strict`, `majority` or `write_accepted` gives of a whole store, fed whole
--- to an empty lane of a whole store over the same names, the same or another. Assumes nothing.
+-- What the calls write reads back by the calls: the bytes that `strict`, `majority`, `both` or `write_accepted` gives of a whole store, fed
+-- whole to an empty lane of a whole store over the same names, the same or another. Assumes nothing.
 --
 --   ReadBackAs u s n a t     feeding n bytes of a tree with the splits s to the lent bytes u answers a and leaves t: the tree is accepted,
 --                            and is then the last, or is refused with 11 or 12, each exactly when there is no such room
---   strict-reads-back, majority-reads-back, accepted-reads-back     so is what the three calls write
+--   strict-reads-back, majority-reads-back, both-read-back, accepted-reads-back     so is what the calls write
 use Prim.Native.Nat.{ℕ, _<_}
+use native.Mathlib.Omega.{arith}
 use mathlib.Core.Path.{_≡_, refl, sym, ap, subst, _∙_}
 use mathlib.Core.Logic.{_⊎_, inl, inr, _↔_}
 use mathlib.Core.Bool.{Bool, true, false}
@@ -16,19 +17,20 @@ use Rattle.trees.specs.Plain.{if_then_else_, Answer, refused, gives}
 use Rattle.trees.specs.Consensus as of
 use Rattle.trees.specs.Written.{written}
 use Rattle.trees.specs.Held.{Held, holding, laneOf, Progress, accepted, feeding}
-use Rattle.trees.specs.Questions.{ifRoom, ifTree, ifTrees, tree, strictOf, majorityOf, writtenOf}
+use Rattle.trees.specs.Questions.{ifRoom, ifTree, ifTrees, tree, strictOf, majorityOf, together, bothOf, writtenOf}
 use Rattle.trees.specs.Runs.{feed, fed, closedLane, answer, next}
 use Rattle.trees.specs.Whole.{goodTree}
 use Rattle.theorems.specs.ReadBackLaws.{NoTreeRoom, NoSplitRoom, ReadBack, reads-back, strict-whole, majority-whole, tree-whole}
-use Rattle.answers.specs.Filled.{lengthGiven, front}
+use Rattle.answers.specs.Filled.{lengthGiven, front, firstOf, secondOf, lengthsGiven}
+use Rattle.answers.specs.AnswerLaws.{gives≢refused}
 use Rattle.layout.specs.Store.{heldAt}
 use Rattle.layout.specs.WholeStore.{wholeAt}
 use Rattle.store.specs.HeldWholeLaws.{held-whole}
 use Rattle.store.specs.Lent.{Holds}
-use Rattle.promises.specs.Calls.{strict, majority, write-accepted, Reply, number, split, filled, bothFilled, fill, reply, one, Told, heard, batched, replied, notOpened, told, after}
+use Rattle.promises.specs.Calls.{strict, majority, both, write-accepted, Reply, number, split, filled, bothFilled, eachFilled, fill, fillEach, reply, one, Told, heard, batched, replied, notOpened, told, after}
 use Rattle.promises.specs.Steps.{Asked, Step}
 use Rattle.promises.specs.StepLaws.{asked-follows, step-follows}
-use Rattle.promises.specs.Outcomes.{valueOr, gives≢refused}
+use Rattle.promises.specs.Outcomes.{valueOr}
 
 -- ---- the bytes that a call gives
 
@@ -37,12 +39,14 @@ numberIn (number a) = a
 numberIn (split a) = refused 0
 numberIn (filled a out) = a
 numberIn (bothFilled a masks counts) = a
+numberIn (eachFilled a xs ys) = refused 0
 
 bufferIn : Reply → List ℕ
 bufferIn (number a) = []
 bufferIn (split a) = []
 bufferIn (filled a out) = out
 bufferIn (bothFilled a masks counts) = masks
+bufferIn (eachFilled a xs ys) = xs
 
 -- what is given is the list ys
 abbrev Only : List ℕ → Answer (List ℕ) → Type 0
@@ -82,6 +86,18 @@ given-front (gives xs) ys g out n left e =
     let m : n ≡ length xs = ap (λ (r : Reply). valueOr 0 (numberIn r)) e in
     let b : left ≡ xs ++ drop (length xs) out = ap bufferIn e in
     (rw (m, b) (take-append-seam xs (drop (length xs) out)) ∙ g, m ∙ ap length g)
+
+-- what both calls give together is what each gives
+each-filled : (x y : Answer (List ℕ)) (xs ys : List ℕ) (n m : ℕ) (left right : List ℕ) → eachFilled (gives (n, m)) left right ≡ fillEach (together x y) xs ys
+    → (filled (gives n) left ≡ fill x xs) × (filled (gives m) right ≡ fill y ys)
+unfolding fill fillEach together lengthGiven lengthsGiven firstOf secondOf front
+each-filled (refused k) y xs ys n m left right e = let z : _≡_ {A = ℕ} 0 1 = cc in absurd (omega arith)
+each-filled (gives x) (refused k) xs ys n m left right e = let z : _≡_ {A = ℕ} 0 1 = cc in absurd (omega arith)
+each-filled (gives x) (gives y) xs ys n m left right e =
+    let z : _≡_ {A = ℕ × ℕ} (n, m) (length x, length y) = cc in
+    let a : n ≡ length x = ap (λ (l : ℕ × ℕ). l .0) z in
+    let b : m ≡ length y = ap (λ (l : ℕ × ℕ). l .1) z in
+    (cc, cc)
 
 -- ---- reading it back
 
@@ -153,24 +169,30 @@ module _ (s u : List ℕ) (w : wholeAt s ≡ true) (v : wholeAt u ≡ true) (nam
         let y = given-front x text g out n left e in
         subst (λ (k : ℕ). ReadBackAs u c k a t) (sym (y .1)) (text-reads-back (subst (λ (p : List ℕ). Step u (one (feed l p)) a t) (y .0) q))
 
-  -- ---- the three calls
+  -- ---- the calls
 
   module _ (out : List ℕ) (n : ℕ) (left : List ℕ) (a : Told) (t : List ℕ) (q : Step u (one (feed l (take n left))) a t) where
-    pub strict-reads-back : Asked s (strict out) (filled (gives n) left) → ReadBackAs u (of.strict (heldAt s .trees)) n a t
-    unfolding reply strictOf
-    strict-reads-back p =
+    strict-given : filled (gives n) left ≡ fill (strictOf (heldAt s) (length out)) out → ReadBackAs u (of.strict (heldAt s .trees)) n a t
+    unfolding strictOf
+    strict-given e =
         let c = of.strict (heldAt s .trees) in
         given-reads-back c (strict-whole (heldAt s) (held-whole s w)) a t (strictOf (heldAt s) (length out))
-        (only-trees (textOf c) (heldAt s) (ifRoom (length out) (textOf c)) (only-room (textOf c) (length out)))
-        out n left (asked-follows s w (strict out) (filled (gives n) left) p) q
+        (only-trees (textOf c) (heldAt s) (ifRoom (length out) (textOf c)) (only-room (textOf c) (length out))) out n left e q
 
-    pub majority-reads-back : Asked s (majority out) (filled (gives n) left) → ReadBackAs u (of.majority (heldAt s .trees)) n a t
-    unfolding reply majorityOf
-    majority-reads-back p =
+    majority-given : filled (gives n) left ≡ fill (majorityOf (heldAt s) (length out)) out → ReadBackAs u (of.majority (heldAt s .trees)) n a t
+    unfolding majorityOf
+    majority-given e =
         let c = of.majority (heldAt s .trees) in
         given-reads-back c (majority-whole (heldAt s) (held-whole s w)) a t (majorityOf (heldAt s) (length out))
-        (only-trees (textOf c) (heldAt s) (ifRoom (length out) (textOf c)) (only-room (textOf c) (length out)))
-        out n left (asked-follows s w (majority out) (filled (gives n) left) p) q
+        (only-trees (textOf c) (heldAt s) (ifRoom (length out) (textOf c)) (only-room (textOf c) (length out))) out n left e q
+
+    pub strict-reads-back : Asked s (strict out) (filled (gives n) left) → ReadBackAs u (of.strict (heldAt s .trees)) n a t
+    unfolding reply
+    strict-reads-back p = strict-given (asked-follows s w (strict out) (filled (gives n) left) p)
+
+    pub majority-reads-back : Asked s (majority out) (filled (gives n) left) → ReadBackAs u (of.majority (heldAt s .trees)) n a t
+    unfolding reply
+    majority-reads-back p = majority-given (asked-follows s w (majority out) (filled (gives n) left) p)
 
     pub accepted-reads-back : (i : ℕ) → Asked s (write-accepted i out) (filled (gives n) left) → ReadBackAs u (tree (heldAt s) i) n a t
     unfolding reply writtenOf
@@ -179,3 +201,11 @@ module _ (s u : List ℕ) (w : wholeAt s ≡ true) (v : wholeAt u ≡ true) (nam
         given-reads-back c (tree-whole (heldAt s) (held-whole s w) i) a t (writtenOf (heldAt s) i (length out))
         (only-tree (textOf c) (heldAt s) i (ifRoom (length out) (textOf c)) (only-room (textOf c) (length out)))
         out n left (asked-follows s w (write-accepted i out) (filled (gives n) left) p) q
+
+  module _ (xs ys : List ℕ) (n m : ℕ) (left right : List ℕ) (p : Asked s (both xs ys) (eachFilled (gives (n, m)) left right)) (a : Told) (t : List ℕ) where
+    pub both-read-back : (Step u (one (feed l (take n left))) a t → ReadBackAs u (of.strict (heldAt s .trees)) n a t)
+        × (Step u (one (feed l (take m right))) a t → ReadBackAs u (of.majority (heldAt s .trees)) m a t)
+    unfolding reply bothOf
+    both-read-back =
+        let e = each-filled (strictOf (heldAt s) (length xs)) (majorityOf (heldAt s) (length ys)) xs ys n m left right (asked-follows s w (both xs ys) (eachFilled (gives (n, m)) left right) p) in
+        ((λ q. strict-given xs n left a t q (e .0)), λ q. majority-given ys m right a t q (e .1))

@@ -31,7 +31,7 @@ use Rattle.layout.specs.Store.{heldAt}
 use Rattle.layout.specs.WholeStore.{wholeAt}
 use Rattle.store.specs.Lent.{Holds}
 use Rattle.summary.specs.PartLaws.{holds-then}
-use Rattle.promises.specs.Calls.{Question, tree-count, split-count, one-split, split-list, tree-splits, one-sided, doubled, matrix, collisions, strict, majority, write-accepted, number, split, fill, fillBoth, reply, Made, ask, Told, replied, told, after, toldAll, afterAll, handed, handedAll, verdictsTold, isCollisions, otherTold}
+use Rattle.promises.specs.Calls.{Question, tree-count, split-count, one-split, split-list, tree-splits, one-sided, doubled, matrix, collisions, strict, majority, both, write-accepted, number, split, fill, fillBoth, fillEach, reply, Made, ask, Told, replied, told, after, toldAll, afterAll, handed, handedAll, verdictsTold, isCollisions, otherTold}
 use Rattle.promises.specs.Steps.{Opens, Steps}
 use Rattle.promises.specs.BatchLaws.{after-handed, verdicts-handed, told-same}
 use Rattle.promises.specs.StepLaws.{opening-follows, step-follows, all-opening, steps-follow, told-lent}
@@ -101,6 +101,7 @@ module _ (h k : Held) (s : SameAnswers h k) where
   reply-same collisions c = ap number (c refl)
   reply-same (strict out) c = ap (λ (x : Answer (List ℕ)). fill x out) (s .strict (length out))
   reply-same (majority out) c = ap (λ (x : Answer (List ℕ)). fill x out) (s .majority (length out))
+  reply-same (both xs ys) c = ap (λ (x : Answer (List ℕ × List ℕ)). fillEach x xs ys) (s .both (length xs) (length ys))
   reply-same (write-accepted i out) c = ap (λ (x : Answer (List ℕ)). fill x out) (s .written i (length out))
 
 -- ---- from one accepted opening on

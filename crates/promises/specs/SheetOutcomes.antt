@@ -1,15 +1,15 @@
 -- The promises of the lines of a sheet leave one outcome each: the answer, and every byte of the buffer. Assumes nothing.
 --
---   line-once, refusal-line-once      giving a line of the sheet, or that of a refusal
+--   lines-once, refusal-line-once     giving lines of the sheet, or that of a refusal
 use mathlib.Core.Path.{_≡_}
 use denote.Ref.{now}
-use Rattle.sheet.proofs.line.Reads as line
+use Rattle.sheet.proofs.lines.Reads as lines
 use Rattle.sheet.proofs.refusal_line.Reads as refusal-line
 use Rattle.promises.specs.Once.{Once, arg2, arg4}
-use Rattle.promises.specs.Outcomes.{filled-both}
+use Rattle.promises.specs.Outcomes.{both, lengths-both, filled-both}
 
-pub line-once : Once line.Post (λ x q r y z. (q ≡ r) × (now (arg4 y) ≡ now (arg4 z)))
-line-once k x q r y z a b = filled-both q r a b
+pub lines-once : Once lines.Post (λ x q r y z. (q ≡ r) × (now (arg4 y) ≡ now (arg4 z)))
+lines-once k x q r y z a b = (lengths-both q r (a .0) (b .0), both (a .1) (b .1))
 
 pub refusal-line-once : Once refusal-line.Post (λ x q r y z. (q ≡ r) × (now (arg2 y) ≡ now (arg2 z)))
 refusal-line-once k x q r y z a b = filled-both q r a b

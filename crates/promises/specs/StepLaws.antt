@@ -19,7 +19,7 @@ use Rattle.trees.specs.Opening.{Numbers, Opening, inRange, goodConstants, store
 use Rattle.trees.specs.Held.{Held, opened, feeding, closing}
 use Rattle.trees.specs.Held as held
 use Rattle.trees.specs.Batch.{Batched, batch}
-use Rattle.trees.specs.Questions.{treesHeld, splitsHeld, splitList, splitNumber, treeNumber, oneSidedOf, doubledOf, matrixOf, collisionsOf, strictOf, majorityOf, writtenOf}
+use Rattle.trees.specs.Questions.{treesHeld, splitsHeld, splitList, splitNumber, treeNumber, oneSidedOf, doubledOf, matrixOf, collisionsOf, strictOf, majorityOf, bothOf, writtenOf}
 use Rattle.trees.specs.Runs.{feed, close, fed, closedLane, answer, next}
 use Rattle.theorems.specs.ListLaws.{by-test}
 use Rattle.theorems.specs.WrittenFedLaws.{feeding-by}
@@ -28,6 +28,7 @@ use Rattle.answers.specs.declared.Finish.{Finish}
 use Rattle.answers.specs.declared.Number.{Number}
 use Rattle.answers.specs.Answers.{finishGiven, numberGiven}
 use Rattle.answers.specs.Filled.{lengthGiven, front}
+use Rattle.answers.specs.AnswerLaws.{gives≢refused}
 use Rattle.opening.specs.Given.{openingOf}
 use Rattle.layout.specs.Store.{heldAt}
 use Rattle.layout.specs.WholeStore.{wholeAt}
@@ -37,10 +38,9 @@ use Rattle.store.specs.LentLaws.{when-whole}
 use Rattle.table.specs.Promises.{OpenedAs}
 use Rattle.feeding.specs.Feeding.{reached, fedOf, closedOf, batchOf, FedAs, ClosedAs, BatchedAs}
 use Rattle.summary.specs.PartLaws.{holds-then}
-use Rattle.promises.specs.Calls.{Question, tree-count, split-count, one-split, split-list, tree-splits, one-sided, doubled, matrix, collisions, strict, majority, write-accepted, Reply, number, split, filled, bothFilled, fill, fillBoth, reply, Made, one, many, ask, reopen, Told, heard, batched, replied, notOpened, numbersIn, afterBatch, refusalIn, told, after, toldAll, afterAll, handed}
+use Rattle.promises.specs.Calls.{Question, tree-count, split-count, one-split, split-list, tree-splits, one-sided, doubled, matrix, collisions, strict, majority, both, write-accepted, Reply, number, split, filled, bothFilled, eachFilled, fill, fillBoth, fillEach, reply, Made, one, many, ask, reopen, Told, heard, batched, replied, notOpened, numbersIn, afterBatch, refusalIn, told, after, toldAll, afterAll, handed}
 use Rattle.promises.specs.Steps.{Asked, Opens, Step, Steps}
 use Rattle.promises.specs.BatchLaws.{after-handed}
-use Rattle.promises.specs.Outcomes.{gives≢refused}
 
 -- ---- openings
 
@@ -142,6 +142,9 @@ module _ (s : List ℕ) (w : wholeAt s ≡ true) where
   asked-follows collisions a x = x .2 ∙ ap number (x .1 ∙ when-whole s collisionsOf w)
   asked-follows (strict o) a x = x .3 ∙ filled-is _ _ (when-whole s (λ h. strictOf h (length o)) w) (x .0) o (x .1) (x .2 .0) (x .2 .1)
   asked-follows (majority o) a x = x .3 ∙ filled-is _ _ (when-whole s (λ h. majorityOf h (length o)) w) (x .0) o (x .1) (x .2 .0) (x .2 .1)
+  asked-follows (both m c) a x =
+      x .4 ∙ (λ i. eachFilled (x .3 .0 i) (x .3 .1 .0 i) (x .3 .1 .1 i))
+      ∙ ap (λ (y : Answer (List ℕ × List ℕ)). fillEach y m c) (when-whole s (λ h. bothOf h (length m) (length c)) w)
   asked-follows (write-accepted i o) a x =
       x .3 ∙ filled-is _ _ (when-whole s (λ h. writtenOf h i (length o)) w) (x .0) o (x .1) (x .2 .0) (x .2 .1)
 

@@ -18,7 +18,8 @@ use Rattle.answers.specs.declared.Fed.{Fed}
 use Rattle.answers.specs.declared.Finish.{Finish}
 use Rattle.answers.specs.declared.Number.{Number}
 use Rattle.answers.specs.declared.Recorded.{Recorded}
-use Rattle.answers.specs.Answers.{finishGiven, numberGiven, splitGiven, progressGiven}
+use Rattle.answers.specs.declared.Both.{Both}
+use Rattle.answers.specs.Answers.{finishGiven, numberGiven, bothGiven, splitGiven, progressGiven}
 use Rattle.table.proofs.«open».Reads as opens
 use Rattle.table.proofs.tree_count.Reads as treeCount
 use Rattle.table.proofs.split_count.Reads as splitCount
@@ -31,11 +32,12 @@ use Rattle.comparing.proofs.matrix.Reads as matrices
 use Rattle.comparing.proofs.collisions.Reads as colliding
 use Rattle.consensus.proofs.strict.Reads as stricts
 use Rattle.consensus.proofs.majority.Reads as majorities
+use Rattle.consensus.proofs.both.Reads as boths
 use Rattle.consensus.proofs.write_accepted.Reads as writes
 use Rattle.feeding.proofs.feed.Reads as feeds
 use Rattle.feeding.proofs.close.Reads as closes
 use Rattle.feeding.proofs.batch.Reads as batches
-use Rattle.promises.specs.Calls.{Question, tree-count, split-count, one-split, split-list, tree-splits, one-sided, doubled, matrix, collisions, strict, majority, write-accepted, Reply, number, split, filled, bothFilled, Made, one, many, ask, reopen, Told, heard, batched, replied, notOpened}
+use Rattle.promises.specs.Calls.{Question, tree-count, split-count, one-split, split-list, tree-splits, one-sided, doubled, matrix, collisions, strict, majority, both, write-accepted, Reply, number, split, filled, bothFilled, eachFilled, Made, one, many, ask, reopen, Told, heard, batched, replied, notOpened}
 
 abbrev pub lent : List ℕ → RefT (List ℕ)
 lent s = record { ptr = (0, 0); name = 0; now = s }
@@ -51,7 +53,7 @@ Fills post a = (r : Number) × (out : List ℕ) × post r out × (a ≡ filled (
 
 -- the store is lent to be read, the buffers to be written
 unfoldable pub Asked : List ℕ → Question → Reply → Type 0
-unfolding numberGiven splitGiven
+unfolding numberGiven bothGiven splitGiven
 Asked s tree-count = Counts (λ r. treeCount.Post ([], tt) (lent s, tt) r (lent s, tt))
 Asked s split-count = Counts (λ r. splitCount.Post ([], tt) (lent s, tt) r (lent s, tt))
 Asked s (one-split k) = λ a.
@@ -70,6 +72,10 @@ Asked s (matrix o) = Fills (λ r o′. matrices.Post ([], ([], tt)) (lent s, (le
 Asked s collisions = Counts (λ r. colliding.Post ([], tt) (lent s, tt) r (lent s, tt))
 Asked s (strict o) = Fills (λ r o′. stricts.Post ([], ([], tt)) (lent s, (lent o, tt)) r (lent s, (lent o′, tt)))
 Asked s (majority o) = Fills (λ r o′. majorities.Post ([], ([], tt)) (lent s, (lent o, tt)) r (lent s, (lent o′, tt)))
+Asked s (both m c) = λ a.
+    (r : Both) × (m′ : List ℕ) × (c′ : List ℕ)
+    × boths.Post ([], ([], ([], tt))) (lent s, (lent m, (lent c, tt))) r (lent s, (lent m′, (lent c′, tt)))
+    × (a ≡ eachFilled (bothGiven r) m′ c′)
 Asked s (write-accepted i o) =
     Fills (λ r o′. writes.Post ([], ([], tt)) (lent s, (record { 0 = i }, (lent o, tt))) r (lent s, (record { 0 = i }, (lent o′, tt))))
 

@@ -5,8 +5,8 @@
 --   input-printed         so it is for every input of fewer than 2 ^ 64 - 1 bytes
 use Prim.Native.Nat.{ℕ, _-_, _^_, _≤_, _<_}
 use native.Mathlib.Omega.{arith}
-use mathlib.Core.Path.{_≡_, refl, sym, ap, subst, _∙_}
-use mathlib.Core.List.{List, [], _∷_, _++_, flatMap, append-nil, append-assoc}
+use mathlib.Core.Path.{_≡_, sym, ap, subst, _∙_}
+use mathlib.Core.List.{List, [], _∷_, _++_, append-nil, append-assoc}
 use lib.ListN.{length}
 use Rattle.summary.specs.declared.Summing.{Summing}
 use Rattle.summary.specs.Summary.{behindLine, summaryBytes, summary}
@@ -14,17 +14,9 @@ use Rattle.summary.specs.InputLaws.{behind-most}
 use Rattle.summary.specs.Summing.{StandsFor, CountedIn}
 use Rattle.summary.specs.FedSoFarLaws.{refused-most}
 use Rattle.promises.specs.SummarySteps.{whole, Takes, Summarised}
-use Rattle.promises.specs.PrintedLaws.{lines-follow}
+use Rattle.promises.specs.PrintedLaws.{whole-none, whole-more, lines-follow}
 
 -- ---- piece after piece
-
-whole-none : whole [] ≡ []
-unfolding whole flatMap
-whole-none = refl
-
-whole-more : (p : List ℕ) (ps : List (List ℕ)) → whole (p ∷ ps) ≡ p ++ whole ps
-unfolding whole flatMap
-whole-more p ps = refl
 
 pub takes-stand : (ps : List (List ℕ)) (v : List ℕ) (a : Summing) (names s : List ℕ) (b : Summing) (after t : List ℕ)
     → StandsFor a names s v → Takes a names s ps b after t → StandsFor b after t (v ++ whole ps)
@@ -42,11 +34,11 @@ module _ (names lent : List ℕ) (a : 2112 ≤ length names) (b : summaryBytes �
     (run : Summarised names lent ps out) where
   -- as long as 64 bits can count the refused texts
   pub summary-printed : CountedIn (whole ps) → out ≡ summary (whole ps)
-  unfolding summary whole
+  unfolding summary
   summary-printed small =
       let g = takes-stand ps [] (run .first) names lent (run .last) (run .kept) (run .store) (run .begins .carries a b) (run .takes) in
       let h = run .finishes .carries (whole ps) g in
-      run .all ∙ ap whole (lines-follow (run .answer) (run .sheet) (whole ps) h small (run .lines) 0 (run .prints))
+      run .all ∙ lines-follow (run .answer) (run .sheet) (whole ps) h small (run .parts) 0 (run .prints)
 
   -- so for every input of fewer than 2 ^ 64 - 1 bytes
   pub input-printed : length (whole ps) < 2 ^ 64 - 1 → out ≡ summary (whole ps)

@@ -7,7 +7,7 @@
 --   begin-once             beginning
 --   take-once              taking a piece: the state, every byte of the buffer for names, and the lent bytes
 --   finish-once            finishing
---   summary-line-once      giving a line: the answer, and every byte of the buffer
+--   summary-lines-once     giving lines: the answer, and every byte of the buffer
 use Prim.Native.Nat.{ℕ, _+_}
 use native.Mathlib.Omega.{arith}
 use mathlib.Core.Path.{_≡_, refl, sym, ap, subst, _∙_}
@@ -42,9 +42,9 @@ use Rattle.summary.specs.Summing.{fedState, FeedsAs, BehindAs, OpensAs, NamesAs
 use Rattle.summary.proofs.begin.Reads as begins
 use Rattle.summary.proofs.take.Reads as takes
 use Rattle.summary.proofs.finish.Reads as finishes
-use Rattle.summary.proofs.line.Reads as lines
+use Rattle.summary.proofs.lines.Reads as lines
 use Rattle.promises.specs.Once.{Once, AnswerOnce, arg1, arg2, arg3, arg4, SameStore, SameBut}
-use Rattle.promises.specs.Outcomes.{both, number-one, finish-one, filled-both, holds-both}
+use Rattle.promises.specs.Outcomes.{both, number-one, finish-one, lengths-both, holds-both}
 use Rattle.promises.specs.TextsOutcomes.{taken-both, textsFree, texts-both, closedTextsFree, closed-texts-both}
 
 -- ---- lent bytes
@@ -213,5 +213,5 @@ take-once k x q r y z a b = took-both (arg1 x) _ _ _ q r _ _ _ _ (a .steps) (b .
 pub finish-once : Once finishes.Post (λ x q r y z. (q ≡ r) × FinishedAlike (arg1 x) (now (arg3 x)) (now (arg3 y)) (now (arg3 z)))
 finish-once k x q r y z a b = finished-both (arg1 x) _ _ q r _ _ (a .steps) (b .steps)
 
-pub summary-line-once : Once lines.Post (λ x q r y z. (q ≡ r) × (now (arg4 y) ≡ now (arg4 z)))
-summary-line-once k x q r y z a b = filled-both q r (a .fills) (b .fills)
+pub summary-lines-once : Once lines.Post (λ x q r y z. (q ≡ r) × (now (arg4 y) ≡ now (arg4 z)))
+summary-lines-once k x q r y z a b = (lengths-both q r (a .prints .0) (b .prints .0), both (a .prints .1) (b .prints .1))

@@ -1,2 +1,2 @@
-pub mod SkippingLaws
+pub mod FindingLaws
 pub mod MovingLaws

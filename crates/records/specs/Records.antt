@@ -1,6 +1,6 @@
 -- A tree's splits with their places and identifiers: records of words, one behind the other.
 --   wide                the words of a record
---   room                the words of 64 records: a tree over at most 64 taxa has fewer
+--   mostWords           the words of 64 records, which no tree's splits exceed
 --   recordOf o m        the record of the mask m over the opening o: m, its place, its identifier
 --   recordsOf o l       the records of the masks l over the opening o
 --   withRecords o l s   the words s with the records of the masks l at their front
@@ -15,8 +15,8 @@ use Rattle.trees.specs.Opening.{Opening}
 abbrev pub wide : ℕ
 wide = 3
 
-abbrev pub room : ℕ
-room = 192
+abbrev pub mostWords : ℕ
+mostWords = 192
 
 abbrev pub recordOf : Opening → ℕ → List ℕ
 recordOf o m = m ∷ place (o .first) (o .numbers .places) m ∷ identifier (o .second) m ∷ []

@@ -8,3 +8,5 @@ pub mod LineLaws
 pub mod SheetLaws
 pub mod AskedLaws
 pub mod LineRoomLaws
+pub mod Run
+pub mod RunLaws

@@ -2,7 +2,7 @@
 --
 --   put-as                          the same bytes, under another name
 --   counts-put, split-put           the line of counts, and that of a split
---   cell s i j                      the digits of the distance of the trees i and j
+--   cell row j                      the digits of place j of a row
 --   rest f j                        the words of a row behind its first, when j are there
 --   row-none, row-more, row-put     a row of distances, word by word
 --   answer-shown, answer-text       a tree that a call answered
@@ -17,42 +17,36 @@ use mathlib.Core.Path.{_≡_, refl, sym, ap, subst, _∙_}
 use mathlib.Core.Bool.{Bool, true, false}
 use mathlib.Core.List.{List, [], _∷_, _++_, map, append-assoc, append-nil}
 use lib.Dec.{eqb}
-use lib.ListN.{length, take, drop, length-append}
+use lib.ListN.{length, getD, take, drop, length-append, length-map, List·getD-append}
 use lib.Seq.{take-at, drop-append-le}
 use borrow.Author.Tests.{le-ltb}
 use Rattle.trees.specs.Plain.{if_then_else_, bytes, Answer, refused, gives}
 use Rattle.trees.specs.Distance.{doubled}
 use Rattle.trees.specs.Consensus.{recorded, count, strict, majority}
 use Rattle.trees.specs.Written.{written}
-use Rattle.trees.specs.Names.{goodNames}
-use Rattle.trees.specs.Opening.{inRange, goodConstants}
 use Rattle.trees.specs.Held.{Held}
-use Rattle.trees.specs.Whole.{goodTree, goodOpening}
+use Rattle.trees.specs.Whole.{goodTree}
 use Rattle.trees.specs.Questions.{ifRoom, ifTrees, strictOf, majorityOf}
-use Rattle.theorems.specs.ListLaws.{and-right}
-use Rattle.theorems.specs.WrittenLaws.{written-length}
 use Rattle.theorems.specs.ConsensusLaws.{strict-good, majority-good}
 use Rattle.answers.specs.declared.Refusal.{Refusal}
 use Rattle.answers.specs.declared.Number.{Number}
 use Rattle.answers.specs.declared.Number.the-variants as number
 use Rattle.answers.specs.Answers.{numberGiven}
 use Rattle.answers.specs.Filled.{lengthGiven, front}
-use Rattle.head.specs.Head.{fromTo, upTo, numbersAt, namesAt, openingAt}
-use Rattle.head.specs.HeadLaws.{upTo-length}
-use Rattle.layout.specs.Store.{treesHeldAt, splitsHeldAt, maskAt, countAt, orderAt, splitAt, treeAt, heldAt, heldIn}
+use Rattle.head.specs.Head.{fromTo, upTo, numbersAt}
+use Rattle.head.specs.HeadLaws.{upTo-length, upTo-same}
+use Rattle.layout.specs.Store.{treesHeldAt, splitsHeldAt, maskAt, countAt, orderAt, splitAt, treeAt, heldAt}
 use Rattle.layout.specs.WholeStore.{wholeAt}
-use Rattle.layout.specs.WholeFacts.{whole-at-facts}
 use Rattle.layout.specs.Columns.{upTo-more}
-use Rattle.store.specs.RecordedAtLaws.{held-trees, trees-length, recorded-length}
-use Rattle.store.specs.HeldWholeLaws.{held-numbers, opening-facts}
-use Rattle.store.specs.LentLaws.{when-whole}
+use Rattle.store.specs.RecordedAtLaws.{held-trees, trees-length, tree-at, recorded-length}
+use Rattle.store.specs.HeldWholeLaws.{held-numbers}
 use Rattle.store.specs.CountsLaws.{row-count, split-count}
 use Rattle.writer.specs.Branch.{Put}
 use Rattle.writer.specs.PutLaws.{put-none, put-then}
-use Rattle.consensus.specs.Consensus.{strictAsked, majorityAsked}
-use Rattle.consensus.specs.FewLaws.{trees-good}
+use Rattle.consensus.specs.FewLaws.{tree-short, trees-good}
 use Rattle.sheet.specs.Sheet.{digitsOf, spaced, fields, lineOf, countsLine, splitLine, rowLine, treeLine, majorityLine, strictLine}
 use Rattle.sheet.specs.Lines.{answerText, Shown}
+use Rattle.sheet.specs.SheetLaws.{map-at}
 
 pub put-as : {l v w after : List ℕ} {at z : ℕ} → v ≡ w → Put l at v after z → Put l at w after z
 put-as {l} {after = after} {at} {z} e p = subst (λ (x : List ℕ). Put l at x after z) e p
@@ -109,9 +103,10 @@ module _ (s : List ℕ) (w : wholeAt s ≡ true) where
 
 -- ---- a row of distances
 
-unfoldable pub cell : List ℕ → ℕ → ℕ → List ℕ
+-- the digits of place j of a row
+unfoldable pub cell : List ℕ → ℕ → List ℕ
 unfolding digitsOf
-cell s i j = digitsOf (doubled (treeAt s i) (treeAt s j))
+cell row j = digitsOf (getD row j 0)
 
 module _ {A B : Type 0} (f : A → B) (g : ℕ → A) where
   map-from : (k n : ℕ) → map f (fromTo g k n) ≡ fromTo (λ i. f (g i)) k n
@@ -149,35 +144,47 @@ unfolding rest fields upTo fromTo
 rest-all f zero h = absurd (omega arith)
 rest-all f (suc n) h = refl
 
-module _ (s : List ℕ) (i : ℕ) where
-  pub row-none : (l : List ℕ) (a : ℕ) → Put l a (rest (cell s i) 1) l a
+module _ (row : List ℕ) where
+  pub row-none : (l : List ℕ) (a : ℕ) → Put l a (rest (cell row) 1) l a
   unfolding rest spaced upTo fromTo
   row-none l a = put-none l a
 
-  pub row-more : (j d : ℕ) → 1 ≤ j → d ≡ doubled (treeAt s i) (treeAt s j) → {l k after : List ℕ} {a b z : ℕ}
-      → Put l a (rest (cell s i) j) k b → Put k b (32 ∷ digitsOf d) after z → Put l a (rest (cell s i) (j + 1)) after z
+  pub row-more : (j d : ℕ) → 1 ≤ j → d ≡ getD row j 0 → {l k after : List ℕ} {a b z : ℕ}
+      → Put l a (rest (cell row) j) k b → Put k b (32 ∷ digitsOf d) after z → Put l a (rest (cell row) (j + 1)) after z
   row-more j d h e p q =
-      let c : digitsOf d ≡ cell s i j = unfold cell digitsOf in ap digitsOf e in
-      put-as (ap (λ (v : List ℕ). rest (cell s i) j ++ (32 ∷ v)) c ∙ rest-more (cell s i) j h) (put-then p q)
+      let c : digitsOf d ≡ cell row j = unfold cell digitsOf in ap digitsOf e in
+      put-as (ap (λ (v : List ℕ). rest (cell row) j ++ (32 ∷ v)) c ∙ rest-more (cell row) j h) (put-then p q)
+
+module _ (s : List ℕ) (i : ℕ) (row old : List ℕ) (e : row ≡ map (doubled (treeAt s i)) (heldAt s .trees) ++ drop (treesHeldAt s) old) where
+  row-at : (j : ℕ) → j < treesHeldAt s → getD row j 0 ≡ doubled (treeAt s i) (treeAt s j)
+  row-at j h =
+      let d = doubled (treeAt s i) in
+      let n = trees-length s in
+      ap (λ (l : List ℕ). getD l j 0) e
+      ∙ List·getD-append (map d (heldAt s .trees)) (drop (treesHeldAt s) old) 0 j (omega (arith, length-map (heldAt s .trees) d))
+      ∙ map-at d (heldAt s .trees) j [] 0 (omega arith)
+      ∙ ap d (tree-at s j h)
 
   row-is : (h : Held) → rowLine h (treeAt s i) ≡ fields (map (λ u. digitsOf (doubled (treeAt s i) u)) (h .trees)) ++ 10 ∷ []
   unfolding rowLine lineOf fields
   row-is h = refl
 
-  row-cells : map (λ u. digitsOf (doubled (treeAt s i) u)) (heldAt s .trees) ≡ upTo (cell s i) (treesHeldAt s)
+  row-cells : map (λ u. digitsOf (doubled (treeAt s i) u)) (heldAt s .trees) ≡ upTo (cell row) (treesHeldAt s)
   unfolding cell
-  row-cells = rw (held-trees s) (map-upTo (λ u. digitsOf (doubled (treeAt s i) u)) (treeAt s) (treesHeldAt s))
+  row-cells =
+      rw (held-trees s) (map-upTo (λ u. digitsOf (doubled (treeAt s i) u)) (treeAt s) (treesHeldAt s))
+      ∙ upTo-same (λ j. digitsOf (doubled (treeAt s i) (treeAt s j))) (cell row) (treesHeldAt s) (λ j h. ap digitsOf (sym (row-at j h)))
 
-  row-held : fields (upTo (cell s i) (treesHeldAt s)) ++ 10 ∷ [] ≡ rowLine (heldAt s) (treeAt s i)
+  row-held : fields (upTo (cell row) (treesHeldAt s)) ++ 10 ∷ [] ≡ rowLine (heldAt s) (treeAt s i)
   row-held = sym (row-is (heldAt s) ∙ ap (λ (ws : List (List ℕ)). fields ws ++ 10 ∷ []) row-cells)
 
-  pub row-put : (n d : ℕ) → n ≡ treesHeldAt s → 1 ≤ n → d ≡ doubled (treeAt s i) (treeAt s 0) → {l j k after : List ℕ} {a b z : ℕ}
-      → Put l 0 (digitsOf d) j a → Put j a (rest (cell s i) n) k b → Put k b (10 ∷ []) after z
+  pub row-put : (n d : ℕ) → n ≡ treesHeldAt s → 1 ≤ n → d ≡ getD row 0 0 → {l j k after : List ℕ} {a b z : ℕ}
+      → Put l 0 (digitsOf d) j a → Put j a (rest (cell row) n) k b → Put k b (10 ∷ []) after z
       → Put l 0 (rowLine (heldAt s) (treeAt s i)) after z
-  row-put n d e h f p q t =
-      let c : digitsOf d ≡ cell s i 0 = unfold cell digitsOf in ap digitsOf f in
-      let g : digitsOf d ++ rest (cell s i) n ≡ fields (upTo (cell s i) n) = ap (λ (v : List ℕ). v ++ rest (cell s i) n) c ∙ rest-all (cell s i) n h in
-      put-as (ap (λ (v : List ℕ). v ++ 10 ∷ []) g ∙ rw e row-held) (put-then (put-then p q) t)
+  row-put n d m h f p q t =
+      let c : digitsOf d ≡ cell row 0 = unfold cell digitsOf in ap digitsOf f in
+      let g : digitsOf d ++ rest (cell row) n ≡ fields (upTo (cell row) n) = ap (λ (v : List ℕ). v ++ rest (cell row) n) c ∙ rest-all (cell row) n h in
+      put-as (ap (λ (v : List ℕ). v ++ 10 ∷ []) g ∙ rw m row-held) (put-then (put-then p q) t)
 
 -- ---- a tree that a call answered
 
@@ -229,19 +236,6 @@ unfolding strictLine treeLine lineOf bytes written strict
 strict-is h = refl
 
 module _ (s : List ℕ) (w : wholeAt s ≡ true) where
-  names-good : goodNames (numbersAt s .taxa) (namesAt s) ≡ true
-  unfolding goodOpening openingAt
-  names-good =
-      let o = openingAt s in
-      and-right (goodConstants (o .numbers) (o .first) (o .second)) _ (and-right (inRange (o .numbers)) _ (whole-at-facts s w .head .opening-good))
-
-  tree-short : (l : List ℕ) → goodTree (numbersAt s .taxa) l ≡ true → length (written (heldAt s .opening .names) l) ≤ 2236
-  unfolding heldIn openingAt
-  tree-short l g =
-      let r = opening-facts s w .ranges in
-      let a = r .least-taxa in
-      written-length (numbersAt s .taxa) (namesAt s) l names-good g (omega arith) (r .most-taxa)
-
   -- with so much room, a tree is refused only where there is none
   tree-asked : (room : ℕ) (t : List ℕ) → 2236 ≤ room → length t ≤ 2236 → ifTrees (heldAt s) (ifRoom room t) ≡ asked (eqb (length (heldAt s .trees)) 0) t
   unfolding ifTrees ifRoom
@@ -257,7 +251,7 @@ module _ (s : List ℕ) (w : wholeAt s ≡ true) where
     text-of = written (heldAt s .opening .names) splits
 
     as-asked : x ≡ asked none text-of
-    as-asked = q ∙ tree-asked (length old) text-of h (tree-short splits g)
+    as-asked = q ∙ tree-asked (length old) text-of h (tree-short s w splits g)
 
     length-asked : numberGiven r ≡ lengthGiven (asked none text-of)
     length-asked = e ∙ ap lengthGiven as-asked
@@ -266,7 +260,7 @@ module _ (s : List ℕ) (w : wholeAt s ≡ true) where
     front-asked = f ∙ ap (λ (y : Answer (List ℕ)). front y old) as-asked
 
     tree-shown : (word : List ℕ) → length word ≤ 2000 → Shown r word text
-    tree-shown word k = answer-shown text-of old text word k (tree-short splits g) none r length-asked front-asked
+    tree-shown word k = answer-shown text-of old text word k (tree-short s w splits g) none r length-asked front-asked
 
     tree-put : (word : List ℕ) {l after : List ℕ} {z : ℕ} → Put l 0 ((word ++ 32 ∷ []) ++ (answerText r text ++ 10 ∷ [])) after z
         → Put l 0 (lineOf (word ∷ treeShown (heldAt s) splits ∷ [])) after z
@@ -274,11 +268,11 @@ module _ (s : List ℕ) (w : wholeAt s ≡ true) where
         put-as (ap (λ (v : List ℕ). (word ++ 32 ∷ []) ++ (v ++ 10 ∷ [])) (answer-text text-of old text none r length-asked front-asked) ∙ tree-text word (treeShown (heldAt s) splits)) p
 
   module _ (old text : List ℕ) (r : Number) where
-    majority-asked : majorityAsked s (length old) ≡ ifTrees (heldAt s) (ifRoom (length old) (written (heldAt s .opening .names) (majority (heldAt s .trees))))
+    majority-asked : majorityOf (heldAt s) (length old) ≡ ifTrees (heldAt s) (ifRoom (length old) (written (heldAt s .opening .names) (majority (heldAt s .trees))))
     unfolding majorityOf
-    majority-asked = when-whole s (λ z. majorityOf z (length old)) w
+    majority-asked = refl
 
-    module _ (e : numberGiven r ≡ lengthGiven (majorityAsked s (length old))) (f : text ≡ front (majorityAsked s (length old)) old) (h : 2236 ≤ length old) where
+    module _ (e : numberGiven r ≡ lengthGiven (majorityOf (heldAt s) (length old))) (f : text ≡ front (majorityOf (heldAt s) (length old)) old) (h : 2236 ≤ length old) where
       good : goodTree (numbersAt s .taxa) (majority (heldAt s .trees)) ≡ true
       good = majority-good (numbersAt s .taxa) (heldAt s .trees) (trees-good s w)
 
@@ -290,11 +284,11 @@ module _ (s : List ℕ) (w : wholeAt s ≡ true) where
           → Put l 0 (majorityLine (heldAt s)) after z
       majority-put p = put-as (majority-is (heldAt s)) (tree-put old text h r _ good _ majority-asked e f (bytes "majority") p)
 
-    strict-asked : strictAsked s (length old) ≡ ifTrees (heldAt s) (ifRoom (length old) (written (heldAt s .opening .names) (strict (heldAt s .trees))))
+    strict-asked : strictOf (heldAt s) (length old) ≡ ifTrees (heldAt s) (ifRoom (length old) (written (heldAt s .opening .names) (strict (heldAt s .trees))))
     unfolding strictOf
-    strict-asked = when-whole s (λ z. strictOf z (length old)) w
+    strict-asked = refl
 
-    module _ (e : numberGiven r ≡ lengthGiven (strictAsked s (length old))) (f : text ≡ front (strictAsked s (length old)) old) (h : 2236 ≤ length old) where
+    module _ (e : numberGiven r ≡ lengthGiven (strictOf (heldAt s) (length old))) (f : text ≡ front (strictOf (heldAt s) (length old)) old) (h : 2236 ≤ length old) where
       good-strict : goodTree (numbersAt s .taxa) (strict (heldAt s .trees)) ≡ true
       good-strict = strict-good (numbersAt s .taxa) (heldAt s .trees) (trees-good s w)
 

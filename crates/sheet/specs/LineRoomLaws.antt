@@ -15,28 +15,26 @@ use lib.ListN.{length, getD, length-append, length-map}
 use borrow.Author.Tests.{ltb-false}
 use Rattle.trees.specs.Plain.{if_then_else_, bytes}
 use Rattle.trees.specs.Mask.{everyTaxon, proper}
-use Rattle.trees.specs.Names.{goodNames}
 use Rattle.trees.specs.Distance.{doubled}
 use Rattle.trees.specs.Consensus.{recorded, count, strict, majority}
 use Rattle.trees.specs.Written.{written}
-use Rattle.trees.specs.Opening.{inRange, goodConstants, mostRoom}
+use Rattle.trees.specs.Opening.{mostRoom}
 use Rattle.trees.specs.Held.{Held}
-use Rattle.trees.specs.Whole.{goodTree, goodOpening}
-use Rattle.theorems.specs.ListLaws.{Mem, and-right, every-at}
+use Rattle.trees.specs.Whole.{goodTree}
+use Rattle.theorems.specs.ListLaws.{Mem, every-at}
 use Rattle.theorems.specs.BitLaws.{sub-le}
 use Rattle.theorems.specs.ProperLaws.{proper-sub}
 use Rattle.theorems.specs.RisingLaws.{recorded-mem}
-use Rattle.theorems.specs.WrittenLaws.{written-length}
 use Rattle.theorems.specs.ConsensusLaws.{count-most, good-proper, strict-good, majority-good}
-use Rattle.head.specs.Head.{numbersAt, namesAt, openingAt}
-use Rattle.layout.specs.Store.{heldAt, heldIn}
+use Rattle.head.specs.Head.{numbersAt, openingAt}
+use Rattle.layout.specs.Store.{heldAt}
 use Rattle.layout.specs.WholeStore.{wholeAt}
 use Rattle.layout.specs.WholeFacts.{whole-at-facts}
 use Rattle.layout.specs.InsideLaws.{trees-few}
 use Rattle.store.specs.RecordedAtLaws.{trees-length, recorded-length}
 use Rattle.store.specs.HeldWholeLaws.{held-numbers, opening-facts}
 use Rattle.distances.specs.LackLaws.{oneSided-most}
-use Rattle.consensus.specs.FewLaws.{tree-few, trees-good}
+use Rattle.consensus.specs.FewLaws.{tree-few, tree-short, trees-good}
 use Rattle.sheet.specs.Sheet.{digitsFrom, digitsOf, spaced, fields, lineOf, countsLine, splitLine, rowLine, treeLine, majorityLine, strictLine, sheetLines}
 
 -- ---- words and lines
@@ -164,37 +162,24 @@ module _ (s : List ℕ) (w : wholeAt s ≡ true) where
 
   -- ---- the two trees
 
-  names-good : goodNames (numbersAt s .taxa) (namesAt s) ≡ true
-  unfolding goodOpening openingAt
-  names-good =
-      let o = openingAt s in
-      and-right (goodConstants (o .numbers) (o .first) (o .second)) _ (and-right (inRange (o .numbers)) _ (whole-at-facts s w .head .opening-good))
-
-  written-short : (l : List ℕ) → goodTree (numbersAt s .taxa) l ≡ true → length (written (h .opening .names) l) ≤ 2236
-  unfolding heldIn openingAt
-  written-short l g =
-      let r = opening-facts s w .ranges in
-      let a = r .least-taxa in
-      written-length (numbersAt s .taxa) (namesAt s) l names-good g (omega arith) (r .most-taxa)
-
-  tree-short : (word : String) → length (bytes word) ≤ 2240 → (l : List ℕ) → goodTree (numbersAt s .taxa) l ≡ true → length (treeLine h word l) ≤ 8192
+  tree-line-short : (word : String) → length (bytes word) ≤ 2240 → (l : List ℕ) → goodTree (numbersAt s .taxa) l ≡ true → length (treeLine h word l) ≤ 8192
   unfolding treeLine Short
-  tree-short word a l g = omega (arith, line-short 2240 (bytes word ∷ text ∷ []) (a, (go (eqb (length (h .trees)) 0), tt)))
+  tree-line-short word a l g = omega (arith, line-short 2240 (bytes word ∷ text ∷ []) (a, (go (eqb (length (h .trees)) 0), tt)))
     where
       text : List ℕ
       text = if eqb (length (h .trees)) 0 then bytes "none" else written (h .opening .names) l
 
       go : (b : Bool) → length (if b then bytes "none" else written (h .opening .names) l) ≤ 2240
       go true = unfold bytes in omega arith
-      go false = omega (arith, written-short l g)
+      go false = omega (arith, tree-short s w l g)
 
   majority-short : length (majorityLine h) ≤ 8192
   unfolding majorityLine
-  majority-short = tree-short "majority" (unfold bytes in omega arith) (majority (h .trees)) (majority-good (numbersAt s .taxa) (h .trees) (trees-good s w))
+  majority-short = tree-line-short "majority" (unfold bytes in omega arith) (majority (h .trees)) (majority-good (numbersAt s .taxa) (h .trees) (trees-good s w))
 
   strict-short : length (strictLine h) ≤ 8192
   unfolding strictLine
-  strict-short = tree-short "strict" (unfold bytes in omega arith) (strict (h .trees)) (strict-good (numbersAt s .taxa) (h .trees) (trees-good s w))
+  strict-short = tree-line-short "strict" (unfold bytes in omega arith) (strict (h .trees)) (strict-good (numbersAt s .taxa) (h .trees) (trees-good s w))
 
   -- ---- all lines
 

@@ -1,5 +1,6 @@
 -- The lines of the sheet, by their numbers. Assumes nothing.
 --
+--   map-at                            an element of a mapped list
 -- of a whole store that holds n splits and t trees:
 --   sheet-length                      there are n + t + 3 lines
 --   line-counts, line-split, line-row, line-majority, line-strict     which line has which number
@@ -24,7 +25,7 @@ module _ {A B : Type 0} (f : A → B) where
   map-length [] = refl
   map-length (x ∷ xs) = ap suc (map-length xs)
 
-  map-at : (xs : List A) (i : ℕ) (a : A) (b : B) → i < length xs → getD (map f xs) i b ≡ f (getD xs i a)
+  pub map-at : (xs : List A) (i : ℕ) (a : A) (b : B) → i < length xs → getD (map f xs) i b ≡ f (getD xs i a)
   map-at [] i a b h = absurd (omega arith)
   map-at (x ∷ xs) zero a b h = refl
   map-at (x ∷ xs) (suc i) a b h = map-at xs i a b (omega arith)

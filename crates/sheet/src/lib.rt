@@ -1,4 +1,4 @@
-// The summary sheet of a collection in lent bytes, line by line, and the line for a first line that is refused. Each
+// The lines of the summary sheet of a collection in lent bytes, and the line for a first line that is refused. Each
 // call does its own checking and asks nothing of what it is given.
 //
 // Read `specs/Sheet.antt` for the lines, and `specs/Asked.antt` for what the calls promise.
@@ -6,27 +6,32 @@ ghost use Prim.Native.Nat.{_≤_};
 ghost use lib.ListN.{length, take};
 ghost use Rattle.trees.specs.Questions.{ifRoom};
 ghost use Rattle.answers.specs.Filled.{FilledAs};
-ghost use Rattle.sheet.specs.Asked.{lineAsked, refusalAsked};
+ghost use Rattle.sheet.specs.Asked.{linesAsked, PrintsAs, refusalAsked};
+use answers::Both;
 use answers::Number;
 use answers::Refusal;
 
-mod lines;
+mod line;
+mod run;
 mod writing;
 
-// Writes line number j of the sheet to the front of out. `refused` texts were refused.
-pub fn line(s: &[u8], refused: usize, j: usize, out: &mut [u8]) -> Number
-    ensures { λ r. ⌜ FilledAs (lineAsked (now (s .entry)) refused j (length (now (out .entry)))) r (now (out .entry)) (now (out .exit)) ⌝ }
+// Writes the lines of the sheet from number `from` on, as many whole ones as fit, to the front of out. `refused`
+// texts were refused.
+pub fn lines(s: &[u8], refused: usize, from: usize, out: &mut [u8]) -> Both
+    ensures { λ r. ⌜ PrintsAs (linesAsked (now (s .entry)) refused from (length (now (out .entry)))) r (now (out .entry)) (now (out .exit)) ⌝ }
 {
     if !store::is_whole(s) {
-        return Number::Refused(Refusal::NotWhole);
+        return Both::Refused(Refusal::NotWhole);
     }
-    let lines = layout::splits_held(s) + layout::trees_held(s) + 3;
-    if lines <= j {
-        return Number::Refused(Refusal::NoSuchNumber);
+    let all = layout::splits_held(s) + layout::trees_held(s) + 3;
+    if all <= from {
+        return Both::Refused(Refusal::NoSuchNumber);
     }
-    let mut text = [0u8; 8192];
-    let n = lines::write_line(s, refused, j, &mut text);
-    give(&text, n, out)
+    let end = run::put_lines(s, refused, from, all, out);
+    if end.lines == 0 {
+        return Both::Refused(Refusal::TooShort);
+    }
+    Both::Gives(end.bytes, end.lines)
 }
 
 // Writes the line for a first line that is refused with the number k to the front of out.

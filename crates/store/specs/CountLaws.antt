@@ -5,10 +5,10 @@
 --   part-none, part-more, part-all     one turn of the loop over a tree's list
 --   part-most                 a count never exceeds the trees' number
 --   count-zero, count-wrong, count-right     a count's test, in the order of the code
-use mathlib.Core.Path.{_≡_, refl, sym, ap, _∙_}
+use mathlib.Core.Path.{_≡_, refl, sym, ap, subst, _∙_}
 use mathlib.Core.Logic.{_⊎_, inl, inr}
 use mathlib.Core.Bool.{Bool, true, false, _||_, and-false, or-false, or-assoc}
-use mathlib.Core.List.{List, [], _∷_, _++_, map}
+use mathlib.Core.List.{List, [], _∷_, _++_}
 use Prim.Native.Nat.{ℕ, zero, suc, _+_, _≤_, _<_}
 use native.Mathlib.Nat.{add-zero}
 use native.Mathlib.Numerals.{add-one}
@@ -19,11 +19,10 @@ use lib.Seq.{take-suc, take-all, getD-set-same, getD-set-other}
 use borrow.Author.Tests.{eq-eqb, ne-eqb, le-leb}
 use Rattle.trees.specs.Opening.{mostRoom}
 use Rattle.trees.specs.Plain.{member}
-use Rattle.theorems.specs.ListLaws.{Mem, member-not, mem-getD, equal-or-not}
-use Rattle.theorems.specs.RisingLaws.{Rising}
-use Rattle.layout.specs.Store.{partsAt, treesHeldAt, splitsHeldAt, maskAt, countAt, listAt, treeAt}
+use Rattle.theorems.specs.ListLaws.{Mem, member-not, equal-or-not}
+use Rattle.layout.specs.Store.{partsAt, treesHeldAt, splitsHeldAt, countAt, listAt}
 use Rattle.layout.specs.WholeStore.{listed, goodCount, countGood}
-use Rattle.layout.specs.UpToLaws.{mem-map, oneIf, one-most, listed-nil, listed-step, listed-most}
+use Rattle.layout.specs.UpToLaws.{oneIf, one-most, listed-nil, listed-step, listed-most}
 use Rattle.store.specs.ListTests.{CountedPart, Counted}
 
 -- ---- the first numbers of a list
@@ -33,13 +32,6 @@ unfolding member
 member-last k x [] = or-false (eqb k x)
 member-last k x (y ∷ l) = ap (λ (b : Bool). eqb k y || b) (member-last k x l) ∙ sym (or-assoc (eqb k y) (member k l) (eqb k x))
 
--- where the values of f rise, each is above those before
-front-below : (f : ℕ → ℕ) (l : List ℕ) (j y : ℕ) → Rising (map f l) → j < length l → Mem y (take j l) → f y < f (getD l j 0)
-front-below f [] j y r h m = absurd (omega arith)
-front-below f (x ∷ l) zero y r h m = absurd m
-front-below f (x ∷ l) (suc j) y r h (inl e) = rw e (r .0 _ (mem-map f l _ (mem-getD l j (omega arith))))
-front-below f (x ∷ l) (suc j) y r h (inr m) = front-below f l j y (r .1) (omega arith) m
-
 module _ (l : List ℕ) (j k : ℕ) (h : j < length l) where
   pub front-member : member k (take (j + 1) l) ≡ (member k (take j l) || eqb k (getD l j 0))
   front-member = rw (add-one j, take-suc l j 0 h) (member-last k (getD l j 0) (take j l))
@@ -47,11 +39,9 @@ module _ (l : List ℕ) (j k : ℕ) (h : j < length l) where
   pub front-other : (k ≡ getD l j 0 → ⊥) → oneIf (member k (take (j + 1) l)) ≡ oneIf (member k (take j l))
   front-other n = ap oneIf (front-member ∙ rw (ne-eqb _ _ n) (or-false (member k (take j l))))
 
-  front-here : (f : ℕ → ℕ) → Rising (map f l) → k ≡ getD l j 0 → oneIf (member k (take (j + 1) l)) ≡ oneIf (member k (take j l)) + 1
+  front-here : (Mem k (take j l) → ⊥) → k ≡ getD l j 0 → oneIf (member k (take (j + 1) l)) ≡ oneIf (member k (take j l)) + 1
   unfolding oneIf
-  front-here f r e =
-      let n : member k (take j l) ≡ false = member-not k (take j l) (λ m. omega (arith, front-below f l j k r h m, ap f e)) in
-      rw (front-member, n, eq-eqb k (getD l j 0) e)
+  front-here f e = rw (front-member, member-not k (take j l) f, eq-eqb k (getD l j 0) e)
 
 -- ---- the counts of a part
 
@@ -70,15 +60,15 @@ module _ (s : List ℕ) (t : ℕ) (here : t < treesHeldAt s) where
   pub part-most : (j : ℕ) (c : List ℕ) → CountedPart s t j c → (x : ℕ) → x < splitsHeldAt s → getD c x 0 ≤ t + 1
   part-most j c p x h = omega (arith, p .entries x h, one-most (member x (take j (listAt s t))), listed-most (partsAt s) x t (omega arith))
 
-  module _ (j : ℕ) (c : List ℕ) (p : CountedPart s t j c) (r : Rising (treeAt s t)) (h : j < length (listAt s t)) where
-    pub part-more : (x : ℕ) → getD (listAt s t) j 0 ≡ x → x < mostRoom → CountedPart s t (j + 1) (set c x (getD c x 0 + 1))
-    part-more x e f = record { size = length-set c x _ ∙ p .size; entries = λ k l. go k l (equal-or-not k x) }
+  module _ (j : ℕ) (c : List ℕ) (p : CountedPart s t j c) (h : j < length (listAt s t)) where
+    pub part-more : (x : ℕ) → getD (listAt s t) j 0 ≡ x → x < mostRoom → (Mem x (take j (listAt s t)) → ⊥) → CountedPart s t (j + 1) (set c x (getD c x 0 + 1))
+    part-more x e f n = record { size = length-set c x _ ∙ p .size; entries = λ k l. go k l (equal-or-not k x) }
       where
         go : (k : ℕ) → k < splitsHeldAt s → (k ≡ x) ⊎ (k ≡ x → ⊥)
             → getD (set c x (getD c x 0 + 1)) k 0 ≡ listed s k t + oneIf (member k (take (j + 1) (listAt s t)))
         go k l (inl q) =
             let z = p .size in
-            let m = front-here (listAt s t) j k h (maskAt s) r (q ∙ sym e) in
+            let m = front-here (listAt s t) j k h (λ o. n (subst (λ (i : ℕ). Mem i (take j (listAt s t))) q o)) (q ∙ sym e) in
             let w = p .entries k l in
             let u : getD c k 0 ≡ getD c x 0 = ap (λ (i : ℕ). getD c i 0) q in
             let v : getD c x 0 + 1 ≡ listed s k t + oneIf (member k (take (j + 1) (listAt s t))) = omega arith in

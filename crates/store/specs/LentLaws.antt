@@ -2,8 +2,8 @@
 --
 --   not-whole, when-whole           any question: 1, or what is asked of what the bytes hold
 --   tree-missing, tree-there        of what they hold: 13 for a tree that is not there
+--   trees-none, trees-some          14 where there are no trees
 --   asked-missing, asked-there      a question of whole bytes about a tree
---   asked-none, asked-some          one about all trees: 14 where there are none
 use Prim.Native.Nat.{ℕ, _≤_, _<_}
 use mathlib.Core.Path.{_≡_, _∙_}
 use mathlib.Core.Bool.{true, false}
@@ -37,17 +37,18 @@ module _ {A : Type 0} (s : List ℕ) (i : ℕ) (a : Answer A) where
   unfolding ifTree
   tree-there h = rw (trees-length s, lt-ltb i (treesHeldAt s) h)
 
+module _ {A : Type 0} (s : List ℕ) (a : Answer A) where
+  pub trees-none : treesHeldAt s ≡ 0 → ifTrees (heldAt s) a ≡ refusing why.NoTrees
+  unfolding ifTrees refusalNumber
+  trees-none z = rw (trees-length s, eq-eqb (treesHeldAt s) 0 z)
+
+  pub trees-some : (treesHeldAt s ≡ 0 → ⊥) → ifTrees (heldAt s) a ≡ a
+  unfolding ifTrees
+  trees-some z = rw (trees-length s, ne-eqb (treesHeldAt s) 0 z)
+
 module _ {A : Type 0} (s : List ℕ) (w : wholeAt s ≡ true) (a : Held → Answer A) where
   pub asked-missing : (i : ℕ) → treesHeldAt s ≤ i → ifWhole s (λ h. ifTree h i (a h)) ≡ refusing why.NoSuchNumber
   asked-missing i m = when-whole s (λ h. ifTree h i (a h)) w ∙ tree-missing s i (a (heldAt s)) m
 
   pub asked-there : (i : ℕ) → i < treesHeldAt s → ifWhole s (λ h. ifTree h i (a h)) ≡ a (heldAt s)
   asked-there i m = when-whole s (λ h. ifTree h i (a h)) w ∙ tree-there s i (a (heldAt s)) m
-
-  pub asked-none : treesHeldAt s ≡ 0 → ifWhole s (λ h. ifTrees h (a h)) ≡ refusing why.NoTrees
-  unfolding ifTrees refusalNumber
-  asked-none z = when-whole s (λ h. ifTrees h (a h)) w ∙ rw (trees-length s, eq-eqb (treesHeldAt s) 0 z)
-
-  pub asked-some : (treesHeldAt s ≡ 0 → ⊥) → ifWhole s (λ h. ifTrees h (a h)) ≡ a (heldAt s)
-  unfolding ifTrees
-  asked-some z = when-whole s (λ h. ifTrees h (a h)) w ∙ rw (trees-length s, ne-eqb (treesHeldAt s) 0 z)

@@ -12,12 +12,12 @@ pub mod NeighbourLaws
 pub mod Splits
 pub mod SplitLaws
 pub mod ChainTests
-pub mod ListTests
-pub mod ListTestLaws
 pub mod Outer
 pub mod UnionLaws
 pub mod OuterLaws
+pub mod ListTests
 pub mod CountLaws
+pub mod ListTestLaws
 pub mod HeaderLaws
 pub mod WholeTestLaws
 pub mod Counts

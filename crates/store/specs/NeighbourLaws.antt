@@ -1,19 +1,17 @@
--- A list rises where each number is below the next. Assumes nothing.
+-- Rising lists, a number at a time. Assumes nothing.
 --
---   neighbours-rise        neighbours that rise are enough
---   front-rises, front-falls     of the first numbers of a list
-use Prim.Native.Nat.{ℕ, suc, _≤_, _<_}
+--   neighbours-rise        a list rises where each number is below the next
+--   rising-more            one number more, above all others
+--   rising-before          each number of a rising list is above those before it
+use Prim.Native.Nat.{ℕ, suc, _<_}
 use native.Mathlib.Omega.{arith}
-use mathlib.Core.Path.{_≡_, refl}
-use mathlib.Core.Logic.{inl, inr}
-use mathlib.Core.Bool.{Bool, true, false}
-use mathlib.Core.List.{List, [], _∷_}
-use lib.ListN.{length, getD, take}
-use lib.Seq.{length-take-le, getD-take}
-use Rattle.trees.specs.Whole.{rising}
-use Rattle.theorems.specs.ListLaws.{Mem}
-use Rattle.theorems.specs.RisingLaws.{Rising, rising-true, true-rising}
-use Rattle.layout.specs.UpToLaws.{rising-at}
+use mathlib.Core.Path.{_≡_, refl, subst, _∙_}
+use mathlib.Core.Logic.{_⊎_, inl, inr}
+use mathlib.Core.List.{List, [], _∷_, _++_}
+use lib.ListN.{length, getD, take, drop}
+use lib.Seq.{split-at}
+use Rattle.theorems.specs.ListLaws.{Mem, mem-right, mem-cases}
+use Rattle.theorems.specs.RisingLaws.{Rising}
 
 pub neighbours-rise : (l : List ℕ) → ((i : ℕ) → suc i < length l → getD l i 0 < getD l (suc i) 0) → Rising l
 neighbours-rise [] up = tt
@@ -26,23 +24,19 @@ neighbours-rise (x ∷ y ∷ l) up =
     above a f z (inl e) = rw e a
     above a f z (inr h) = omega (arith, f z h)
 
-module _ (l : List ℕ) (n : ℕ) (h : n ≤ length l) where
-  long : length (take n l) ≡ n
-  long = length-take-le n l h
+pub rising-more : (l : List ℕ) (x : ℕ) → Rising l → ((y : ℕ) → Mem y l → y < x) → Rising (l ++ x ∷ [])
+rising-more [] x r f = ((λ y h. absurd h), tt)
+rising-more (z ∷ l) x r f = ((λ y h. go y (mem-cases y l (x ∷ []) h)), rising-more l x (r .1) (λ y h. f y (inr h)))
+  where
+    go : (y : ℕ) → Mem y l ⊎ Mem y (x ∷ []) → z < y
+    go y (inl h) = r .0 y h
+    go y (inr (inl e)) = rw e (f z (inl refl))
 
-  at : (i : ℕ) → i < n → getD (take n l) i 0 ≡ getD l i 0
-  at i q = getD-take n l i 0 q
+below-next : (l r : List ℕ) (x y : ℕ) → Rising (l ++ x ∷ r) → Mem y l → y < x
+below-next (z ∷ l) r x y h (inl e) = rw e (h .0 x (mem-right x l (x ∷ r) (inl refl)))
+below-next (z ∷ l) r x y h (inr m) = below-next l r x y (h .1) m
 
-  pub front-rises : ((i : ℕ) → suc i < n → getD l i 0 < getD l (suc i) 0) → rising (take n l) ≡ true
-  front-rises f =
-      true-rising (take n l) (neighbours-rise (take n l) (λ i q.
-      let k : suc i < n = omega (arith, long) in
-      omega (arith, f i k, at i (omega arith), at (suc i) k)))
-
-  pub front-falls : (i : ℕ) → suc i < n → getD l (suc i) 0 ≤ getD l i 0 → rising (take n l) ≡ false
-  front-falls i a q = go (rising (take n l)) refl
-    where
-      go : (b : Bool) → rising (take n l) ≡ b → b ≡ false
-      go false e = refl
-      go true e =
-          absurd (omega (arith, rising-at (take n l) (rising-true (take n l) e) i (suc i) (omega arith) (omega (arith, long)), at i (omega arith), at (suc i) a))
+pub rising-before : (l : List ℕ) (j x y : ℕ) → j < length l → x ≡ getD l j 0 → Rising l → Mem y (take j l) → y < x
+rising-before l j x y h e r m =
+    let s : l ≡ take j l ++ x ∷ drop (suc j) l = split-at l j 0 h ∙ rw e in
+    below-next (take j l) _ x y (subst (λ (k : List ℕ). Rising k) s r) m

@@ -1,23 +1,22 @@
 -- The laws of the outer masks of a list that rises, a mask at a time. Assumes nothing.
 --
 --   outer-none, outer-more     one turn of the loop over the masks
---   outer-not                  a mask that the test refuses does not agree with all before it
+--   outer-same                 a mask that agrees with all before it passes the test
 --   outer-pairs                those that pass agree in pairs
-use Prim.Native.Nat.{ℕ, suc, _+_, _^_, _≤_, _<_}
+use Prim.Native.Nat.{ℕ, suc, _+_, _^_, _<_}
 use native.Mathlib.Nat.{eq-zero-or-pos}
 use native.Mathlib.Numerals.{add-one}
 use native.Mathlib.Omega.{arith}
-use mathlib.Core.Path.{_≡_, refl, sym, _∙_}
+use mathlib.Core.Path.{_≡_, refl, sym, subst, _∙_}
 use mathlib.Core.Logic.{_⊎_, _≢_, inl, inr, ⊎-elim}
-use mathlib.Core.Bool.{Bool, true, false}
+use mathlib.Core.Bool.{true}
 use mathlib.Core.List.{List, [], _∷_, _++_}
 use lib.Bits.{bitAnd, bitOr}
 use lib.ListN.{length, getD, set, take, drop}
-use lib.Seq.{split-at, take-suc, take-take, getD-take, getD-set-same, getD-set-other, length-take-le}
+use lib.Seq.{split-at, take-suc, getD-set-same, getD-set-other}
 use Rattle.trees.specs.Mask.{without, lowest}
-use Rattle.trees.specs.Whole.{rising, agreeInPairs}
+use Rattle.trees.specs.Whole.{agreeInPairs}
 use Rattle.theorems.specs.ListLaws.{Mem, mem-left, mem-right, mem-cases}
-use Rattle.theorems.specs.RisingLaws.{Rising, rising-true}
 use Rattle.theorems.specs.BitLaws.{On, on?, Sub, Dis, ext, and-on, on-and, on-or-l, on-or-r, or-on, off-zero, only-on, self-on, sub-le}
 use Rattle.theorems.specs.MaskLaws.{Ag, ag-self, ag-sym}
 use Rattle.theorems.specs.WidestLaws.{lowest-on}
@@ -208,43 +207,24 @@ module _ (l ms : List ℕ) (heads covered x inner : ℕ) (o : Outer l ms heads c
             union = record { each = more-each; only = more-only };
           }
 
--- ---- the first n masks of a list, which rise
+-- ---- the first masks of a list
 
 pub outer-pairs : (l ms : List ℕ) (heads covered : ℕ) → Outer l ms heads covered → agreeInPairs l ≡ true
 outer-pairs l ms heads covered o = pairs-intro l (o .agreed)
 
-rising-below : (l r : List ℕ) (x y : ℕ) → Rising (l ++ x ∷ r) → Mem y l → y < x
-rising-below (z ∷ l) r x y h (inl e) = rw e (h .0 x (mem-right x l (x ∷ r) (inl refl)))
-rising-below (z ∷ l) r x y h (inr m) = rising-below l r x y (h .1) m
-
 pairs-before : (l r : List ℕ) (x y : ℕ) → agreeInPairs (l ++ x ∷ r) ≡ true → Mem y l → Ag y x
 pairs-before l r x y e m = pairs-at (l ++ x ∷ r) e y x (mem-left y l (x ∷ r) m) (mem-right x l (x ∷ r) (inl refl))
 
-front-split : (l : List ℕ) (n j : ℕ) → j < n → n ≤ length l → take n l ≡ take j l ++ getD l j 0 ∷ drop (suc j) (take n l)
-front-split l n j h k =
-    let a : j < length (take n l) = omega (arith, length-take-le n l k) in
-    let b : j ≤ n = omega arith in
-    split-at (take n l) j 0 a ∙ rw (take-take j n l b, getD-take n l j 0 h)
+-- x is the mask behind the first j, above them
+module _ (l ms : List ℕ) (j heads covered x inner : ℕ) (h : j < length l) (e : x ≡ getD l j 0) (o : Outer (take j l) ms heads covered)
+    (above : (y : ℕ) → Mem y (take j l) → y < x) (u : UnionAt ms (bitAnd heads x) inner) where
+  pub outer-same : agreeInPairs l ≡ true → bitAnd covered x ≡ inner
+  outer-same a =
+      let s : l ≡ take j l ++ x ∷ drop (suc j) l = split-at l j 0 h ∙ rw e in
+      let b = subst (λ (k : List ℕ). agreeInPairs k ≡ true) s a in
+      common-same (take j l) ms heads covered x inner o above u (λ y m. pairs-before (take j l) _ x y b m)
 
-module _ (l ms : List ℕ) (n j heads covered inner taken shared : ℕ) (h : j < n) (k : n ≤ length l) (r : rising (take n l) ≡ true)
-    (o : Outer (take j l) ms heads covered) (d : taken ≡ bitAnd heads (getD l j 0)) (u : UnionAt ms taken inner)
-    (c : shared ≡ bitAnd covered (getD l j 0)) where
-  above : (y : ℕ) → Mem y (take j l) → y < getD l j 0
-  above y m = rising-below (take j l) _ (getD l j 0) y (rw (front-split l n j h k) at (rising-true (take n l) r)) m
-
-  pub outer-not : (shared ≡ inner → ⊥) → agreeInPairs (take n l) ≡ false
-  outer-not f = go (agreeInPairs (take n l)) refl
-    where
-      go : (b : Bool) → agreeInPairs (take n l) ≡ b → b ≡ false
-      go false e = refl
-      go true e =
-          let a : (y : ℕ) → Mem y (take j l) → Ag y (getD l j 0) = λ y m. pairs-before (take j l) _ _ y (rw (front-split l n j h k) at e) m in
-          absurd (f (c ∙ common-same (take j l) ms heads covered (getD l j 0) inner o above (rw d at u) a))
-
-  module _ (e : shared ≡ inner) (at left b heads′ covered′ : ℕ) (p : at ≡ lowest (getD l j 0)) (i : at < length ms)
-      (f : left ≡ without heads (getD l j 0)) (w : b ≡ 2 ^ at) (x : heads′ ≡ bitOr left b) (y : covered′ ≡ bitOr covered (getD l j 0)) where
-    pub outer-more : Outer (take (j + 1) l) (set ms at (getD l j 0)) heads′ covered′
-    outer-more =
-        let q : j < length l = omega arith in
-        rw (add-one j, take-suc l j 0 q, x, y, f, w)
-        (with-next (take j l) ms heads covered (getD l j 0) inner o above (rw d at u) (sym c ∙ e) at p i)
+  pub outer-more : bitAnd covered x ≡ inner → (at heads′ covered′ : ℕ) → at ≡ lowest x → at < length ms
+      → heads′ ≡ bitOr (without heads x) (2 ^ lowest x) → covered′ ≡ bitOr covered x → Outer (take (j + 1) l) (set ms at x) heads′ covered′
+  outer-more c at heads′ covered′ p i f g =
+      rw (add-one j, take-suc l j 0 h, ← e, f, g, ← p) (with-next (take j l) ms heads covered x inner o above u c at p i)

@@ -6,7 +6,9 @@
 --   constant-none, constant-second, constant-first     the constant of a taxon, as it is read
 --   doubled-none, doubled-more                         the sums with a taxon more, one at a time
 --   bytes-none, bytes-more, bytes-all                  the sums of a byte, a taxon at a time
+--   constants-length                                   there are as many constants as taxa
 --   sums-none, sums-more                               the table, a byte at a time
+--   blank-new, blank-more, sums-all                    the bytes that the taxa do not reach
 --   turn-less, turn-sum, turn-end                      the sum over a mask, a byte at a time
 --   identifier-sum, first-sum                          the sums by the tables of the two lists
 use Prim.Native.Nat.{ℕ, zero, suc, _+_, _-_, _*_, _/_, _%_, _^_, _≤_, _<_}
@@ -16,7 +18,7 @@ use mathlib.Core.Path.{_≡_, refl, ap, ap₂, sym, _∙_}
 use mathlib.Core.Logic.{_⊎_, inl, inr}
 use mathlib.Core.Bool.{Bool, true, false}
 use mathlib.Core.List.{List, [], _∷_}
-use lib.ListN.{length, getD, set, drop, length-set, List·getD-eq-default}
+use lib.ListN.{length, getD, set, drop, replicate, length-set, length-replicate, getD-replicate, drop-of-length-le, List·getD-eq-default}
 use lib.Seq.{getD-drop, drop-drop, getD-set-same, getD-set-other}
 use Rattle.theorems.specs.ListLaws.{less-or-not}
 use Rattle.trees.specs.Hash.{sumOver, identifier}
@@ -25,7 +27,7 @@ use Rattle.theorems.specs.HashLaws.{sumOver-zero, sumOver-one}
 use Rattle.fields.specs.Field.{number}
 use Rattle.head.specs.Head.{numbersAt, firstAt, secondAt}
 use Rattle.head.specs.HeadLaws.{first-length, second-length, first-at, second-at}
-use Rattle.store.specs.Sums.{constantsAt, byteSum, Sums, SumBy, ByteSums, Doubled}
+use Rattle.store.specs.Sums.{constantsAt, byteSum, Sums, SumBy, Blank, ByteSums, Doubled}
 
 -- ---- the sum over a mask
 
@@ -80,11 +82,16 @@ module _ (s : List ℕ) (i : ℕ) where
   unfolding constantsAt
   constant-first second e h = rw e (sym (first-at s i h))
 
+pub constants-length : (second : Bool) (s : List ℕ) → length (constantsAt second s) ≡ numbersAt s .taxa
+unfolding constantsAt
+constants-length true s = second-length s
+constants-length false s = first-length s
+
 -- ---- the sums with a taxon more
 
 module _ (at w c : ℕ) (old : List ℕ) where
   pub doubled-none : length old ≡ 2048 → Doubled at w c 0 old old
-  doubled-none l = record { long = l; added = λ v h. absurd (omega arith); kept = λ k h. refl }
+  doubled-none l = record { long = l; added = λ v h. absurd (omega arith); kept = λ k h. refl; behind = λ k h. refl }
 
   module _ (n : ℕ) (t : List ℕ) (d : Doubled at w c n old t) (h : n < w) (f : at + 2 * w ≤ 2048) where
     abbrev next : ℕ
@@ -103,6 +110,7 @@ module _ (at w c : ℕ) (old : List ℕ) where
           long = simp length-set (d .long);
           added = λ v l. added-next v l (less-or-not v n);
           kept = λ k l. getD-set-other t (at + w + n) k next 0 (λ e. omega arith) ∙ d .kept k l;
+          behind = λ k l. getD-set-other t (at + w + n) k next 0 (λ e. omega arith) ∙ d .behind k l;
         }
 
 -- ---- the sums of a byte
@@ -133,6 +141,7 @@ module _ (cs : List ℕ) (b : ℕ) (old : List ℕ) where
             ∙ getD-set-same old (256 * b) 0 0 (omega arith)
             ∙ sym (ap (byteSum cs b) z ∙ byteSum-none cs b);
         kept = λ k q. refl;
+        behind = λ k q. refl;
       }
 
   pub bytes-all : (t : List ℕ) → ByteSums cs b 256 start t → ByteSums cs b 256 old t
@@ -141,9 +150,11 @@ module _ (cs : List ℕ) (b : ℕ) (old : List ℕ) where
         long = s .long;
         here = s .here;
         kept = λ k q. s .kept k q ∙ getD-set-other old (256 * b) k 0 0 (λ e. omega arith);
+        behind = λ k q. s .behind k q ∙ getD-set-other old (256 * b) k 0 0 (λ e. omega arith);
       }
 
-  module _ (w i c : ℕ) (t u : List ℕ) (s : ByteSums cs b w old t) (e : w ≡ 2 ^ i) (q : c ≡ getD cs (8 * b + i) 0) (d : Doubled (256 * b) w c w t u) where
+  module _ (w i c : ℕ) (t u : List ℕ) (s : ByteSums cs b w old t) (e : w ≡ 2 ^ i) (q : c ≡ getD cs (8 * b + i) 0) (d : Doubled (256 * b) w c w t u)
+      (m : w ≤ 128) where
     here-more : (v : ℕ) → v < w * 2 → (v < w) ⊎ (w ≤ v) → getD u (256 * b + v) 0 ≡ byteSum cs b v
     here-more v l (inl h) = d .kept (256 * b + v) (omega arith) ∙ s .here v h
     here-more v l (inr h) =
@@ -162,6 +173,7 @@ module _ (cs : List ℕ) (b : ℕ) (old : List ℕ) where
           long = d .long;
           here = λ v l. here-more v l (less-or-not v w);
           kept = λ k l. d .kept k (omega arith) ∙ s .kept k l;
+          behind = λ k l. d .behind k (omega arith) ∙ s .behind k l;
         }
 
 -- ---- the table
@@ -176,6 +188,26 @@ module _ (cs : List ℕ) (n : ℕ) (t u : List ℕ) (s : Sums cs n t) (d : ByteS
 
   pub sums-more : Sums cs (n + 1) u
   sums-more = record { each = λ b v h l. each-more b v h l (less-or-not b n) }
+
+-- ---- the bytes that the taxa do not reach
+
+pub blank-new : (n : ℕ) → Blank n (replicate 2048 0)
+blank-new n = record { long = length-replicate {A = ℕ} 2048 0; zero = λ b v h f l. getD-replicate 2048 (256 * b + v) 0 0 (omega arith) }
+
+pub blank-more : (cs : List ℕ) (n b : ℕ) (t u : List ℕ) → 8 * b < n → Blank n t → ByteSums cs b 256 t u → Blank n u
+blank-more cs n b t u h k d = record { long = d .long; zero = λ a v g f l. d .behind (256 * a + v) (omega arith) ∙ k .zero a v g f l }
+
+byteSum-past : (cs : List ℕ) (b v : ℕ) → length cs ≤ 8 * b → byteSum cs b v ≡ 0
+unfolding byteSum sumOver
+byteSum-past cs b v h = rw (drop-of-length-le cs h)
+
+module _ (cs : List ℕ) (n b : ℕ) (t : List ℕ) (e : length cs ≡ n) (h : n ≤ 8 * b) (s : Sums cs b t) (k : Blank n t) where
+  each-all : (a v : ℕ) → a < 8 → v < 256 → (a < b) ⊎ (b ≤ a) → getD t (256 * a + v) 0 ≡ byteSum cs a v
+  each-all a v g l (inl q) = s .each a v q l
+  each-all a v g l (inr q) = k .zero a v g (omega arith) l ∙ sym (byteSum-past cs a v (omega arith))
+
+  pub sums-all : Sums cs 8 t
+  sums-all = record { each = λ a v g l. each-all a v g l (less-or-not a b) }
 
 -- ---- the sum over a mask, one turn of the loop: byte b of the mask is the lowest of the rest
 

@@ -2,21 +2,23 @@
 --
 --   on-without, without-on             the taxa of a that are not in b, one by one
 --   without-twice                      without what is not in b, the common ones are left
---   rest-less                          without its lowest taxon, a mask is a lesser number
---   part-none, part-more, part-all     one turn of the loop that makes a union
-use Prim.Native.Nat.{ℕ, _-_, _^_, _<_}
+--   rest-less                          without its lowest taxon, what is left is a lesser number
+--   part-none, part-next, part-all     one turn of the loop that makes a union
+use Prim.Native.Nat.{ℕ, _^_, _<_}
 use native.Mathlib.Omega.{arith}
-use mathlib.Core.Path.{_≡_, ap, sym, subst, _∙_}
+use mathlib.Core.Path.{_≡_, _∙_}
 use mathlib.Core.Logic.{_⊎_, inl, inr}
 use mathlib.Core.List.{List}
-use lib.Bits.{bitAnd, bitOr}
+use lib.Bits.{bitAnd, bitOr, or-zero-r}
 use lib.ListN.{getD}
 use lib.Pow.{pow-pos}
 use Rattle.trees.specs.Mask.{without, lowest}
 use Rattle.theorems.specs.BitLaws.{On, on?, Sub, ext, and-on, on-and, on-or-l, on-or-r, or-on, off-zero, only-on}
-use Rattle.theorems.specs.MaskLaws.{others-on, on-others, others-xor, without-sub}
+use Rattle.theorems.specs.ListLaws.{equal-or-not}
+use Rattle.theorems.specs.MaskLaws.{others-on, on-others}
 use Rattle.theorems.specs.WidestLaws.{lowest-on}
-use Rattle.store.specs.Outer.{UnionAt, PartAt}
+use Rattle.masks.specs.LowestLaws.{lowest-taken}
+use Rattle.store.specs.Outer.{UnionAt, PartAt, LowestIn}
 
 -- ---- taxa of one mask that are not in another
 
@@ -44,18 +46,8 @@ without-twice a b = ext (without a (without a b)) (bitAnd a b) (λ i o. go i (wi
 
 -- ---- the lowest taxon taken away
 
-lowest-sub : (m : ℕ) → 0 < m → Sub (2 ^ lowest m) m
-lowest-sub m h i o = subst (λ (k : ℕ). On m k) (only-on (lowest m) i o) (lowest-on m h)
-
-lowest-taken : (m : ℕ) → 0 < m → without m (2 ^ lowest m) ≡ m - 2 ^ lowest m
-lowest-taken m h = without-sub m (2 ^ lowest m) (lowest-sub m h) ∙ sym (others-xor m (2 ^ lowest m) (lowest-sub m h))
-
--- one turn of a loop: i is the lowest taxon of the rest, x its mask, y what is left
-pub rest-less : (rest i x y : ℕ) → (rest ≡ 0 → ⊥) → i ≡ lowest rest → x ≡ 2 ^ i → y ≡ without rest x → y < rest
-rest-less rest i x y h e p q =
-    let s : 0 < rest = omega (arith, h) in
-    let l = q ∙ ap (without rest) (p ∙ ap (λ (k : ℕ). 2 ^ k) e) ∙ lowest-taken rest s in
-    omega (arith, l, pow-pos (lowest rest))
+pub rest-less : (rest y : ℕ) → (rest ≡ 0 → ⊥) → y ≡ without rest (2 ^ lowest rest) → y < rest
+rest-less rest y h e = omega (arith, h, lowest-taken rest (omega (arith, h)), pow-pos (lowest rest))
 
 -- ---- one turn of the loop that makes a union
 
@@ -65,24 +57,43 @@ part-none ms taxa = record { within = λ i h. h; each = λ t o f. absurd (f o); 
 pub part-all : (ms : List ℕ) (taxa rest u : ℕ) → rest ≡ 0 → PartAt ms taxa rest u → UnionAt ms taxa u
 part-all ms taxa rest u e p = record { each = λ t o. p .each t o (λ h. off-zero t (rw e at h)); only = p .only }
 
--- t is the lowest taxon of the rest, b its mask, y what is left, v the new union
-module _ (ms : List ℕ) (taxa rest u t b y v : ℕ) (p : PartAt ms taxa rest u) (h : rest ≡ 0 → ⊥) (e : t ≡ lowest rest)
-    (d : b ≡ 2 ^ t) (q : y ≡ without rest b) (g : v ≡ bitOr u (getD ms t 0)) where
-  in-rest : On rest t
-  in-rest = rw e (lowest-on rest (omega (arith, h)))
+-- m is the mask at the lowest taxon of the rest, y what is left, v the new union
+module _ (ms : List ℕ) (taxa rest u m y v : ℕ) (p : PartAt ms taxa rest u) (q : y ≡ without rest (2 ^ lowest rest)) (g : v ≡ bitOr u m) where
+  module _ (h : rest ≡ 0 → ⊥) (e : m ≡ getD ms (lowest rest) 0) where
+    in-rest : On rest (lowest rest)
+    in-rest = lowest-on rest (omega (arith, h))
 
-  part-each : (s : ℕ) → On taxa s → (On y s → ⊥) → Sub (getD ms s 0) v
-  part-each s o f i k = rw g (go (on? rest s) (on? b s))
+    part-each : (s : ℕ) → On taxa s → (On y s → ⊥) → Sub (getD ms s 0) v
+    part-each s o f i k = rw g (go (on? rest s) (on? (2 ^ lowest rest) s))
+      where
+        go : (On rest s → ⊥) ⊎ On rest s → (On (2 ^ lowest rest) s → ⊥) ⊎ On (2 ^ lowest rest) s → On (bitOr u m) i
+        go (inl r) w = on-or-l u m i (p .each s o r i k)
+        go (inr r) (inl w) = absurd (f (rw q (on-without rest (2 ^ lowest rest) s r w)))
+        go (inr r) (inr w) = on-or-r u m i (rw (e, only-on (lowest rest) s w) k)
+
+    part-only : (i : ℕ) → On (bitOr u m) i → (On u i → ⊥) ⊎ On u i → (s : ℕ) × On taxa s × On (getD ms s 0) i
+    part-only i o (inl f) = (lowest rest, p .within (lowest rest) in-rest, rw e at (or-on u m i o f))
+    part-only i o (inr k) = p .only i k
+
+    part-some : PartAt ms taxa y v
+    part-some =
+        record {
+          within = λ i o. p .within i (without-on rest (2 ^ lowest rest) i (rw q at o) .0);
+          each = part-each;
+          only = λ i o. part-only i (rw g at o) (on? u i);
+        }
+
+  -- where no taxon is left, nothing changes
+  part-empty : rest ≡ 0 → m ≡ 0 → PartAt ms taxa y v
+  unfolding without
+  part-empty e z =
+      let a : v ≡ u = g ∙ rw z (or-zero-r u) in
+      let b : y ≡ rest = omega arith in
+      rw (a, b) p
+
+  pub part-next : LowestIn ms rest m → PartAt ms taxa y v
+  part-next w = go (equal-or-not rest 0)
     where
-      go : (On rest s → ⊥) ⊎ On rest s → (On b s → ⊥) ⊎ On b s → On (bitOr u (getD ms t 0)) i
-      go (inl r) w = on-or-l u (getD ms t 0) i (p .each s o r i k)
-      go (inr r) (inl w) = absurd (f (rw q (on-without rest b s r w)))
-      go (inr r) (inr w) = on-or-r u (getD ms t 0) i (rw (only-on t s (rw d at w)) k)
-
-  part-only : (i : ℕ) → On (bitOr u (getD ms t 0)) i → (On u i → ⊥) ⊎ On u i → (s : ℕ) × On taxa s × On (getD ms s 0) i
-  part-only i o (inl f) = (t, p .within t in-rest, or-on u (getD ms t 0) i o f)
-  part-only i o (inr k) = p .only i k
-
-  pub part-more : PartAt ms taxa y v
-  part-more =
-      record { within = λ i o. p .within i (without-on rest b i (rw q at o) .0); each = part-each; only = λ i o. part-only i (rw g at o) (on? u i) }
+      go : (rest ≡ 0) ⊎ (rest ≡ 0 → ⊥) → PartAt ms taxa y v
+      go (inl e) = part-empty e (w .none e)
+      go (inr f) = part-some f (w .some f)

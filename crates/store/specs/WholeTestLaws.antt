@@ -7,10 +7,6 @@ use Rattle.head.specs.Head.{numbersAt}
 use Rattle.layout.specs.Store.{treesHeldAt, splitsHeldAt}
 use Rattle.layout.specs.WholeStore.{allBelow, goodHead, goodSplits, goodList, goodCount, goodChains, goodLaneAt, wholeAt}
 
--- six tests, one after another
-chain : (a b c d e f : Bool) → Bool
-chain a b c d e f = a && (b && (c && (d && (e && f))))
-
 abbrev lists : List ℕ → Bool
 lists s = allBelow (goodList s) (treesHeldAt s)
 
@@ -20,45 +16,46 @@ counts s = allBelow (goodCount s) (splitsHeldAt s)
 abbrev lanes : List ℕ → Bool
 lanes s = allBelow (goodLaneAt s) (numbersAt s .lanes)
 
-whole-chain : (s : List ℕ) → wholeAt s ≡ chain (goodHead s) (goodSplits s) (lists s) (counts s) (goodChains s) (lanes s)
+-- the lists and the counts are tested together
+chain : (a b c d e : Bool) → Bool
+chain a b c d e = a && (b && (c && (d && e)))
+
+together : (a b c d e f : Bool) → (a && (b && (c && (d && (e && f))))) ≡ (a && (b && ((c && d) && (e && f))))
+together a b true d e f = refl
+together a b false d e f = refl
+
+whole-chain : (s : List ℕ) → wholeAt s ≡ chain (goodHead s) (goodSplits s) (lists s && counts s) (goodChains s) (lanes s)
 unfolding wholeAt chain
-whole-chain s = refl
+whole-chain s = together (goodHead s) (goodSplits s) (lists s) (counts s) (goodChains s) (lanes s)
 
 module _ (s : List ℕ) where
   -- ---- the first test that fails
   pub no-head : goodHead s ≡ false → false ≡ wholeAt s
   unfolding chain
-  no-head a = sym (whole-chain s ∙ ap (λ t. chain t (goodSplits s) (lists s) (counts s) (goodChains s) (lanes s)) a)
+  no-head a = sym (whole-chain s ∙ ap (λ t. chain t (goodSplits s) (lists s && counts s) (goodChains s) (lanes s)) a)
 
   module _ (a : goodHead s ≡ true) where
-    with-head : wholeAt s ≡ (goodSplits s && (lists s && (counts s && (goodChains s && lanes s))))
+    with-head : wholeAt s ≡ (goodSplits s && ((lists s && counts s) && (goodChains s && lanes s)))
     unfolding chain
-    with-head = whole-chain s ∙ ap (λ t. chain t (goodSplits s) (lists s) (counts s) (goodChains s) (lanes s)) a
+    with-head = whole-chain s ∙ ap (λ t. chain t (goodSplits s) (lists s && counts s) (goodChains s) (lanes s)) a
 
     pub no-splits : goodSplits s ≡ false → false ≡ wholeAt s
-    no-splits b = sym (with-head ∙ ap (λ t. t && (lists s && (counts s && (goodChains s && lanes s)))) b)
+    no-splits b = sym (with-head ∙ ap (λ t. t && ((lists s && counts s) && (goodChains s && lanes s))) b)
 
     module _ (b : goodSplits s ≡ true) where
-      with-splits : wholeAt s ≡ (lists s && (counts s && (goodChains s && lanes s)))
-      with-splits = with-head ∙ ap (λ t. t && (lists s && (counts s && (goodChains s && lanes s)))) b
+      with-splits : wholeAt s ≡ ((lists s && counts s) && (goodChains s && lanes s))
+      with-splits = with-head ∙ ap (λ t. t && ((lists s && counts s) && (goodChains s && lanes s))) b
 
-      pub no-lists : lists s ≡ false → false ≡ wholeAt s
-      no-lists c = sym (with-splits ∙ ap (λ t. t && (counts s && (goodChains s && lanes s))) c)
+      pub no-trees : (lists s && counts s) ≡ false → false ≡ wholeAt s
+      no-trees c = sym (with-splits ∙ ap (λ t. t && (goodChains s && lanes s)) c)
 
-      module _ (c : lists s ≡ true) where
-        with-lists : wholeAt s ≡ (counts s && (goodChains s && lanes s))
-        with-lists = with-splits ∙ ap (λ t. t && (counts s && (goodChains s && lanes s))) c
+      module _ (c : (lists s && counts s) ≡ true) where
+        with-trees : wholeAt s ≡ (goodChains s && lanes s)
+        with-trees = with-splits ∙ ap (λ t. t && (goodChains s && lanes s)) c
 
-        pub no-counts : counts s ≡ false → false ≡ wholeAt s
-        no-counts d = sym (with-lists ∙ ap (λ t. t && (goodChains s && lanes s)) d)
+        pub no-chains : goodChains s ≡ false → false ≡ wholeAt s
+        no-chains e = sym (with-trees ∙ ap (λ t. t && lanes s) e)
 
-        module _ (d : counts s ≡ true) where
-          with-counts : wholeAt s ≡ (goodChains s && lanes s)
-          with-counts = with-lists ∙ ap (λ t. t && (goodChains s && lanes s)) d
-
-          pub no-chains : goodChains s ≡ false → false ≡ wholeAt s
-          no-chains e = sym (with-counts ∙ ap (λ t. t && lanes s) e)
-
-          -- ---- the last test decides
-          pub by-lanes : goodChains s ≡ true → {r : Bool} → r ≡ lanes s → r ≡ wholeAt s
-          by-lanes e f = f ∙ sym (with-counts ∙ ap (λ t. t && lanes s) e)
+        -- ---- the last test decides
+        pub by-lanes : goodChains s ≡ true → {r : Bool} → r ≡ lanes s → r ≡ wholeAt s
+        by-lanes e f = f ∙ sym (with-trees ∙ ap (λ t. t && lanes s) e)

@@ -17,16 +17,16 @@ pub fn is_whole(s: &[u8]) -> bool
     if !header::head_good(s) {
         return false;
     }
-    if !splits::splits_good(s) {
+    let mut table = [0; 2048];
+    sums::fill_sums(s, true, &mut table);
+    if !splits::splits_good(s, &table) {
         return false;
     }
-    if !lists::lists_good(s) {
+    if !lists::trees_good(s) {
         return false;
     }
-    if !lists::counts_good(s) {
-        return false;
-    }
-    if !splits::chains_good(s) {
+    sums::fill_sums(s, false, &mut table);
+    if !splits::chains_good(s, &table) {
         return false;
     }
     lists::lanes_good(s)

@@ -6,27 +6,45 @@ use layout::MOST_ROOM;
 use layout::MOST_SPLITS;
 use layout::RAN_OVER;
 ghost use mathlib.Core.Path.{_≡_};
-ghost use mathlib.Core.Bool.{true};
-ghost use Prim.Native.Nat.{_+_, _≤_, _<_};
-ghost use lib.ListN.{length, take};
-ghost use lib.Bits.{bitAnd};
-ghost use Rattle.trees.specs.Whole.{rising, agreeInPairs};
+ghost use mathlib.Core.Bool.{true, _&&_};
+ghost use Prim.Native.Nat.{_+_, _^_, _<_};
+ghost use lib.ListN.{getD};
+ghost use lib.Bits.{bitAnd, bitOr};
+ghost use Rattle.trees.specs.Mask.{without, lowest};
 ghost use Rattle.head.specs.Head.{numbersAt};
-ghost use Rattle.layout.specs.Store.{treesHeldAt, splitsHeldAt, listAt, mostSplits};
-ghost use Rattle.layout.specs.WholeStore.{allBelow, goodList, goodCount, goodLaneAt};
+ghost use Rattle.layout.specs.Store.{treesHeldAt, splitsHeldAt};
+ghost use Rattle.layout.specs.WholeStore.{allBelow, goodSplits, goodList, goodCount, goodLaneAt};
 ghost use Rattle.layout.specs.WholeFacts.{HeadAt};
-ghost use Rattle.store.specs.ListTests.{allRows, Counted};
-ghost use Rattle.store.specs.Outer.{UnionAt};
+ghost use Rattle.store.specs.ListTests.{Counted};
+ghost use Rattle.store.specs.Outer.{UnionAt, PlaceOf, LowestIn, Vacant, Takes};
 
-// Whether every tree's list is in order.
-pub(crate) fn lists_good(s: &[u8]) -> bool
+// Whether every tree's list is in order, and every split's count is the number of trees that list it,
+// at least 1.
+pub(crate) fn trees_good(s: &[u8]) -> bool
     requires { ⌜ HeadAt (now s) ⌝ }
+    requires { ⌜ goodSplits (now s) ≡ true ⌝ }
+    ensures { λ r. ⌜ r ≡ (allBelow (goodList (now (s .entry))) (treesHeldAt (now (s .entry))) && allBelow (goodCount (now (s .entry))) (splitsHeldAt (now (s .entry)))) ⌝ }
+{
+    let mut counts = [0; MOST_ROOM];
+    if !lists_good(s, &mut counts) {
+        return false;
+    }
+    counts_match(s, &counts)
+}
+
+// Whether every tree's list is in order. Where they are, each split's count has how many trees list it.
+fn lists_good(s: &[u8], counts: &mut [u16; MOST_ROOM]) -> bool
+    requires { ⌜ HeadAt (now s) ⌝ }
+    requires { ⌜ goodSplits (now s) ≡ true ⌝ }
+    requires { ⌜ Counted (now s) 0 (now counts) ⌝ }
     ensures { λ r. ⌜ r ≡ allBelow (goodList (now (s .entry))) (treesHeldAt (now (s .entry))) ⌝ }
+    ensures { λ r. ⌜ (r ≡ true → Counted (now (s .entry)) (treesHeldAt (now (s .entry))) (now (counts .exit))) ⌝ }
 {
     let trees = layout::trees_held(s);
+    let mut outer = [0; 65];
     let mut i = 0;
     while i < trees {
-        if !list_good(s, i) {
+        if !list_good(s, i, &mut outer, counts) {
             return false;
         }
         i += 1;
@@ -34,90 +52,61 @@ pub(crate) fn lists_good(s: &[u8]) -> bool
     true
 }
 
-// Whether tree i lists at most 62 recorded splits, whose masks rise and agree in pairs.
-pub(crate) fn list_good(s: &[u8], i: usize) -> bool
+// Whether tree i lists at most 62 recorded splits, whose masks rise and agree in pairs. Where it does,
+// each of their counts has one more.
+//
+// Of the masks passed, `outer` has those that no later one took in, each at its lowest taxon, its head.
+fn list_good(s: &[u8], i: usize, outer: &mut [u64; 65], counts: &mut [u16; MOST_ROOM]) -> bool
     requires { ⌜ HeadAt (now s) ⌝ }
+    requires { ⌜ goodSplits (now s) ≡ true ⌝ }
     requires { ⌜ i < treesHeldAt (now s) ⌝ }
+    requires { ⌜ Vacant (now outer) ⌝ }
+    requires { ⌜ Counted (now s) i (now counts) ⌝ }
     ensures { λ r. ⌜ r ≡ goodList (now (s .entry)) i ⌝ }
+    ensures { λ r. ⌜ Vacant (now (outer .exit)) ⌝ }
+    ensures { λ r. ⌜ (r ≡ true → Counted (now (s .entry)) (i + 1) (now (counts .exit))) ⌝ }
 {
-    let n = rows::splits_in(s, Tree(i));
+    let from = rows::tree_from(s, Tree(i));
+    let n = layout::number16(s, from);
     if MOST_SPLITS < n {
         return false;
     }
-    if !rows_below(s, i, n) {
-        return false;
-    }
-    let mut masks = [0; 64];
-    rows::copy_tree(s, Tree(i), &mut masks);
-    if !masks_rise(&masks, n) {
-        return false;
-    }
-    pairs_agree(&masks, n)
-}
-
-// Whether the n rows of tree i are those of recorded splits.
-fn rows_below(s: &[u8], i: usize, n: usize) -> bool
-    requires { ⌜ HeadAt (now s) ⌝ }
-    requires { ⌜ i < treesHeldAt (now s) ⌝ }
-    requires { ⌜ n ≡ length (listAt (now s) i) ⌝ }
-    requires { ⌜ n ≤ mostSplits ⌝ }
-    ensures { λ r. ⌜ r ≡ allRows (splitsHeldAt (now (s .entry))) (listAt (now (s .entry)) i) ⌝ }
-{
-    let from = rows::tree_from(s, Tree(i));
-    let splits = layout::splits_held(s);
-    let mut j = 0;
-    while j < n {
-        if splits <= rows::row_in(s, Tree(i), from, j) {
-            return false;
-        }
-        j += 1;
-    }
-    true
-}
-
-// Whether the first n masks rise from each to the next.
-fn masks_rise(masks: &[u64; 64], n: usize) -> bool
-    requires { ⌜ length (now masks) ≡ 64 ⌝ }
-    requires { ⌜ n ≤ 64 ⌝ }
-    ensures { λ r. ⌜ r ≡ rising (take n (now (masks .entry))) ⌝ }
-{
-    let mut j = 1;
-    while j < n {
-        if !masks::comes_before(masks[j - 1], masks[j]) {
-            return false;
-        }
-        j += 1;
-    }
-    true
-}
-
-// Whether every two of the first n masks, which rise, agree. Of the masks passed, `outer` has those
-// that no later one took in, each at its lowest taxon, its head: the next mask agrees with all passed
-// when it takes in each outer one whose head it has, and is apart from the others.
-fn pairs_agree(masks: &[u64; 64], n: usize) -> bool
-    requires { ⌜ length (now masks) ≡ 64 ⌝ }
-    requires { ⌜ n ≤ 64 ⌝ }
-    requires { ⌜ rising (take n (now masks)) ≡ true ⌝ }
-    ensures { λ r. ⌜ r ≡ agreeInPairs (take n (now (masks .entry))) ⌝ }
-{
-    let mut outer = [0; 64];
+    let held = layout::splits_held(s);
     let mut heads = 0;
     let mut covered = 0;
+    let mut last = 0;
     let mut j = 0;
     while j < n {
-        let x = masks[j];
-        let inner = union_at(&outer, common(heads, x));
-        if !masks::is_same(common(covered, x), inner) {
+        let k = rows::row_in(s, Tree(i), from, j);
+        if held <= k {
             return false;
         }
-        let head = masks::lowest_taxon(x);
-        let at = head.0 as usize;
+        let x = rows::mask_at(s, k);
+        if !masks::comes_before(last, x) {
+            return false;
+        }
+        if !agrees(outer, heads, covered, x) {
+            return false;
+        }
+        counts[k] = counts[k] + 1;
+        let at = masks::lowest_taxon(x).0 as usize;
         outer[at] = x;
-        heads = masks::union_of(masks::taxa_without(heads, x), masks::only_taxon(head));
+        heads = heads_with(heads, x);
         covered = masks::union_of(covered, x);
+        last = x;
         j += 1;
     }
     true
+}
+
+// Whether x agrees with all masks passed, which are below it: it does when it takes in each outer one
+// whose head it has, and is apart from the others.
+fn agrees(outer: &[u64; 65], heads: u64, covered: u64, x: u64) -> bool
+    requires { ⌜ getD (now outer) 64 0 ≡ 0 ⌝ }
+    ensures { λ r. ⌜ Takes (now (outer .entry)) heads covered x r ⌝ }
+{
+    let inner = union_at(outer, common(heads, x));
+    masks::is_same(common(covered, x), inner)
 }
 
 // The taxa that are in a and in b.
@@ -127,63 +116,49 @@ fn common(a: u64, b: u64) -> u64
     masks::taxa_without(a, masks::taxa_without(a, b))
 }
 
-// The taxa of the masks that stand in `outer` at these taxa.
-fn union_at(outer: &[u64; 64], taxa: u64) -> u64
+// The heads of the outer masks with x: those that it does not take in, and its own.
+fn heads_with(heads: u64, x: u64) -> u64
+    ensures { λ r. ⌜ r ≡ bitOr (without heads x) (2 ^ lowest x) ⌝ }
+{
+    masks::union_of(
+        masks::taxa_without(heads, x),
+        masks::only_taxon(masks::lowest_taxon(x)),
+    )
+}
+
+// The taxa of the masks that stand in `outer` at these taxa: of two of them without a branch, since at
+// place 64, where the search ends when no taxon is left, no mask stands.
+fn union_at(outer: &[u64; 65], taxa: u64) -> u64
+    requires { ⌜ getD (now outer) 64 0 ≡ 0 ⌝ }
     ensures { λ r. ⌜ UnionAt (now (outer .entry)) taxa r ⌝ }
 {
-    let mut all = 0;
-    let mut rest = taxa;
-    while rest != 0 {
-        let i = masks::lowest_taxon(rest);
-        let at = i.0 as usize;
-        all = masks::union_of(all, outer[at]);
-        rest = masks::taxa_without(rest, masks::only_taxon(i));
+    let next = masks::without_lowest(taxa);
+    let mut all = masks::union_of(lowest_in(outer, taxa), lowest_in(outer, next));
+    let mut rest = masks::without_lowest(next);
+    while !masks::is_empty(rest) {
+        all = masks::union_of(all, lowest_in(outer, rest));
+        rest = masks::without_lowest(rest);
     }
     all
 }
 
-// Whether every split's count is the number of trees that list it, at least 1.
-pub(crate) fn counts_good(s: &[u8]) -> bool
-    requires { ⌜ HeadAt (now s) ⌝ }
-    requires { ⌜ allBelow (goodList (now s)) (treesHeldAt (now s)) ≡ true ⌝ }
-    ensures { λ r. ⌜ r ≡ allBelow (goodCount (now (s .entry))) (splitsHeldAt (now (s .entry))) ⌝ }
+// The mask that stands in `outer` at the lowest of these taxa; none where there is none.
+fn lowest_in(outer: &[u64; 65], taxa: u64) -> u64
+    requires { ⌜ getD (now outer) 64 0 ≡ 0 ⌝ }
+    ensures { λ r. ⌜ LowestIn (now (outer .entry)) taxa r ⌝ }
 {
-    let mut counts = [0; MOST_ROOM];
-    count_lists(s, &mut counts);
-    counts_match(s, &counts)
+    let at = lowest_place(taxa);
+    outer[at]
 }
 
-// Adds up, for each split, how many trees list it.
-fn count_lists(s: &[u8], counts: &mut [u16; MOST_ROOM])
-    requires { ⌜ HeadAt (now s) ⌝ }
-    requires { ⌜ allBelow (goodList (now s)) (treesHeldAt (now s)) ≡ true ⌝ }
-    requires { ⌜ Counted (now s) 0 (now counts) ⌝ }
-    ensures { λ r. ⌜ Counted (now (s .entry)) (treesHeldAt (now (s .entry))) (now (counts .exit)) ⌝ }
+// The lowest of these taxa; 64 where there is none.
+fn lowest_place(taxa: u64) -> usize
+    ensures { λ r. ⌜ PlaceOf taxa r ⌝ }
 {
-    let trees = layout::trees_held(s);
-    let mut t = 0;
-    while t < trees {
-        count_list(s, t, counts);
-        t += 1;
+    if masks::is_empty(taxa) {
+        return 64;
     }
-}
-
-// Adds one to the count of each split that tree i lists.
-fn count_list(s: &[u8], i: usize, counts: &mut [u16; MOST_ROOM])
-    requires { ⌜ HeadAt (now s) ⌝ }
-    requires { ⌜ i < treesHeldAt (now s) ⌝ }
-    requires { ⌜ goodList (now s) i ≡ true ⌝ }
-    requires { ⌜ Counted (now s) i (now counts) ⌝ }
-    ensures { λ r. ⌜ Counted (now (s .entry)) (i + 1) (now (counts .exit)) ⌝ }
-{
-    let from = rows::tree_from(s, Tree(i));
-    let n = layout::number16(s, from);
-    let mut j = 0;
-    while j < n {
-        let k = rows::row_in(s, Tree(i), from, j);
-        counts[k] = counts[k] + 1;
-        j += 1;
-    }
+    masks::lowest_taxon(taxa).0 as usize
 }
 
 // Whether every split's count is the one that was added up, at least 1.

@@ -12,19 +12,20 @@ ghost use Rattle.layout.specs.WholeFacts.{HeadAt};
 ghost use Rattle.store.specs.Splits.{goodMask, Highest};
 ghost use Rattle.store.specs.Sums.{constantsAt, Sums};
 use crate::lists::wide16;
-use crate::sums::fill_sums;
 use crate::sums::sum_over;
 use answers::Split;
 
-// Whether the recorded masks are proper and rise, and the stored identifiers are right.
-pub(crate) fn splits_good(s: &[u8]) -> bool
+// Whether the recorded masks are proper and rise, and the stored identifiers are right, by the table of
+// the sums of the second constants.
+pub(crate) fn splits_good(s: &[u8], sums: &[u64; 2048]) -> bool
     requires { ⌜ HeadAt (now s) ⌝ }
+    requires { ⌜ Sums (constantsAt true (now s)) 8 (now sums) ⌝ }
     ensures { λ r. ⌜ r ≡ goodSplits (now (s .entry)) ⌝ }
 {
     if !masks_good(s) {
         return false;
     }
-    identifiers_good(s)
+    identifiers_good(s, sums)
 }
 
 // Whether each number has a row, and its mask is proper and above the one before; a proper mask is
@@ -55,18 +56,17 @@ fn masks_good(s: &[u8]) -> bool
     true
 }
 
-// Whether each stored identifier is that of its split's mask.
-fn identifiers_good(s: &[u8]) -> bool
+// Whether each stored identifier is that of its split's mask, by the same table.
+fn identifiers_good(s: &[u8], sums: &[u64; 2048]) -> bool
     requires { ⌜ HeadAt (now s) ⌝ }
+    requires { ⌜ Sums (constantsAt true (now s)) 8 (now sums) ⌝ }
     ensures { λ r. ⌜ r ≡ allBelow (goodIdentifier (now (s .entry))) (splitsHeldAt (now (s .entry))) ⌝ }
 {
-    let mut sums = [0; 2048];
-    fill_sums(s, true, &mut sums);
     let held = layout::splits_held(s);
     let mut k = 0;
     while k < held {
         let m = rows::mask_at(s, k);
-        if rows::identifier_at(s, k) != sum_over(&sums, m) {
+        if rows::identifier_at(s, k) != sum_over(sums, m) {
             return false;
         }
         k += 1;
@@ -74,18 +74,18 @@ fn identifiers_good(s: &[u8]) -> bool
     true
 }
 
-// Whether the chain of each place meets its splits, each once and the highest first.
-pub(crate) fn chains_good(s: &[u8]) -> bool
+// Whether the chain of each place meets its splits, each once and the highest first, by the table of
+// the sums of the first constants.
+pub(crate) fn chains_good(s: &[u8], sums: &[u64; 2048]) -> bool
     requires { ⌜ HeadAt (now s) ⌝ }
+    requires { ⌜ Sums (constantsAt false (now s)) 8 (now sums) ⌝ }
     ensures { λ r. ⌜ r ≡ goodChains (now (s .entry)) ⌝ }
 {
-    let mut sums = [0; 2048];
-    fill_sums(s, false, &mut sums);
     let held = layout::splits_held(s);
     let mut highest = [0u16; 8192];
     let mut k = 0;
     while k < held {
-        let p = place_of(s, &sums, rows::mask_at(s, k));
+        let p = place_of(s, sums, rows::mask_at(s, k));
         if rows::link_at(s, k) != wide16(highest[p]) {
             return false;
         }

@@ -5,8 +5,9 @@
 ghost use mathlib.Core.Path.{_≡_};
 ghost use Prim.Native.Nat.{_+_, _*_, _≤_, _<_};
 ghost use lib.ListN.{length, getD};
+ghost use Rattle.head.specs.Head.{numbersAt};
 ghost use Rattle.layout.specs.WholeFacts.{HeadAt};
-ghost use Rattle.store.specs.Sums.{constantsAt, Sums, SumBy, ByteSums, Doubled};
+ghost use Rattle.store.specs.Sums.{constantsAt, Sums, SumBy, Blank, ByteSums, Doubled};
 use answers::Taxon;
 
 // The sum over the taxa of m, modulo 2^64, of the constants whose table `sums` is.
@@ -25,14 +26,17 @@ pub(crate) fn sum_over(sums: &[u64; 2048], m: u64) -> u64
     sum
 }
 
-// Makes the table of the second constants, or of the first.
+// Makes the table of the second constants, or of the first, in one that is blank or has the other's. For
+// the bytes that the taxa do not reach it stays blank.
 pub(crate) fn fill_sums(s: &[u8], second: bool, sums: &mut [u64; 2048])
     requires { ⌜ HeadAt (now s) ⌝ }
-    requires { ⌜ length (now sums) ≡ 2048 ⌝ }
+    requires { ⌜ Blank (numbersAt (now s) .taxa) (now sums) ⌝ }
     ensures { λ r. ⌜ Sums (constantsAt second (now (s .entry))) 8 (now (sums .exit)) ⌝ }
+    ensures { λ r. ⌜ Blank (numbersAt (now (s .entry)) .taxa) (now (sums .exit)) ⌝ }
 {
+    let taxa = head::taxa(s) as usize;
     let mut b = 0;
-    while b < 8 {
+    while 8 * b < taxa {
         fill_byte(s, second, b, sums);
         b += 1;
     }

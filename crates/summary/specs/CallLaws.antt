@@ -8,9 +8,9 @@
 --   took-line, took-texts, took-refused     taking a piece
 --   closes-refused, closes-done    the input ends in its first line
 --   finished-line, finished-texts, finished-refused     finishing
---   refusal-past, refusal-first    the one line behind a refusal
---   printed-sheet, printed-refusal     giving a line
-use Prim.Native.Nat.{ℕ, zero, suc, _-_, _≤_, _<_}
+--   refusal-past, refusal-given, refusal-short     the one line behind a refusal
+--   printed-sheet, printed-refusal     giving lines
+use Prim.Native.Nat.{ℕ, suc, _-_, _≤_, _<_}
 use native.Mathlib.Omega.{arith}
 use mathlib.Core.Path.{_≡_, refl, sym, ap, subst, _∙_}
 use mathlib.Core.Bool.{Bool, true, false, _||_, _&&_, true≢false}
@@ -20,17 +20,22 @@ use lib.ListN.{length, take, drop, length-drop}
 use lib.Seq.{take-all}
 use borrow.Author.Tests.{lt-leb}
 use Rattle.trees.specs.Plain.{if_then_else_, member}
+use Rattle.trees.specs.Questions.{ifRoom}
 use Rattle.answers.specs.declared.Finish.{Finish}
 use Rattle.answers.specs.declared.Finish.the-variants as finish
 use Rattle.answers.specs.declared.Number.{Number}
 use Rattle.answers.specs.declared.Number.the-variants as number
 use Rattle.answers.specs.declared.Refusal.{Refusal}
 use Rattle.answers.specs.declared.Refusal.the-variants as why
-use Rattle.answers.specs.Answers.{refusalNumber, numberGiven}
-use Rattle.answers.specs.Filled.{lengthGiven, front, FilledAs}
+use Rattle.answers.specs.declared.Both.{Both}
+use Rattle.answers.specs.declared.Both.the-variants as both
+use Rattle.answers.specs.Answers.{refusalNumber}
+use Rattle.answers.specs.Filled.{FilledAs}
 use Rattle.table.specs.Promises.{OpenedAs}
 use Rattle.feeding.specs.EndLaws.{eqb-flip}
-use Rattle.sheet.specs.Asked.{lineAsked, refusalAsked}
+use Rattle.sheet.specs.Sheet.{refusalLine}
+use Rattle.sheet.specs.Asked.{linesFrom, linesAsked, PrintsAs, refusalAsked}
+use Rattle.sheet.specs.RunLaws.{prints-missing, one-given, one-refused}
 use Rattle.summary.specs.declared.LinePart.{LinePart}
 use Rattle.summary.specs.declared.Summing.{Summing}
 use Rattle.summary.specs.declared.Summing.the-variants as summing
@@ -38,7 +43,7 @@ use Rattle.summary.specs.declared.Taken.{Taken}
 use Rattle.summary.specs.Summary.{firstLine, summaryBytes}
 use Rattle.summary.specs.FirstLine.{Kept, keptOf, lineTaken, TakenAs, keptOpening}
 use Rattle.summary.specs.Texts.{TextsAs, ClosedAs}
-use Rattle.summary.specs.Summing.{roomy, begun, BegunAs, fedState, FeedsAs, BehindAs, OpensAs, NamesAs, TakeSteps, TookAs, EndsAs, ClosesAs, FinishSteps, FinishedAs, refusalFor, sheetAsked, PrintedAs}
+use Rattle.summary.specs.Summing.{roomy, begun, BegunAs, fedState, FeedsAs, BehindAs, OpensAs, NamesAs, TakeSteps, TookAs, EndsAs, ClosesAs, FinishSteps, FinishedAs, refusalLines, sheetAsked, PrintedAs}
 use Rattle.summary.specs.StandsLaws.{begun-short, begun-roomy, took-as, finished-as, printed-as}
 
 -- ---- beginning
@@ -161,24 +166,36 @@ module _ (state : Summing) (names s : List ℕ) where
   pub finished-refused : (w : Refusal) → state ≡ summing.Refused w → FinishedAs state names s (number.Refused w) s
   finished-refused w e = finished-by (summing.Refused w) e (number.Refused w) s (unfold FinishSteps in (refl, refl))
 
--- ---- giving a line
+-- ---- giving lines
 
-pub refusal-past : (w : Refusal) (j : ℕ) (out : List ℕ) → (j ≡ 0 → ⊥) → FilledAs (refusalFor w j (length out)) (number.Refused why.NoSuchNumber) out out
-unfolding refusalFor numberGiven refusalNumber lengthGiven front
-refusal-past w zero out h = absurd (h refl)
-refusal-past w (suc j) out h = (refl, refl)
+module _ (w : Refusal) (from : ℕ) (out : List ℕ) where
+  pub refusal-past : (from ≡ 0 → ⊥) → PrintsAs (linesFrom (refusalLines w) from (length out)) (both.Refused why.NoSuchNumber) out out
+  unfolding refusalLines
+  refusal-past h = prints-missing _ out (refusalLines w) from refl (omega (arith, h))
 
-pub refusal-first : (w : Refusal) (j : ℕ) (r : Number) (out after : List ℕ) → j ≡ 0 → (k : ℕ) → k ≡ refusalNumber w
-    → FilledAs (refusalAsked k (length out)) r out after → FilledAs (refusalFor w j (length out)) r out after
-unfolding refusalFor
-refusal-first w j r out after e k d f = rw e (subst (λ (x : ℕ). FilledAs (refusalAsked x (length out)) r out after) d f)
+  module _ (e : from ≡ 0) (k : ℕ) (d : k ≡ refusalNumber w) (r : Number) (after : List ℕ) (f : FilledAs (refusalAsked k (length out)) r out after) where
+    -- the one line, in a buffer of its own or not at all
+    abbrev line : List ℕ
+    line = refusalLine (refusalNumber w)
 
-module _ (answer : Number) (s : List ℕ) (j : ℕ) (r : Number) (out after : List ℕ) where
-  printed-by : (x : Number) → answer ≡ x → FilledAs (sheetAsked x s j (length out)) r out after → PrintedAs answer s j r out after
-  printed-by x e f = subst (λ (y : Number). PrintedAs y s j r out after) (sym e) (printed-as x s j r out after f)
+    one-line : FilledAs (ifRoom (length out) line) r out after
+    one-line = subst (λ (x : ℕ). FilledAs (refusalAsked x (length out)) r out after) d f
 
-  pub printed-sheet : (n : ℕ) → answer ≡ number.Gives n → FilledAs (lineAsked s n j (length out)) r out after → PrintedAs answer s j r out after
+    pub refusal-given : (n : ℕ) → r ≡ number.Gives n → PrintsAs (linesFrom (refusalLines w) from (length out)) (both.Gives n 1) out after
+    unfolding refusalLines
+    refusal-given n q = rw e (one-given out line after n (subst (λ (x : Number). FilledAs (ifRoom (length out) line) x out after) q one-line))
+
+    pub refusal-short : (x : Refusal) → r ≡ number.Refused x → PrintsAs (linesFrom (refusalLines w) from (length out)) (both.Refused x) out after
+    unfolding refusalLines
+    refusal-short x q = rw e (one-refused out line after x (subst (λ (y : Number). FilledAs (ifRoom (length out) line) y out after) q one-line))
+
+module _ (answer : Number) (s : List ℕ) (from : ℕ) (r : Both) (out after : List ℕ) where
+  printed-by : (x : Number) → answer ≡ x → PrintsAs (sheetAsked x s from (length out)) r out after → PrintedAs answer s from r out after
+  printed-by x e f = subst (λ (y : Number). PrintedAs y s from r out after) (sym e) (printed-as x s from r out after f)
+
+  pub printed-sheet : (n : ℕ) → answer ≡ number.Gives n → PrintsAs (linesAsked s n from (length out)) r out after → PrintedAs answer s from r out after
   printed-sheet n e f = printed-by (number.Gives n) e (unfold sheetAsked in f)
 
-  pub printed-refusal : (w : Refusal) → answer ≡ number.Refused w → FilledAs (refusalFor w j (length out)) r out after → PrintedAs answer s j r out after
+  pub printed-refusal : (w : Refusal) → answer ≡ number.Refused w → PrintsAs (linesFrom (refusalLines w) from (length out)) r out after
+      → PrintedAs answer s from r out after
   printed-refusal w e f = printed-by (number.Refused w) e (unfold sheetAsked in f)

@@ -5,33 +5,32 @@
 --   take-stands, took-as   a piece more
 --   finish-stands, finished-as     finishing
 --   sheet-counted, sheet-is, refusal-is     the lines of the summary, behind an answer of finishing
---   line-stands, printed-as     a line
-use Prim.Native.Nat.{ℕ, zero, suc, _^_, _≤_, _<_}
+--   lines-stand, printed-as     lines
+use Prim.Native.Nat.{ℕ, _^_, _≤_, _<_}
 use native.Mathlib.Omega.{arith}
 use mathlib.Core.Path.{_≡_, refl, sym, ap, ap₂, subst, _∙_}
 use mathlib.Core.Bool.{Bool, true, false, true≢false}
-use mathlib.Core.List.{List, [], _∷_, _++_}
-use lib.Dec.{ltb, leb}
-use lib.ListN.{length, getD, drop}
-use borrow.Author.Tests.{le-leb, leb-true, le-ltb}
-use Rattle.trees.specs.Plain.{if_then_else_, member, Answer, refused, gives}
+use mathlib.Core.List.{List, [], _++_}
+use lib.Dec.{leb}
+use lib.ListN.{length, drop}
+use borrow.Author.Tests.{le-leb, leb-true}
+use Rattle.trees.specs.Plain.{member, Answer, refused, gives}
 use Rattle.trees.specs.Opening.{Opening}
 use Rattle.trees.specs.Held.{closing}
-use Rattle.trees.specs.Questions.{ifRoom}
 use Rattle.theorems.specs.ListLaws.{and-left, and-right}
 use Rattle.answers.specs.declared.Finish.{Finish}
 use Rattle.answers.specs.declared.Finish.the-variants as finish
 use Rattle.answers.specs.declared.Number.{Number}
 use Rattle.answers.specs.declared.Number.the-variants as number
+use Rattle.answers.specs.declared.Both.{Both}
 use Rattle.answers.specs.declared.Refusal.{Refusal}
 use Rattle.answers.specs.Answers.{refusalNumber, finishGiven}
-use Rattle.answers.specs.Filled.{FilledAs}
 use Rattle.layout.specs.Store.{heldAt}
 use Rattle.store.specs.LentLaws.{when-whole}
 use Rattle.table.specs.Promises.{OpenedAs}
 use Rattle.feeding.specs.SeamLaws.{member-left, member-right}
-use Rattle.sheet.specs.Sheet.{sheetLines, refusalLine}
-use Rattle.sheet.specs.Asked.{lineNumber, lineAsked}
+use Rattle.sheet.specs.Sheet.{sheetLines}
+use Rattle.sheet.specs.Asked.{linesFrom, PrintsAs}
 use Rattle.summary.specs.declared.LinePart.{LinePart}
 use Rattle.summary.specs.declared.Summing.{Summing}
 use Rattle.summary.specs.declared.Summing.the-variants as summing
@@ -42,7 +41,7 @@ use Rattle.summary.specs.TextsLaws.{capped-small}
 use Rattle.summary.specs.KeptLaws.{keeps-none, keeps-after, line-decides}
 use Rattle.summary.specs.OpeningLaws.{enough-lent}
 use Rattle.summary.specs.InputLaws.{no-end, nothing-behind, line-left, line-right, behind-left, behind-right, behind-taken}
-use Rattle.summary.specs.Summing.{roomy, asksFor, allFed, refusedTexts, FedSoFar, StandsFor, SheetOf, CountedIn, begun, BegunAs, BehindAs, OpensAs, NamesAs, TakeSteps, TookAs, EndsAs, ClosesAs, FinishSteps, FinishedAs, refusalFor, sheetAsked, lineFor, PrintedAs}
+use Rattle.summary.specs.Summing.{roomy, asksFor, allFed, refusedTexts, FedSoFar, StandsFor, SheetOf, CountedIn, begun, BegunAs, BehindAs, OpensAs, NamesAs, TakeSteps, TookAs, EndsAs, ClosesAs, FinishSteps, FinishedAs, refusalLines, sheetAsked, PrintedAs}
 use Rattle.summary.specs.FedSoFarLaws.{texts-none, feeds-on, closed-on, closed-never}
 
 -- ---- beginning
@@ -185,7 +184,7 @@ finish-stands (summing.Refused w) names lent r t c v g = subst (λ (y : Number).
 pub finished-as : (state : Summing) (names lent : List ℕ) (r : Number) (t : List ℕ) → FinishSteps state names lent r t → FinishedAs state names lent r t
 finished-as state names lent r t c = record { steps = c; carries = finish-stands state names lent r t c }
 
--- ---- a line
+-- ---- lines
 
 lines-are : (v : List ℕ) (x : Answer Opening) → asksFor v ≡ x → linesFor v ≡ printedLines x (behindLine v)
 unfolding linesFor
@@ -194,11 +193,6 @@ lines-are v x e = ap (λ (y : Answer Opening). printedLines y (behindLine v)) e
 lines-of : (o : Opening) (q : List ℕ) → printedLines (gives o) q ≡ sheetLines (closing (allFed o q .after) 0 .after) (refusedTexts o q)
 unfolding printedLines summaryLines closedSheet refusedTexts
 lines-of o q = refl
-
-line-same : (v : List ℕ) (ls : List (List ℕ)) → linesFor v ≡ ls → (j room : ℕ)
-    → (if ltb j (length ls) then ifRoom room (getD ls j []) else refused 13) ≡ lineFor v j room
-unfolding lineFor
-line-same v ls e j room = rw e refl
 
 -- the answer counts the refused texts
 pub sheet-counted : (n : ℕ) (s v : List ℕ) → SheetOf (number.Gives n) s v → CountedIn v → n < 2 ^ 64
@@ -214,25 +208,19 @@ sheet-is n s v g small =
     let c : n ≡ refusedTexts (g .0) (behindLine v) = g .4 ∙ sym (capped-small (refusedTexts (g .0) (behindLine v)) (small (g .0) (g .1))) in
     lines-are v (gives (g .0)) (g .1) ∙ lines-of (g .0) (behindLine v) ∙ sym (ap₂ sheetLines (g .3) c)
 
-pub refusal-is : (w : Refusal) (s v : List ℕ) → SheetOf (number.Refused w) s v → linesFor v ≡ refusalLine (refusalNumber w) ∷ []
-unfolding SheetOf printedLines
+pub refusal-is : (w : Refusal) (s v : List ℕ) → SheetOf (number.Refused w) s v → linesFor v ≡ refusalLines w
+unfolding SheetOf printedLines refusalLines
 refusal-is w s v g = lines-are v (refused (refusalNumber w)) g
 
-pub line-stands : (a : Number) (s v : List ℕ) → SheetOf a s v → CountedIn v → (j room : ℕ) → sheetAsked a s j room ≡ lineFor v j room
+pub lines-stand : (a : Number) (s v : List ℕ) → SheetOf a s v → CountedIn v → (from room : ℕ) → sheetAsked a s from room ≡ linesFrom (linesFor v) from room
 unfolding SheetOf sheetAsked
-line-stands (number.Gives n) s v g small j room = asked ∙ line-same v (sheetLines (heldAt s) n) (sheet-is n s v g small) j room
-  where
-    asked : lineAsked s n j room ≡ (if ltb j (length (sheetLines (heldAt s) n)) then ifRoom room (getD (sheetLines (heldAt s) n) j []) else refused 13)
-    asked = unfold lineNumber in when-whole s (λ h. lineNumber h n j room) (g .2)
-line-stands (number.Refused w) s v g small j room = go j ∙ line-same v (refusalLine (refusalNumber w) ∷ []) (refusal-is w s v g) j room
-  where
-    go : (i : ℕ) → refusalFor w i room
-        ≡ (if ltb i 1 then ifRoom room (getD (refusalLine (refusalNumber w) ∷ []) i []) else refused 13)
-    go zero = unfold refusalFor in refl
-    go (suc i) = unfold refusalFor in sym (rw (le-ltb (suc i) 1 (omega arith)) refl)
+lines-stand (number.Gives n) s v g small from room =
+    when-whole s (λ h. linesFrom (sheetLines h n) from room) (g .2) ∙ ap (λ (ls : List (List ℕ)). linesFrom ls from room) (sym (sheet-is n s v g small))
+lines-stand (number.Refused w) s v g small from room = ap (λ (ls : List (List ℕ)). linesFrom ls from room) (sym (refusal-is w s v g))
 
-pub printed-as : (a : Number) (s : List ℕ) (j : ℕ) (r : Number) (out after : List ℕ) → FilledAs (sheetAsked a s j (length out)) r out after → PrintedAs a s j r out after
-printed-as a s j r out after f = record {
-  fills = f;
-  carries = λ v g small. subst (λ (x : Answer (List ℕ)). FilledAs x r out after) (line-stands a s v g small j (length out)) f;
+pub printed-as : (a : Number) (s : List ℕ) (from : ℕ) (r : Both) (out after : List ℕ) → PrintsAs (sheetAsked a s from (length out)) r out after
+    → PrintedAs a s from r out after
+printed-as a s from r out after f = record {
+  prints = f;
+  carries = λ v g small. subst (λ (x : Answer (List (List ℕ))). PrintsAs x r out after) (lines-stand a s v g small from (length out)) f;
 }

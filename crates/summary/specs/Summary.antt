@@ -13,7 +13,7 @@
 --   summary input                 and their bytes, one behind another
 use Prim.Native.Nat.{ℕ, suc, _*_, _%_, _^_}
 use mathlib.Core.Path.{_≡_, refl}
-use mathlib.Core.List.{List, [], _∷_, flatMap}
+use mathlib.Core.List.{List, [], _∷_}
 use lib.Dec.{eqb}
 use lib.ListN.{length}
 use Rattle.trees.specs.Plain.{if_then_else_, keep, bytes, byte, Answer, refused, gives}
@@ -23,6 +23,7 @@ use Rattle.trees.specs.Batch.{semicolons, Batched, batching}
 use Rattle.head.specs.Head.{upTo}
 use Rattle.feeding.specs.Feeding.{isRefusal}
 use Rattle.sheet.specs.Sheet.{sheetLines, refusalLine}
+use Rattle.sheet.specs.Asked.{bytesOf}
 
 -- "The line ends before its LF, or where the input ends"
 unfoldable pub firstLine : List ℕ → List ℕ
@@ -92,8 +93,8 @@ unfolding printedLines summaryOpening firstLine behindLine
 linesFor input = printedLines (summaryOpening (firstLine input) summaryBytes) (behindLine input)
 
 unfoldable pub summary : List ℕ → List ℕ
-unfolding linesFor flatMap
-summary input = flatMap (λ line. line) (linesFor input)
+unfolding linesFor bytesOf
+summary input = bytesOf (linesFor input)
 
 -- ---- the sheet of document 01
 

@@ -12,35 +12,33 @@
 --   TakeSteps .., TookAs ..      taking a piece
 --   ClosesAs k s r t             the input ends in its first line, of which k is kept
 --   FinishSteps .., FinishedAs ..     finishing
---   refusalFor w j room          line number j behind the refusal w
---   sheetAsked answer s j room   line number j behind an answer of finishing, into a buffer of `room` bytes
---   lineFor v j room             line number j of the summary of v
---   PrintedAs ..                 giving a line
-use Prim.Native.Nat.{ℕ, zero, suc, _^_, _≤_, _<_}
+--   refusalLines w               the lines behind the refusal w
+--   sheetAsked answer s from room     the lines from number `from` on behind an answer of finishing, into a buffer of `room` bytes
+--   PrintedAs ..                 giving lines
+use Prim.Native.Nat.{ℕ, _^_, _≤_, _<_}
 use mathlib.Core.Path.{_≡_}
 use mathlib.Core.Bool.{Bool, true, false, _&&_}
-use mathlib.Core.List.{List, [], _++_}
-use lib.Dec.{ltb, leb}
-use lib.ListN.{length, getD, drop}
-use Rattle.trees.specs.Plain.{if_then_else_, member, byte, Answer, refused, gives}
+use mathlib.Core.List.{List, [], _∷_, _++_}
+use lib.Dec.{leb}
+use lib.ListN.{length, drop}
+use Rattle.trees.specs.Plain.{member, byte, Answer, refused, gives}
 use Rattle.trees.specs.Opening.{Opening}
 use Rattle.trees.specs.Held.{opened, closing}
 use Rattle.trees.specs.Batch.{semicolons, batching, Batched}
-use Rattle.trees.specs.Questions.{ifRoom}
 use Rattle.answers.specs.declared.Finish.{Finish}
 use Rattle.answers.specs.declared.Finish.the-variants as finish
 use Rattle.answers.specs.declared.Number.{Number}
 use Rattle.answers.specs.declared.Number.the-variants as number
+use Rattle.answers.specs.declared.Both.{Both}
 use Rattle.answers.specs.declared.Refusal.{Refusal}
 use Rattle.answers.specs.declared.Refusal.the-variants as why
 use Rattle.answers.specs.Answers.{refusalNumber}
-use Rattle.answers.specs.Filled.{FilledAs}
 use Rattle.layout.specs.Store.{heldAt}
 use Rattle.layout.specs.WholeStore.{wholeAt}
 use Rattle.store.specs.Lent.{ifWhole}
 use Rattle.table.specs.Promises.{OpenedAs}
 use Rattle.sheet.specs.Sheet.{refusalLine}
-use Rattle.sheet.specs.Asked.{lineNumber, lineAsked, refusalAsked}
+use Rattle.sheet.specs.Asked.{linesFrom, linesAsked, PrintsAs}
 use Rattle.summary.specs.declared.LinePart.{LinePart}
 use Rattle.summary.specs.declared.Summing.{Summing}
 use Rattle.summary.specs.declared.Summing.the-variants as summing
@@ -163,24 +161,19 @@ pub record FinishedAs (state : Summing) (names s : List ℕ) (r : Number) (t : L
   pub steps : FinishSteps state names s r t
   pub carries : (v : List ℕ) → StandsFor state names s v → SheetOf r t v
 
--- ---- giving a line
+-- ---- giving lines
 
--- 13: there is one line for a refusal
-unfoldable pub refusalFor : Refusal → ℕ → ℕ → Answer (List ℕ)
-unfolding ifRoom refusalLine refusalNumber
-refusalFor w zero room = refusalAsked (refusalNumber w) room
-refusalFor w (suc j) room = refused 13
+-- there is one line for a refusal
+unfoldable pub refusalLines : Refusal → List (List ℕ)
+unfolding refusalLine refusalNumber
+refusalLines w = refusalLine (refusalNumber w) ∷ []
 
-unfoldable pub sheetAsked : Number → List ℕ → ℕ → ℕ → Answer (List ℕ)
-unfolding ifWhole lineNumber refusalFor
-sheetAsked (number.Gives n) s j room = lineAsked s n j room
-sheetAsked (number.Refused w) s j room = refusalFor w j room
+unfoldable pub sheetAsked : Number → List ℕ → ℕ → ℕ → Answer (List (List ℕ))
+unfolding ifWhole linesFrom refusalLines
+sheetAsked (number.Gives n) s from room = linesAsked s n from room
+sheetAsked (number.Refused w) s from room = linesFrom (refusalLines w) from room
 
-unfoldable pub lineFor : List ℕ → ℕ → ℕ → Answer (List ℕ)
-unfolding linesFor ifRoom
-lineFor v j room = if ltb j (length (linesFor v)) then ifRoom room (getD (linesFor v) j []) else refused 13
-
--- what it gives behind any answer; and where that is the sheet of v, it is line j of the summary of v
-pub record PrintedAs (answer : Number) (s : List ℕ) (j : ℕ) (r : Number) (out after : List ℕ) : Type 0 where
-  pub fills : FilledAs (sheetAsked answer s j (length out)) r out after
-  pub carries : (v : List ℕ) → SheetOf answer s v → CountedIn v → FilledAs (lineFor v j (length out)) r out after
+-- what it gives behind any answer; and where that is the sheet of v, it is the lines of the summary of v
+pub record PrintedAs (answer : Number) (s : List ℕ) (from : ℕ) (r : Both) (out after : List ℕ) : Type 0 where
+  pub prints : PrintsAs (sheetAsked answer s from (length out)) r out after
+  pub carries : (v : List ℕ) → SheetOf answer s v → CountedIn v → PrintsAs (linesFrom (linesFor v) from (length out)) r out after

@@ -6,11 +6,12 @@
 // where they are made in this order, the lines are those of `summary` of the whole input, however it is cut.
 ghost use lib.ListN.{length};
 ghost use Rattle.summary.specs.FirstLine.{keptOf};
-ghost use Rattle.summary.specs.Summing.{BegunAs, FeedsAs, OpensAs, NamesAs, TookAs, ClosesAs, FinishedAs, refusalFor, PrintedAs};
+ghost use Rattle.summary.specs.Summing.{BegunAs, FeedsAs, OpensAs, NamesAs, TookAs, ClosesAs, FinishedAs, refusalLines, PrintedAs};
+use answers::Both;
 use answers::Finish;
 use answers::Number;
 use answers::Refusal;
-ghost use Rattle.answers.specs.Filled.{FilledAs};
+ghost use Rattle.sheet.specs.Asked.{linesFrom, PrintsAs};
 
 mod first_line;
 mod texts;
@@ -117,22 +118,26 @@ fn finish_names(line: LinePart, names: &[u8], lent: &mut [u8]) -> Number
     }
 }
 
-// Writes line number j to the front of out, where `answer` is that of finishing.
-pub fn line(answer: Number, lent: &[u8], j: usize, out: &mut [u8]) -> Number
-    ensures { λ r. ⌜ PrintedAs answer (now (lent .entry)) j r (now (out .entry)) (now (out .exit)) ⌝ }
+// Writes the lines from number `from` on, as many whole ones as fit, to the front of out, where `answer` is that of
+// finishing.
+pub fn lines(answer: Number, lent: &[u8], from: usize, out: &mut [u8]) -> Both
+    ensures { λ r. ⌜ PrintedAs answer (now (lent .entry)) from r (now (out .entry)) (now (out .exit)) ⌝ }
 {
     match answer {
-        Number::Gives(refused) => sheet::line(lent, refused, j, out),
-        Number::Refused(why) => line_of_refusal(why, j, out),
+        Number::Gives(refused) => sheet::lines(lent, refused, from, out),
+        Number::Refused(why) => line_of_refusal(why, from, out),
     }
 }
 
 // Writes the one line that there is behind a refusal.
-fn line_of_refusal(why: Refusal, j: usize, out: &mut [u8]) -> Number
-    ensures { λ r. ⌜ FilledAs (refusalFor why j (length (now (out .entry)))) r (now (out .entry)) (now (out .exit)) ⌝ }
+fn line_of_refusal(why: Refusal, from: usize, out: &mut [u8]) -> Both
+    ensures { λ r. ⌜ PrintsAs (linesFrom (refusalLines why) from (length (now (out .entry)))) r (now (out .entry)) (now (out .exit)) ⌝ }
 {
-    if j != 0 {
-        return Number::Refused(Refusal::NoSuchNumber);
+    if from != 0 {
+        return Both::Refused(Refusal::NoSuchNumber);
     }
-    sheet::refusal_line(answers::refusal_number(why), out)
+    match sheet::refusal_line(answers::refusal_number(why), out) {
+        Number::Gives(n) => Both::Gives(n, 1),
+        Number::Refused(r) => Both::Refused(r),
+    }
 }

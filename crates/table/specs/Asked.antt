@@ -4,10 +4,9 @@
 --   splitAsked s k                     the mask and the count of split k
 --   splitListAsked s a b               every recorded split and its count, into buffers of a and b elements
 --   treeAsked s i room                 the splits of tree i, into a buffer of `room` elements
---   masksOf, countsOf                  the two halves of an answer of masks and counts
 use Prim.Native.Nat.{ℕ}
 use mathlib.Core.List.{List}
-use Rattle.trees.specs.Plain.{Answer, refused, gives}
+use Rattle.trees.specs.Plain.{Answer}
 use Rattle.trees.specs.Questions.{treesHeld, splitsHeld, splitList, splitNumber, treeNumber}
 use Rattle.store.specs.Lent.{ifWhole}
 
@@ -25,11 +24,3 @@ splitListAsked s a b = ifWhole s (λ h. splitList h a b)
 
 abbrev pub treeAsked : List ℕ → ℕ → ℕ → Answer (List ℕ)
 treeAsked s i room = ifWhole s (λ h. treeNumber h i room)
-
-unfoldable pub masksOf : Answer (List ℕ × List ℕ) → Answer (List ℕ)
-masksOf (refused k) = refused k
-masksOf (gives x) = gives (x .0)
-
-unfoldable pub countsOf : Answer (List ℕ × List ℕ) → Answer (List ℕ)
-countsOf (refused k) = refused k
-countsOf (gives x) = gives (x .1)

@@ -19,7 +19,7 @@ use Rattle.answers.specs.declared.Refusal.the-variants as why
 use Rattle.answers.specs.declared.Number.{Number}
 use Rattle.answers.specs.declared.Number.the-variants as number
 use Rattle.answers.specs.Answers.{refusalNumber, refusing, numberGiven}
-use Rattle.answers.specs.Filled.{lengthGiven, front}
+use Rattle.answers.specs.Filled.{lengthGiven, front, firstOf, secondOf}
 use Rattle.layout.specs.Store.{partsAt, splitsHeldAt, masksAt}
 use Rattle.layout.specs.StoreLaws.{shaped-at}
 use Rattle.layout.specs.WholeStore.{wholeAt}
@@ -28,14 +28,14 @@ use Rattle.store.specs.RecordedAtLaws.{recorded-at, recorded-length}
 use Rattle.store.specs.LentLaws.{when-whole}
 use Rattle.store.specs.Counts.{countsAt}
 use Rattle.store.specs.CountsLaws.{counts-length, counts-at}
-use Rattle.table.specs.Asked.{splitListAsked, masksOf, countsOf}
+use Rattle.table.specs.Asked.{splitListAsked}
 
 abbrev pub ListedAs : Answer (List ℕ × List ℕ) → Number → List ℕ → List ℕ → List ℕ → List ℕ → Type 0
-ListedAs x r masks counts m c = (numberGiven r ≡ lengthGiven (masksOf x)) × ((m ≡ front (masksOf x) masks) × (c ≡ front (countsOf x) counts))
+ListedAs x r masks counts m c = (numberGiven r ≡ lengthGiven (firstOf x)) × ((m ≡ front (firstOf x) masks) × (c ≡ front (secondOf x) counts))
 
 pub list-refused : (x : Answer (List ℕ × List ℕ)) (masks counts : List ℕ) (r : Refusal) → x ≡ refusing r
     → ListedAs x (number.Refused r) masks counts masks counts
-unfolding numberGiven lengthGiven masksOf countsOf front
+unfolding numberGiven lengthGiven firstOf secondOf front
 list-refused x masks counts r e = rw e (refl, (refl, refl))
 
 -- 4, for either buffer
@@ -60,6 +60,6 @@ module _ (s masks counts : List ℕ) (w : wholeAt s ≡ true) where
   pub list-given : (n : ℕ) (m c : List ℕ) → n ≡ splitsHeldAt s → n ≤ length masks → n ≤ length counts
       → m ≡ masksAt s ++ drop (splitsHeldAt s) masks → c ≡ countsAt s ++ drop (splitsHeldAt s) counts
       → ListedAs asked (number.Gives n) masks counts m c
-  unfolding numberGiven lengthGiven masksOf countsOf front
+  unfolding numberGiven lengthGiven firstOf secondOf front
   list-given n m c e a b p q =
       rw (list-found, ← e, le-ltb (length masks) n a, le-ltb (length counts) n b, masks-length (partsAt s) (shaped-at s .order), counts-length s, ← e) (refl, (rw e p, rw e q))

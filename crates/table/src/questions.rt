@@ -8,11 +8,11 @@ ghost use mathlib.Core.List.{_++_};
 ghost use Prim.Native.Nat.{_≤_};
 ghost use lib.ListN.{length, drop};
 ghost use Rattle.answers.specs.Answers.{numberGiven, splitGiven};
-ghost use Rattle.answers.specs.Filled.{lengthGiven, front};
+ghost use Rattle.answers.specs.Filled.{lengthGiven, front, firstOf, secondOf};
 ghost use Rattle.layout.specs.Store.{splitsHeldAt, masksAt};
 ghost use Rattle.layout.specs.WholeStore.{wholeAt};
 ghost use Rattle.store.specs.Counts.{countsAt};
-ghost use Rattle.table.specs.Asked.{treesAsked, splitsAsked, splitAsked, splitListAsked, treeAsked, masksOf, countsOf};
+ghost use Rattle.table.specs.Asked.{treesAsked, splitsAsked, splitAsked, splitListAsked, treeAsked};
 use answers::Number;
 use answers::Recorded;
 use answers::Refusal;
@@ -57,9 +57,9 @@ pub fn one_split(s: &[u8], k: Split) -> Recorded
 
 // Every recorded split and its count, in order of mask, at the fronts of two buffers.
 pub fn split_list(s: &[u8], masks: &mut [u64], counts: &mut [u32]) -> Number
-    ensures { λ r. ⌜ numberGiven r ≡ lengthGiven (masksOf (splitListAsked (now (s .entry)) (length (now (masks .entry))) (length (now (counts .entry))))) ⌝ }
-    ensures { λ r. ⌜ now (masks .exit) ≡ front (masksOf (splitListAsked (now (s .entry)) (length (now (masks .entry))) (length (now (counts .entry))))) (now (masks .entry)) ⌝ }
-    ensures { λ r. ⌜ now (counts .exit) ≡ front (countsOf (splitListAsked (now (s .entry)) (length (now (masks .entry))) (length (now (counts .entry))))) (now (counts .entry)) ⌝ }
+    ensures { λ r. ⌜ numberGiven r ≡ lengthGiven (firstOf (splitListAsked (now (s .entry)) (length (now (masks .entry))) (length (now (counts .entry))))) ⌝ }
+    ensures { λ r. ⌜ now (masks .exit) ≡ front (firstOf (splitListAsked (now (s .entry)) (length (now (masks .entry))) (length (now (counts .entry))))) (now (masks .entry)) ⌝ }
+    ensures { λ r. ⌜ now (counts .exit) ≡ front (secondOf (splitListAsked (now (s .entry)) (length (now (masks .entry))) (length (now (counts .entry))))) (now (counts .entry)) ⌝ }
 {
     if !store::is_whole(s) {
         return Number::Refused(Refusal::NotWhole);

@@ -1,7 +1,6 @@
 -- What the code tests of a byte, in its order, comes to what the definitions say: both are computed at every byte. Assumes nothing.
 --
 --   blank-tests, label-tests     `is_blank` and `is_label_byte`
---   kind-tests                   `kind_of`
 --   class-tests                  `class_of` and `sign_or_point`
 --   row-moves, other-moves       `move_of`: a class that has a row of moves, and the class that has none
 use Prim.Native.Nat.{ℕ, zero, suc, _-_, _*_, _/_, _%_, _^_, _<_}
@@ -10,7 +9,7 @@ use native.Mathlib.Omega.{arith}
 use mathlib.Core.Path.{_≡_, refl, ap, sym, _∙_}
 use mathlib.Core.Logic.{⊎-elim}
 use mathlib.Core.Bool.{Bool, true, false, _&&_, not}
-use lib.Dec.{eqb, ltb}
+use lib.Dec.{eqb, leb, ltb}
 use borrow.Author.Tests.{eqb-true, ltb-true}
 use Rattle.trees.specs.Plain.{if_then_else_}
 use Rattle.trees.specs.Text.{isBlank, isLabelByte, kind}
@@ -20,11 +19,11 @@ use Rattle.text.specs.Automaton.{byteClass, move}
 
 -- ---- a test of every number below a bound
 
-abbrev allBelow : (ℕ → Bool) → ℕ → Bool
+abbrev pub allBelow : (ℕ → Bool) → ℕ → Bool
 allBelow p zero = true
 allBelow p (suc n) = p n && allBelow p n
 
-at : (p : ℕ → Bool) (n : ℕ) → allBelow p n ≡ true → (k : ℕ) → k < n → p k ≡ true
+pub at : (p : ℕ → Bool) (n : ℕ) → allBelow p n ≡ true → (k : ℕ) → k < n → p k ≡ true
 at p zero h k l = absurd (omega arith)
 at p (suc n) h k l =
     ⊎-elim (λ (e : k ≡ n). ap p e ∙ and-left (p n) (allBelow p n) h) (λ (m : k < n). at p n (and-right (p n) (allBelow p n) h) k m)
@@ -44,11 +43,11 @@ same-true false false e = refl
 abbrev inSet : ℕ → ℕ → Bool
 inSet m b = eqb (m / 2 ^ b % 2) 1
 
-abbrev isKind : ℕ → ℕ → Bool
+abbrev pub isKind : ℕ → ℕ → Bool
 isKind n b = eqb (kindNo (kind b)) n
 
 abbrev blankTests : ℕ → Bool
-blankTests b = if ltb b 64 then inSet 4294977024 b else false
+blankTests b = if leb b 32 then inSet 4294977024 b else false
 
 pub blank-tests : (t : Bool) (b : ℕ) → b < 256 → blankTests b ≡ t → (t ≡ isBlank b) × (t ≡ isKind 0 b)
 unfolding kind isBlank
@@ -66,20 +65,6 @@ label-tests t b h e = (
   sym e ∙ same-true (labelTests b) (isLabelByte b) (at (λ k. same (labelTests k) (isLabelByte k)) 256 refl b h),
   sym e ∙ same-true (labelTests b) (isKind 1 b) (at (λ k. same (labelTests k) (isKind 1 k)) 256 refl b h),
 )
-
-abbrev kindTests : ℕ → ℕ
-kindTests b =
-    if isKind 1 b then 1
-    else if eqb b 40 then 2
-    else if eqb b 41 then 3
-    else if eqb b 44 then 4
-    else if eqb b 58 then 5
-    else if isKind 0 b then 0
-    else 6
-
-pub kind-tests : (n b : ℕ) → b < 256 → kindTests b ≡ n → n ≡ kindNo (kind b)
-unfolding kind
-kind-tests n b h e = sym e ∙ eqb-true (kindTests b) (kindNo (kind b)) (at (λ k. eqb (kindTests k) (kindNo (kind k))) 256 refl b h)
 
 -- ---- lengths
 

@@ -1,5 +1,5 @@
 pub mod ByteLaws
 pub mod SymbolLaws
+pub mod PastLaws
 pub mod AutomatonLaws
-pub mod LengthLaws
-pub mod ReadLaws
+pub mod NumberLaws

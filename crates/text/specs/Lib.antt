@@ -1,2 +1,4 @@
 pub mod Automaton
 pub mod Read
+pub mod PlaceLaws
+pub mod OnceLaws

@@ -1,23 +1,27 @@
 -- What the readers answer, in terms of the definitions: a place in a text stands for the symbols from there on.
 --
 --   kindNo k           a number for each kind of byte
+--   kindAt s i         the number of the kind of the byte at place i, or 8 behind the text
+--   NoBlank s i        no blank stands at place i
+--   hasByte s i b      the byte b stands at place i
 --   symbolsAt s i      the symbols of s from place i on
 --   Skipped, RunEnd    the ends of a run of blanks, of label bytes
---   Seen s i r         the next symbol from i on is r
---   LengthRead, LabelRead, ClosingRead     the definition of the same name reads from i on as the answer says
-use Prim.Native.Nat.{ℕ, _≤_, _<_}
+--   DigitsEnd          the end of a run of digits
+--   NumberBehind       a length behind a colon
+--   Behind F, ClosingBehind     what may follow some nodes, read from i up to r; r is past the text where it is a fault
+use Prim.Native.Nat.{ℕ, _+_, _≤_, _<_}
 use mathlib.Core.Path.{_≡_}
-use mathlib.Core.List.{List, [], _∷_, _++_}
+use mathlib.Core.Bool.{Bool, true, false}
+use mathlib.Core.List.{List, _∷_, _++_}
 use mathlib.Core.Option.{none, some}
+use lib.Dec.{eqb, ltb}
 use lib.ListN.{length, getD, drop}
 use lib.Seq.{slice}
+use Rattle.trees.specs.Plain.{if_then_else_}
 use Rattle.trees.specs.Text.{Symbol, Kind, blank, label, mark, kind, openBracket, closeBracket, comma, colon, stray, token, symbols, symbolsAfter, ended}
+use Rattle.trees.specs.Length.{isDigit}
 use Rattle.trees.specs.Tree.{Nodes, nil, inner, width}
-use Rattle.trees.specs.Reading.{readLength, readLabel, readClosing}
-use Rattle.text.specs.declared.Next.{Next}
-use Rattle.text.specs.declared.Next.the-variants.{End, Open, Close, Comma, Colon, Stray, Token}
-use Rattle.text.specs.declared.Read.{Read}
-use Rattle.text.specs.declared.Read.the-variants.{Past, Fault}
+use Rattle.trees.specs.Reading.{Read, readLength, readClosing}
 
 abbrev pub kindNo : Kind → ℕ
 kindNo blank = 0
@@ -29,20 +33,25 @@ kindNo (mark colon) = 5
 kindNo (mark stray) = 6
 kindNo (mark (token w)) = 7
 
+unfoldable pub kindAt : List ℕ → ℕ → ℕ
+unfolding kind
+kindAt s i = if ltb i (length s) then kindNo (kind (getD s i 0)) else 8
+
+abbrev pub NoBlank : List ℕ → ℕ → Type 0
+NoBlank s i = kindAt s i ≡ 0 → ⊥
+
+unfoldable pub hasByte : List ℕ → ℕ → ℕ → Bool
+hasByte s i b = if ltb i (length s) then eqb (getD s i 0) b else false
+
 abbrev pub symbolsAt : List ℕ → ℕ → List Symbol
 symbolsAt s i = symbols (drop i s)
-
--- e is past i and within s
-pub record Ahead (s : List ℕ) (i e : ℕ) : Type 0 where
-  pub past : i < e
-  pub within : e ≤ length s
 
 -- r is the first place from i on where no blank stands
 pub record Skipped (s : List ℕ) (i r : ℕ) : Type 0 where
   pub past : i ≤ r
   pub within : r ≤ length s
   pub tokens : symbolsAt s i ≡ symbolsAt s r
-  pub stop : r < length s → kindNo (kind (getD s r 0)) ≡ 0 → ⊥
+  pub stop : NoBlank s r
 
 -- r is the end of the token of which some bytes w stand before i
 pub record RunEnd (s : List ℕ) (i r : ℕ) : Type 0 where
@@ -50,26 +59,23 @@ pub record RunEnd (s : List ℕ) (i r : ℕ) : Type 0 where
   pub within : r ≤ length s
   pub tokens : (w : List ℕ) → symbolsAfter w (drop i s) ≡ ended (w ++ slice i r s) (symbolsAt s r)
 
-unfoldable pub Seen : List ℕ → ℕ → Next → Type 0
-Seen s i End = symbolsAt s i ≡ []
-Seen s i (Open e) = (symbolsAt s i ≡ openBracket ∷ symbolsAt s e) × Ahead s i e
-Seen s i (Close e) = (symbolsAt s i ≡ closeBracket ∷ symbolsAt s e) × Ahead s i e
-Seen s i (Comma e) = (symbolsAt s i ≡ comma ∷ symbolsAt s e) × Ahead s i e
-Seen s i (Colon e) = (symbolsAt s i ≡ colon ∷ symbolsAt s e) × Ahead s i e
-Seen s i Stray = (r : List Symbol) × (symbolsAt s i ≡ stray ∷ r)
-Seen s i (Token b e) = (symbolsAt s i ≡ token (slice b e s) ∷ symbolsAt s e) × Ahead s i e × (b < e)
+-- the bytes from i up to r are digits, and there are none where the byte before is not of the class 0, a digit
+pub record DigitsEnd (s : List ℕ) (i k r : ℕ) : Type 0 where
+  pub past : i ≤ r
+  pub within : r ≤ length s
+  pub each : (j : ℕ) → i ≤ j → j < r → (k ≡ 0) × (isDigit (getD s j 0) ≡ true)
 
--- ---- past a place, the definition goes on with the symbols from there on; at a fault it reads nothing
+-- behind a colon: the token at i is a length and ends at r, or a fault
+pub record NumberBehind (s : List ℕ) (i r : ℕ) : Type 0 where
+  pub good : r ≤ length s → ((t : Nodes) → readLength t (colon ∷ symbolsAt s i) ≡ some (t, symbolsAt s r)) × (i ≤ r)
+  pub fault : length s < r → (r ≡ length s + 1) × ((t : Nodes) → readLength t (colon ∷ symbolsAt s i) ≡ none)
 
-unfoldable pub LengthRead : List ℕ → ℕ → Read → Type 0
-LengthRead s i (Past c) = ((t : Nodes) → readLength t (symbolsAt s i) ≡ some (t, symbolsAt s (c .at))) × (i ≤ c .at) × (c .at ≤ length s)
-LengthRead s i Fault = (t : Nodes) → readLength t (symbolsAt s i) ≡ none
+-- F is what may follow the nodes t: up to r, where no blank stands, or a fault
+pub record Behind (F : Nodes → List Symbol → Read) (s : List ℕ) (i r : ℕ) : Type 0 where
+  pub good : r ≤ length s → ((t : Nodes) → F t (symbolsAt s i) ≡ some (t, symbolsAt s r)) × (i ≤ r) × NoBlank s r
+  pub fault : length s < r → (r ≡ length s + 1) × ((t : Nodes) → F t (symbolsAt s i) ≡ none)
 
-unfoldable pub LabelRead : List ℕ → ℕ → Read → Type 0
-LabelRead s i (Past c) = ((t : Nodes) → readLabel t (symbolsAt s i) ≡ some (t, symbolsAt s (c .at))) × (i ≤ c .at) × (c .at ≤ length s)
-LabelRead s i Fault = (t : Nodes) → readLabel t (symbolsAt s i) ≡ none
-
--- behind n children
-unfoldable pub ClosingRead : List ℕ → ℕ → ℕ → Read → Type 0
-ClosingRead s i n (Past c) = ((k : Nodes) → width k ≡ n → readClosing k (symbolsAt s i) ≡ some (inner k nil, symbolsAt s (c .at))) × (i < c .at) × (c .at ≤ length s)
-ClosingRead s i n Fault = (k : Nodes) → width k ≡ n → readClosing k (symbolsAt s i) ≡ none
+-- the closing bracket behind n children, and what may follow it
+pub record ClosingBehind (s : List ℕ) (i n r : ℕ) : Type 0 where
+  pub good : r ≤ length s → ((k : Nodes) → width k ≡ n → readClosing k (symbolsAt s i) ≡ some (inner k nil, symbolsAt s r)) × (i < r) × NoBlank s r
+  pub fault : length s < r → (r ≡ length s + 1) × ((k : Nodes) → width k ≡ n → readClosing k (symbolsAt s i) ≡ none)

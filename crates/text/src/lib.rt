@@ -1,37 +1,15 @@
-// What stands where in a text: its symbols one after another, and what may follow a node. Positions are byte places; a text is the
-// bytes before a semicolon. Read crate trees, specs/Text.antt, Length.antt and Reading.antt; specs/Read.antt here says what each
-// reader answers in their terms.
+// What stands where in a text, byte by byte, and what may follow a node. Positions are byte places; a text is the bytes before a
+// semicolon. Read crate trees, specs/Text.antt, Length.antt and Reading.antt; specs/Read.antt here says what each reader answers in
+// their terms.
 ghost use mathlib.Core.Path.{_≡_};
 ghost use Prim.Native.Nat.{_≤_, _<_};
 ghost use lib.ListN.{length};
 ghost use lib.Dec.{eqb};
-ghost use lib.Seq.{slice};
 ghost use Rattle.trees.specs.Text.{isBlank, isLabelByte, kind};
-ghost use Rattle.trees.specs.Length.{isLength};
-ghost use Rattle.text.specs.Read.{kindNo, Seen, Skipped, RunEnd, LengthRead, LabelRead, ClosingRead};
+ghost use Rattle.trees.specs.Length.{isDigit};
+ghost use Rattle.trees.specs.Reading.{readLength, readLabel};
+ghost use Rattle.text.specs.Read.{kindNo, kindAt, NoBlank, hasByte, Skipped, RunEnd, DigitsEnd, NumberBehind, Behind, ClosingBehind};
 ghost use Rattle.text.specs.Automaton.{byteClass, move as moveNo};
-
-// A place in a text.
-pub struct Cursor {
-    pub at: usize,
-}
-
-// The next symbol of a text: nothing, a mark and the place behind it, a byte that no tree has, or a token and its two ends.
-pub enum Next {
-    End,
-    Open(usize),
-    Close(usize),
-    Comma(usize),
-    Colon(usize),
-    Stray,
-    Token(usize, usize),
-}
-
-// What reading a part of a text comes to: the place behind it, or a fault of form.
-pub enum Read {
-    Past(Cursor),
-    Fault,
-}
 
 // The blanks: bit b for the byte b. A set and no table, as each read of a table would build the whole of it.
 const BLANKS: u64 = 0x1_0000_2600;
@@ -47,7 +25,7 @@ pub fn is_blank(b: u8) -> bool
     ensures { λ r. ⌜ r ≡ isBlank b ⌝ }
     ensures { λ r. ⌜ r ≡ eqb (kindNo (kind b)) 0 ⌝ }
 {
-    if b < 64 {
+    if b <= 32 {
         return (BLANKS >> b) % 2 == 1;
     }
     false
@@ -67,33 +45,8 @@ pub fn is_label_byte(b: u8) -> bool
     false
 }
 
-// The kind of a byte, as a number: 0 a blank, 1 a label byte, 2 ( 3 ) 4 , 5 : and 6 any other. The commonest is tested first.
-fn kind_of(b: u8) -> u8
-    ensures { λ r. ⌜ (r ≡ kindNo (kind b)) × (r < 7) ⌝ }
-{
-    if is_label_byte(b) {
-        return 1;
-    }
-    if b == 40 {
-        return 2;
-    }
-    if b == 41 {
-        return 3;
-    }
-    if b == 44 {
-        return 4;
-    }
-    if b == 58 {
-        return 5;
-    }
-    if is_blank(b) {
-        return 0;
-    }
-    6
-}
-
 // Past the blanks from `from` on.
-fn skip_blanks(text: &[u8], from: usize) -> usize
+pub fn skip_blanks(text: &[u8], from: usize) -> usize
     requires { ⌜ from ≤ length (now text) ⌝ }
     ensures { λ r. ⌜ Skipped (now (text .entry)) from r ⌝ }
 {
@@ -108,47 +61,110 @@ fn skip_blanks(text: &[u8], from: usize) -> usize
 }
 
 // Past the label bytes from `from` on.
-fn token_end(text: &[u8], from: usize) -> usize
+pub fn token_end(text: &[u8], from: usize) -> usize
     requires { ⌜ from ≤ length (now text) ⌝ }
     ensures { λ r. ⌜ RunEnd (now (text .entry)) from r ⌝ }
 {
-    let mut at = from;
-    while at < text.len() {
-        if !is_label_byte(text[at]) {
-            return at;
+    let mut end = from;
+    while end < text.len() {
+        if !is_label_byte(text[end]) {
+            return end;
         }
-        at += 1;
+        end += 1;
     }
-    at
+    end
 }
 
-// The symbol that stands at `from`, or behind the blanks there.
-pub fn next_symbol(text: &[u8], from: usize) -> Next
-    requires { ⌜ from ≤ length (now text) ⌝ }
-    ensures { λ r. ⌜ Seen (now (text .entry)) from r ⌝ }
+// Whether the byte b stands at `at`.
+pub fn has_byte(text: &[u8], at: usize, b: u8) -> bool
+    ensures { λ r. ⌜ r ≡ hasByte (now (text .entry)) at b ⌝ }
 {
-    let at = skip_blanks(text, from);
-    if at == text.len() {
-        return Next::End;
+    if at < text.len() {
+        return text[at] == b;
     }
-    let k = kind_of(text[at]);
-    let e = at + 1;
-    if k == 1 {
-        return Next::Token(at, token_end(text, e));
+    false
+}
+
+// Whether a label byte stands at `at`.
+pub fn has_label_byte(text: &[u8], at: usize) -> bool
+    ensures { λ r. ⌜ r ≡ eqb (kindAt (now (text .entry)) at) 1 ⌝ }
+{
+    if at < text.len() {
+        return is_label_byte(text[at]);
     }
-    if k == 2 {
-        return Next::Open(e);
+    false
+}
+
+// Past a colon and a length, or past the blanks where no colon stands; 1 more than the text's length for a fault of form.
+pub fn past_length(text: &[u8], from: usize) -> usize
+    requires { ⌜ from ≤ length (now text) ⌝ }
+    ensures { λ r. ⌜ Behind readLength (now (text .entry)) from r ⌝ }
+{
+    let colon = skip_blanks(text, from);
+    if !has_byte(text, colon, b':') {
+        return colon;
     }
-    if k == 3 {
-        return Next::Close(e);
+    let b = skip_blanks(text, colon + 1);
+    let e = past_number(text, b);
+    if text.len() < e {
+        return e;
     }
-    if k == 4 {
-        return Next::Comma(e);
+    skip_blanks(text, e)
+}
+
+// Past the token at `from`, if it is a length; 1 more than the text's length if not. Digits, the most of a length, are passed in runs.
+fn past_number(text: &[u8], from: usize) -> usize
+    requires { ⌜ (from ≤ length (now text)) × NoBlank (now text) from ⌝ }
+    ensures { λ r. ⌜ NumberBehind (now (text .entry)) from r ⌝ }
+{
+    let mut q = 0u8;
+    let mut i = from;
+    loop {
+        if !has_label_byte(text, i) {
+            break;
+        }
+        let k = class_of(text[i]);
+        q = move_of(q, k);
+        i = past_digits(text, i + 1, k);
     }
-    if k == 5 {
-        return Next::Colon(e);
+    if q == 2 {
+        return i;
     }
-    Next::Stray
+    if q == 4 {
+        return i;
+    }
+    if q == 7 {
+        return i;
+    }
+    text.len() + 1
+}
+
+// Past the digits from `from` on, where the byte before is of the class 0, a digit.
+fn past_digits(text: &[u8], from: usize, k: u8) -> usize
+    requires { ⌜ from ≤ length (now text) ⌝ }
+    ensures { λ r. ⌜ DigitsEnd (now (text .entry)) from k r ⌝ }
+{
+    if k != 0 {
+        return from;
+    }
+    let mut d = from;
+    while d < text.len() {
+        if !is_digit(text[d]) {
+            return d;
+        }
+        d += 1;
+    }
+    d
+}
+
+// Whether b is a digit.
+fn is_digit(b: u8) -> bool
+    ensures { λ r. ⌜ r ≡ isDigit b ⌝ }
+{
+    if b < 48 {
+        return false;
+    }
+    b < 58
 }
 
 // The class of a byte in a length: 0 a digit, 1 a sign, 2 the point, 3 e or E, 4 any other.
@@ -217,79 +233,28 @@ fn move_of(q: u8, k: u8) -> u8
     8
 }
 
-// Whether the token from b up to e is a length.
-fn is_length(text: &[u8], b: usize, e: usize) -> bool
-    requires { ⌜ (b ≤ e) × (e ≤ length (now text)) ⌝ }
-    ensures { λ r. ⌜ r ≡ isLength (slice b e (now (text .entry))) ⌝ }
+// Past a label or nothing, then a colon and a length or nothing; 1 more than the text's length for a fault of form.
+fn past_label(text: &[u8], from: usize) -> usize
+    requires { ⌜ from ≤ length (now text) ⌝ }
+    ensures { λ r. ⌜ Behind readLabel (now (text .entry)) from r ⌝ }
 {
-    let mut q = 0u8;
-    let mut i = b;
-    while i < e {
-        q = move_of(q, class_of(text[i]));
-        i += 1;
+    let at = skip_blanks(text, from);
+    if has_label_byte(text, at) {
+        return past_length(text, token_end(text, at + 1));
     }
-    if q == 2 {
-        return true;
-    }
-    if q == 4 {
-        return true;
-    }
-    q == 7
+    past_length(text, at)
 }
 
-// A colon and a length, or nothing.
-pub fn read_length(text: &[u8], c: Cursor) -> Read
-    requires { ⌜ c .at ≤ length (now text) ⌝ }
-    ensures { λ r. ⌜ LengthRead (now (text .entry)) (c .at) r ⌝ }
+// Past the closing bracket behind n children, and what may follow it; 1 more than the text's length for a fault of form.
+pub fn past_closing(text: &[u8], at: usize, n: usize) -> usize
+    requires { ⌜ NoBlank (now text) at ⌝ }
+    ensures { λ r. ⌜ ClosingBehind (now (text .entry)) at n r ⌝ }
 {
-    let at = c.at;
-    let t = next_symbol(text, at);
-    match t {
-        Next::Colon(e) => {
-            let w = next_symbol(text, e);
-            match w {
-                Next::Token(b, f) => {
-                    if is_length(text, b, f) {
-                        Read::Past(Cursor { at: f })
-                    } else {
-                        Read::Fault
-                    }
-                }
-                _ => Read::Fault,
-            }
-        }
-        _ => Read::Past(c),
+    if !has_byte(text, at, b')') {
+        return text.len() + 1;
     }
-}
-
-// A label or nothing, then a colon and a length or nothing.
-fn read_label(text: &[u8], c: Cursor) -> Read
-    requires { ⌜ c .at ≤ length (now text) ⌝ }
-    ensures { λ r. ⌜ LabelRead (now (text .entry)) (c .at) r ⌝ }
-{
-    let at = c.at;
-    let t = next_symbol(text, at);
-    match t {
-        Next::Token(_, e) => read_length(text, Cursor { at: e }),
-        _ => read_length(text, c),
+    if n < 2 {
+        return text.len() + 1;
     }
-}
-
-// The closing bracket behind n children, and what may follow it.
-pub fn read_closing(text: &[u8], c: Cursor, n: usize) -> Read
-    requires { ⌜ c .at ≤ length (now text) ⌝ }
-    ensures { λ r. ⌜ ClosingRead (now (text .entry)) (c .at) n r ⌝ }
-{
-    let at = c.at;
-    let t = next_symbol(text, at);
-    match t {
-        Next::Close(e) => {
-            if 2 <= n {
-                read_label(text, Cursor { at: e })
-            } else {
-                Read::Fault
-            }
-        }
-        _ => Read::Fault,
-    }
+    past_label(text, at + 1)
 }

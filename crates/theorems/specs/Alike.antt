@@ -13,7 +13,7 @@ use mathlib.Core.List.{List}
 use lib.ListN.{length}
 use Rattle.trees.specs.Opening.{Numbers}
 use Rattle.trees.specs.Held.{Held, laneOf, Fed, Closed}
-use Rattle.trees.specs.Questions.{treesHeld, splitsHeld, splitList, splitNumber, treeNumber, oneSidedOf, doubledOf, matrixOf, strictOf, majorityOf, writtenOf}
+use Rattle.trees.specs.Questions.{treesHeld, splitsHeld, splitList, splitNumber, treeNumber, oneSidedOf, doubledOf, matrixOf, strictOf, majorityOf, bothOf, writtenOf}
 use Rattle.trees.specs.Runs.{Call, answers, ending}
 
 -- ---- collections
@@ -60,6 +60,7 @@ pub record SameAnswers (h k : Held) : Type 0 where
   pub matrix : (room : ℕ) → matrixOf h room ≡ matrixOf k room
   pub strict : (room : ℕ) → strictOf h room ≡ strictOf k room
   pub majority : (room : ℕ) → majorityOf h room ≡ majorityOf k room
+  pub both : (strictRoom majorityRoom : ℕ) → bothOf h strictRoom majorityRoom ≡ bothOf k strictRoom majorityRoom
   pub written : (i room : ℕ) → writtenOf h i room ≡ writtenOf k i room
 
 -- two runs of the calls cs that nobody can tell apart, save by the collision number

@@ -14,7 +14,7 @@ use Rattle.trees.specs.Plain.{if_then_else_, keep, member, Answer, refused, giv
 use Rattle.trees.specs.Consensus.{recorded}
 use Rattle.trees.specs.Verdict.{judged}
 use Rattle.trees.specs.Held.{Held, Lane, holding, overrun, laneOf, withLane, withTree, longer, newSplits, roomFor, withRoom, verdict, accepted, beforeSemicolon, finished, recording, finishing, feeding, Closed, closed, closing}
-use Rattle.trees.specs.Questions.{treesHeld, splitsHeld, splitList, splitNumber, treeNumber, oneSidedOf, doubledOf, matrixOf, strictOf, majorityOf, writtenOf}
+use Rattle.trees.specs.Questions.{treesHeld, splitsHeld, splitList, splitNumber, treeNumber, oneSidedOf, doubledOf, matrixOf, strictOf, majorityOf, bothOf, writtenOf}
 use Rattle.theorems.specs.WrittenFedLaws.{feedingBy, feeding-by}
 use Rattle.theorems.specs.Alike.{Alike, SameFed, SameClosed, SameAnswers}
 
@@ -107,7 +107,7 @@ abbrev bare : List (List ℕ) → List (List ℕ) → Held
 bare ns ts = record { opening = record { numbers = record { taxa = 0; lanes = 0; treeRoom = 0; splitRoom = 0; places = 0 }; names = ns; first = []; second = [] }; trees = ts; texts = [] }
 
 pub questions-alike : (h k : Held) → Alike h k → SameAnswers h k
-unfolding treesHeld splitsHeld splitList splitNumber treeNumber oneSidedOf doubledOf matrixOf strictOf majorityOf writtenOf
+unfolding treesHeld splitsHeld splitList splitNumber treeNumber oneSidedOf doubledOf matrixOf strictOf majorityOf bothOf writtenOf
 questions-alike h k a =
     record {
       number-of-trees = λ z. treesHeld (bare (a .names z) (a .trees z));
@@ -120,5 +120,6 @@ questions-alike h k a =
       matrix = λ r z. matrixOf (bare (a .names z) (a .trees z)) r;
       strict = λ r z. strictOf (bare (a .names z) (a .trees z)) r;
       majority = λ r z. majorityOf (bare (a .names z) (a .trees z)) r;
+      both = λ r q z. bothOf (bare (a .names z) (a .trees z)) r q;
       written = λ i r z. writtenOf (bare (a .names z) (a .trees z)) i r;
     }

@@ -123,13 +123,6 @@ pub side-odd : (n m : ℕ) → On m 0 → side n m ≡ everyTaxon n - m
 unfolding side
 side-odd n m h = if-true (everyTaxon n - m) m (eq-eqb (m % 2) 1 (first-on m h))
 
-pub side-sub : (n m : ℕ) → Sub m (everyTaxon n) → Sub (side n m) (everyTaxon n)
-side-sub n m h = go (on? m 0)
-  where
-    go : (On m 0 → ⊥) ⊎ On m 0 → Sub (side n m) (everyTaxon n)
-    go (inl f) = subst (λ (z : ℕ). Sub z (everyTaxon n)) (sym (side-even n m f)) h
-    go (inr o) = subst (λ (z : ℕ). Sub z (everyTaxon n)) (sym (side-odd n m o)) (λ i k. on-others (everyTaxon n) m h i k .0)
-
 -- the sides of two clusters that agree agree
 module _ (n x y : ℕ) (hx : Sub x (everyTaxon n)) (hy : Sub y (everyTaxon n)) where
   -- y has taxon 0 and x has not: the other side of y

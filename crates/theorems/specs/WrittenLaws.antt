@@ -6,7 +6,6 @@
 --   written-before-semicolon   so what is written, up to its semicolon, is what is shown
 --   written-short              35 bytes for each of n taxa, less 4, are enough
 --   written-length             so at most 2,236 bytes are written
---   same-splits                good lists of splits with the same members are one list
 use Prim.Native.Nat.{ℕ, zero, suc, _+_, _*_, _≤_, _<_}
 use native.Mathlib.Omega.{arith}
 use mathlib.Core.Path.{_≡_, refl, ap, sym, _∙_, subst}
@@ -17,7 +16,7 @@ use mathlib.Core.Option.{none, some}
 use lib.Count.{ones}
 use lib.ListN.{length, length-append}
 use borrow.Author.Tests.{eq-eqb, ne-eqb}
-use Rattle.trees.specs.Plain.{member, Answer, refused, gives}
+use Rattle.trees.specs.Plain.{Answer, refused, gives}
 use Rattle.trees.specs.Mask.{everyTaxon, side, proper}
 use Rattle.trees.specs.Tree.{Nodes, nil, inner, children, leaves, width}
 use Rattle.trees.specs.Reading.{reading}
@@ -28,7 +27,7 @@ use Rattle.trees.specs.Consensus.{strict, majority}
 use Rattle.trees.specs.Written.{branches, treeOf, shown, parted, written}
 use Rattle.trees.specs.Held.{beforeSemicolon}
 use Rattle.trees.specs.Whole.{goodTree}
-use Rattle.theorems.specs.ListLaws.{if-true, if-false, Mem, mem-member, member-mem}
+use Rattle.theorems.specs.ListLaws.{if-true, if-false, Mem}
 use Rattle.theorems.specs.RisingLaws.{rising-true, rising-same}
 use Rattle.theorems.specs.BitLaws.{On, off-zero, sub-le}
 use Rattle.theorems.specs.OnesLaws.{ones-lt}
@@ -164,11 +163,3 @@ module _ (n : ℕ) (ns : List (List ℕ)) (ts : List (List ℕ)) (names : goodNa
 
   pub strict-tree-splits : splitsOf ns (treeOf ns (strict ts)) ≡ strict ts
   strict-tree-splits = tree-has-splits n ns (strict ts) names (strict-good n ts all)
-
--- ---- equal sets of splits are written the same
-
-module _ (n : ℕ) (s u : List ℕ) (p : goodTree n s ≡ true) (q : goodTree n u ≡ true) (same : (m : ℕ) → member m s ≡ member m u) where
-  pub same-splits : s ≡ u
-  same-splits =
-      rising-same s u (rising-true s (good-rising n s p)) (rising-true u (good-rising n u q)) (λ y h. member-mem y u (sym (same y) ∙ mem-member y s h))
-      (λ y h. member-mem y s (same y ∙ mem-member y u h))

@@ -1,5 +1,6 @@
 // What the calls answer, in a few numbers and the two consensus trees.
 use crate::opened;
+use answers::Both;
 use answers::Lane;
 use answers::Number;
 use libc::STDOUT_FILENO;
@@ -9,24 +10,27 @@ pub(crate) fn write_answers(
     names: &[u8],
     texts: &[u8],
     s: &mut [u8; 253960],
-    verdicts: &mut [u32; 2048],
     matrix: &mut [u16; 1048576],
-    strict: &mut [u8; 4096],
-    majority: &mut [u8; 4096],
 ) {
     opened::open(s, names);
-    write_batch(s, texts, verdicts);
+    write_batch(s, texts);
     write_matrix(s, matrix);
-    write_consensus(s, strict, majority);
+    write_consensus(s);
 }
 
 // How many texts, trees and splits there are, and the verdicts.
-fn write_batch(s: &mut [u8], texts: &[u8], verdicts: &mut [u32]) {
-    let n = given(feeding::batch(s, Lane(0), texts, verdicts));
+fn write_batch(s: &mut [u8], texts: &[u8]) {
+    let mut verdicts = [0u32; 2048];
+    let n = given(feeding::batch(s, Lane(0), texts, &mut verdicts));
     write_number(b"texts ", n as u64);
+    write_counts(s);
+    write_number(b"verdicts ", verdict_sum(&verdicts, n));
+}
+
+// How many trees and splits there are.
+fn write_counts(s: &[u8]) {
     write_number(b"trees ", given(table::tree_count(s)) as u64);
     write_number(b"splits ", given(table::split_count(s)) as u64);
-    write_number(b"verdicts ", verdict_sum(verdicts, n));
 }
 
 // All distances.
@@ -36,11 +40,15 @@ fn write_matrix(s: &[u8], matrix: &mut [u16]) {
 }
 
 // Both consensus trees.
-fn write_consensus(s: &[u8], strict: &mut [u8], majority: &mut [u8]) {
-    let a = given(consensus::strict(s, strict));
-    write_text(b"strict ", strict, a);
-    let b = given(consensus::majority(s, majority));
-    write_text(b"majority ", majority, b);
+fn write_consensus(s: &[u8]) {
+    let mut strict = [0u8; 4096];
+    let mut majority = [0u8; 4096];
+    let lengths = consensus::both(s, &mut strict, &mut majority);
+    let Both::Gives(a, b) = lengths else {
+        return;
+    };
+    write_text(b"strict ", &strict, a);
+    write_text(b"majority ", &majority, b);
 }
 
 // The number that a call gives; 0 where it refuses.

@@ -3,11 +3,12 @@ use words::Number;
 ghost use Prim.Native.Nat.{_≤_};
 ghost use lib.ListN.{length};
 
-// Where the byte b comes first: at the end, where it does not come.
-pub(crate) fn place_of(b: u8, input: &[u8]) -> usize
-    ensures { λ r. ⌜ r ≤ length (now (input .entry)) ⌝ }
+// Where the byte b comes first, from `from` on: at the end, where it does not come.
+pub(crate) fn place_of(b: u8, input: &[u8], from: usize) -> usize
+    requires { ⌜ from ≤ length (now input) ⌝ }
+    ensures { λ r. ⌜ (from ≤ r) × (r ≤ length (now (input .entry))) ⌝ }
 {
-    let mut i = 0;
+    let mut i = from;
     while i < input.len() {
         if input[i] == b {
             return i;
@@ -17,21 +18,25 @@ pub(crate) fn place_of(b: u8, input: &[u8]) -> usize
     i
 }
 
-// How many rounds a line `times R` asks for, at most 1,000; any other line asks for none.
-pub(crate) fn rounds_in(line: &[u8]) -> u64
-    ensures { λ r. ⌜ r ≤ 1000 ⌝ }
-{
-    if line.len() < 6 {
+// How many times a line `PART N` asks for; any other line asks for none.
+pub(crate) fn times_in(line: &[u8]) -> u64 {
+    let b = place_of(32, line, 0);
+    if b == line.len() {
         return 0;
     }
-    let x = words::decimal(line, 6, line.len());
-    let Number::Is(rounds) = x else {
+    let x = words::decimal(line, b + 1, line.len());
+    let Number::Is(n) = x else {
         return 0;
     };
-    if 1000 < rounds {
+    n
+}
+
+// The first byte of a line, which names a part; 0 where there is none.
+pub(crate) fn first_byte(line: &[u8]) -> u8 {
+    if line.len() == 0 {
         return 0;
     }
-    rounds
+    line[0]
 }
 
 // How many names a line of names has, one more than its spaces; 65 stands for any number above 64.

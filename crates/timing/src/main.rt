@@ -1,7 +1,6 @@
-// Times the library's calls on a whole collection, for bench/run. Input: a line `answers`, or `times` and how many rounds, a line of
-// names, then texts. Writes what the calls answered and, for `times`, before it a line for each round: nanoseconds a call.
-ghost use Prim.Native.Nat.{_≤_};
-
+// Makes the library's calls on a whole collection, for bench/run. Input: a line that says what is wanted, a line of names, then texts.
+// For the line `answers` every call is made once, and what they answered is written. For a line `PART N` the collection is filled, a part
+// is made N times, and the nanoseconds of one time are written. docs/BENCH.md says what the parts are.
 mod answered;
 mod clock;
 mod lines;
@@ -9,12 +8,12 @@ mod opened;
 mod parts;
 
 fn main() {
-    let mut input = [0u8; 2097152];
+    let mut input = [0u8; 4194304];
     take_input(&mut input);
 }
 
 // Takes standard input, as much as the buffer holds.
-fn take_input(input: &mut [u8; 2097152]) {
+fn take_input(input: &mut [u8; 4194304]) {
     let n = io::read_full(libc::STDIN_FILENO, input);
     take_bytes(input, n);
 }
@@ -27,52 +26,33 @@ fn take_bytes(input: &[u8], n: usize) {
     take_lines(&input[..n]);
 }
 
-// Takes the line that says what is wanted, the line of names, and the texts behind them.
+// Takes the line that says what is wanted.
 fn take_lines(input: &[u8]) {
-    let e = lines::place_of(10, input);
+    let e = lines::place_of(10, input, 0);
     if e == input.len() {
         return;
     }
-    take_names(lines::rounds_in(&input[..e]), &input[e + 1..]);
+    take_names(&input[..e], &input[e + 1..]);
 }
 
-// Takes the line of names and the texts behind it, for so many rounds.
-fn take_names(rounds: u64, input: &[u8])
-    requires { ⌜ rounds ≤ 1000 ⌝ }
-{
-    let e = lines::place_of(10, input);
+// Takes the line of names and the texts behind it.
+fn take_names(wanted: &[u8], input: &[u8]) {
+    let e = lines::place_of(10, input, 0);
     if e == input.len() {
         return;
     }
-    make_calls(rounds, &input[..e], &input[e + 1..]);
+    make_calls(wanted, &input[..e], &input[e + 1..]);
 }
 
-// Makes the calls: in so many rounds, whose times are written, and once for their answers.
-fn make_calls(rounds: u64, names: &[u8], texts: &[u8])
-    requires { ⌜ rounds ≤ 1000 ⌝ }
-{
+// Makes the calls that are wanted.
+fn make_calls(wanted: &[u8], names: &[u8], texts: &[u8]) {
     let mut store = [0u8; 253960];
-    let mut verdicts = [0u32; 2048];
     let mut matrix = [0u16; 1048576];
-    let mut strict = [0u8; 4096];
-    let mut majority = [0u8; 4096];
-    parts::rounds(
-        rounds,
-        names,
-        texts,
-        &mut store,
-        &mut verdicts,
-        &mut matrix,
-        &mut strict,
-        &mut majority,
-    );
-    answered::write_answers(
-        names,
-        texts,
-        &mut store,
-        &mut verdicts,
-        &mut matrix,
-        &mut strict,
-        &mut majority,
-    );
+    let part = lines::first_byte(wanted);
+    if part == b'a' {
+        answered::write_answers(names, texts, &mut store, &mut matrix);
+        return;
+    }
+    let n = lines::times_in(wanted);
+    clock::write_time(parts::time_part(part, n, names, texts, &mut store, &mut matrix));
 }

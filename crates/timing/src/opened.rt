@@ -1,6 +1,28 @@
 // The collection that is timed: one lane, room for 1,024 trees and 4,096 splits, 8,192 places, constants that jump about. Its
 // store has 253,960 bytes.
 use crate::lines;
+use answers::Lane;
+
+// Opens the collection and takes every text, in one call.
+pub(crate) fn fill(s: &mut [u8], names: &[u8], texts: &[u8]) {
+    let mut verdicts = [0u32; 2048];
+    open(s, names);
+    feeding::batch(s, Lane(0), texts, &mut verdicts);
+}
+
+// Opens the collection and takes each text by a call of its own.
+pub(crate) fn fill_singly(s: &mut [u8], names: &[u8], texts: &[u8]) {
+    open(s, names);
+    let mut b = 0;
+    while b < texts.len() {
+        let e = lines::place_of(59, texts, b);
+        if e == texts.len() {
+            return;
+        }
+        feeding::feed(s, Lane(0), &texts[b..e + 1]);
+        b = e + 1;
+    }
+}
 
 // Opens the collection in the store.
 pub(crate) fn open(s: &mut [u8], names: &[u8]) {
@@ -40,9 +62,9 @@ fn next(x: u64) -> u64 {
     x % 2147483647 * 48271 % 2147483647
 }
 
-// The first text, with its semicolon.
+// The first text, with its semicolon; all that is left, where there is no semicolon.
 pub(crate) fn first_text(texts: &[u8]) -> &[u8] {
-    let n = lines::place_of(59, texts);
+    let n = lines::place_of(59, texts, 0);
     if n == texts.len() {
         return texts;
     }

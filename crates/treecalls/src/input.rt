@@ -1,31 +1,25 @@
-// The lines of the input, as their bytes come.
+// The lines of standard input, as their bytes come.
 use crate::State;
-use crate::answer_lines;
-use crate::calls;
 use crate::output;
+use crate::parts;
+use crate::parts::NO_PART;
+use crate::parts::Part;
+ghost use Prim.Native.Nat.{_≤_};
+ghost use lib.ListN.{length};
 
-// Answers standard input: all its lines, and what stands behind the last line's end.
-pub(crate) fn answer_all(line: &mut [u8], memory: &mut [u8], out: &mut [u8]) {
-    let state = State {
-        used: 0,
-        is_long: false,
-        has_ended: false,
-        lent: 0,
-        room: usize::MAX,
-        waiting: 0,
-        is_good: true,
-    };
-    let ended = take_all(line, memory, out, state);
-    let last = take_last(line, memory, out, ended);
-    output::flush(out, last);
-}
+// The most bytes that are read at once.
+const CHUNK: usize = 65536;
 
-// Takes standard input up to its end, or until a write fails. The turns are so many that no run uses them up.
-fn take_all(line: &mut [u8], memory: &mut [u8], out: &mut [u8], from: State) -> State {
-    let mut state = from;
+// The state at the next line, which is whole, unless the input has ended without one. The turns are so many that no run uses them up.
+pub(crate) fn next_line(input: &mut [u8], out: &[u8], before: State) -> State {
+    let mut state = passed(before);
     let mut turns = u64::MAX;
     while turns > 0 {
-        state = take_some(line, memory, out, state);
+        state = look(input, state);
+        if state.is_line {
+            return state;
+        }
+        state = more(input, out, state);
         if state.has_ended {
             return state;
         }
@@ -34,75 +28,102 @@ fn take_all(line: &mut [u8], memory: &mut [u8], out: &mut [u8], from: State) -> 
     state
 }
 
-// Writes the answers that wait, reads once, and takes what came.
-fn take_some(line: &mut [u8], memory: &mut [u8], out: &mut [u8], from: State) -> State {
-    let mut state = output::flush(out, from);
-    if !state.is_good {
-        state.has_ended = true;
-        return state;
-    }
-    let mut chunk = io::large_buffer();
-    let got = libc::read(libc::STDIN_FILENO, &mut chunk);
-    let n = io::count(got, &chunk);
-    if n == 0 {
-        state.has_ended = true;
-        return state;
-    }
-    take_chunk(&chunk[..n], line, memory, out, state)
-}
-
-// Takes the bytes of a chunk, one after another.
-fn take_chunk(
-    chunk: &[u8],
-    line: &mut [u8],
-    memory: &mut [u8],
-    out: &mut [u8],
-    from: State,
-) -> State {
-    let mut state = from;
-    let mut i = 0;
-    while i < chunk.len() {
-        state = take_byte(chunk[i], line, memory, out, state);
-        i += 1;
-    }
-    state
-}
-
-// A byte of a line, or its end. Bytes that the buffer has no place for are dropped, and the line is a bad one.
-fn take_byte(b: u8, line: &mut [u8], memory: &mut [u8], out: &mut [u8], state: State) -> State {
-    if b == 10 {
-        return end_line(line, memory, out, state);
-    }
-    let used = state.used;
+// Goes past the line that was answered, and past its end.
+fn passed(state: State) -> State {
     let mut next = state;
-    if used < line.len() {
-        line[used] = b;
-        next.used = used + 1;
-    } else {
-        next.is_long = true;
+    if state.is_line {
+        next.from = if state.end < state.to {
+            state.end + 1
+        } else {
+            state.to
+        };
+        next.end = next.from;
+        next.is_line = false;
+        next.is_long = false;
     }
     next
 }
 
-// What stands behind the last line's end is a line too.
-fn take_last(line: &mut [u8], memory: &mut [u8], out: &mut [u8], state: State) -> State {
-    if state.used == 0 {
-        return state;
-    }
-    end_line(line, memory, out, state)
+// Looks on for the end of the line.
+fn look(input: &[u8], state: State) -> State {
+    let to = parts::least(state.to, input.len());
+    let from = parts::least(state.end, to);
+    let end = parts::find(input, from, to, 10);
+    let mut next = state;
+    next.end = end;
+    next.is_line = end < to;
+    next
 }
 
-// The end of a line: answers it.
-fn end_line(line: &mut [u8], memory: &mut [u8], out: &mut [u8], state: State) -> State {
-    let used = state.used;
+// Writes the answers that wait, and reads once.
+fn more(input: &mut [u8], out: &[u8], before: State) -> State {
+    let mut state = output::flush(out, before);
+    if !state.is_good {
+        state.has_ended = true;
+        return state;
+    }
+    state = with_place(input, state);
+    let at = parts::least(state.to, input.len());
+    let to = at + parts::least(CHUNK, input.len() - at);
+    read(&mut input[at..to], state)
+}
+
+// Moves what is there of the line to the front, if that is nothing or fills the buffer up to its end. A line that fills all of the buffer
+// is too long, and its bytes are dropped.
+fn with_place(input: &mut [u8], state: State) -> State {
+    let to = parts::least(state.to, input.len());
+    let from = parts::least(state.from, to);
+    let n = to - from;
     let mut next = state;
-    next.used = 0;
-    next.is_long = false;
+    if n > 0 {
+        if to < input.len() {
+            return state;
+        }
+        if from == 0 {
+            next.is_long = true;
+            return at_front(next, 0);
+        }
+    }
+    fields::copy_within(input, from, 0, n);
+    at_front(next, n)
+}
+
+// The state with n bytes of the line at the front, in which no end was found.
+fn at_front(state: State, n: usize) -> State {
+    let mut next = state;
+    next.from = 0;
+    next.end = n;
+    next.to = n;
+    next
+}
+
+// Reads once. At the end of the input, what stands behind the last line's end is a line too.
+fn read(buf: &mut [u8], state: State) -> State {
+    let got = libc::read(libc::STDIN_FILENO, buf);
+    let n = io::count(got, buf);
+    let mut next = state;
+    if n > 0 {
+        next.to = std::num::wrapping_add_usize(state.to, n);
+        return next;
+    }
+    next.has_ended = true;
+    if got < 0 {
+        io::write_all(libc::STDERR_FILENO, b"treecalls: reading failed\n");
+        next.is_good = false;
+        return next;
+    }
+    next.is_line = state.is_long || state.from < state.to;
+    next
+}
+
+// The line of a state; one that is too long is empty, which is no call either.
+pub(crate) fn line_of(input: &[u8], state: State) -> Part
+    ensures { λ r. ⌜ (r .from ≤ r .to) × (r .to ≤ length (now (input .entry))) ⌝ }
+{
     if state.is_long {
-        return answer_lines::bad_line(out, next);
+        return NO_PART;
     }
-    if line.len() < used {
-        return answer_lines::bad_line(out, next);
-    }
-    calls::answer(&mut line[..used], memory, out, next)
+    let to = parts::least(state.end, input.len());
+    let from = parts::least(state.from, to);
+    Part { from, to }
 }

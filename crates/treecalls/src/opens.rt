@@ -1,66 +1,32 @@
 // `size` and `open`.
-use crate::State;
-use crate::answer_lines;
-use crate::memory;
 use crate::parse;
-use crate::parse::Bounds;
-use crate::parse::Count;
-use words::Number;
+use crate::parse::Call;
+use crate::replies;
+use crate::replies::Reply;
+use answers::Number;
 
 // The five numbers of an opening.
-pub struct Sizes {
-    pub is_good: bool,
+pub(crate) struct Sizes {
     pub taxa: u32,
     pub lanes: u32,
-    pub tree_room: u32,
-    pub split_room: u32,
+    pub trees: u32,
+    pub splits: u32,
     pub places: u32,
 }
 
-// What stands for five words of which one is no number.
-const NO_SIZES: Sizes = Sizes {
-    is_good: false,
-    taxa: 0,
-    lanes: 0,
-    tree_room: 0,
-    split_room: 0,
-    places: 0,
-};
-
-// The words 1 to 5 of the line as the numbers of an opening.
-fn sizes_of(line: &[u8], bounds: Bounds) -> Sizes {
-    let word = parse::number(line, bounds, 1);
-    let Number::Is(taxa) = word else {
-        return NO_SIZES;
-    };
-    let word = parse::number(line, bounds, 2);
-    let Number::Is(lanes) = word else {
-        return NO_SIZES;
-    };
-    let word = parse::number(line, bounds, 3);
-    let Number::Is(tree_room) = word else {
-        return NO_SIZES;
-    };
-    let word = parse::number(line, bounds, 4);
-    let Number::Is(split_room) = word else {
-        return NO_SIZES;
-    };
-    let word = parse::number(line, bounds, 5);
-    let Number::Is(places) = word else {
-        return NO_SIZES;
-    };
+// The numbers of a call as those of an opening.
+fn sizes_of(call: Call) -> Sizes {
     Sizes {
-        is_good: true,
-        taxa: in_32_bits(taxa),
-        lanes: in_32_bits(lanes),
-        tree_room: in_32_bits(tree_room),
-        split_room: in_32_bits(split_room),
-        places: in_32_bits(places),
+        taxa: in_32_bits(call.a),
+        lanes: in_32_bits(call.b),
+        trees: in_32_bits(call.c),
+        splits: in_32_bits(call.d),
+        places: in_32_bits(call.e),
     }
 }
 
 // The number in 32 bits. For a larger one stands the largest: it is out of range too, and so refused with the same number.
-fn in_32_bits(x: u64) -> u32 {
+fn in_32_bits(x: usize) -> u32 {
     if 4294967295 < x {
         return 4294967295;
     }
@@ -68,83 +34,56 @@ fn in_32_bits(x: u64) -> u32 {
 }
 
 // `size N LANES TREES SPLITS PLACES`.
-pub(crate) fn size(line: &[u8], bounds: Bounds, out: &mut [u8], state: State) -> State {
-    let n = sizes_of(line, bounds);
-    if !n.is_good {
-        return answer_lines::bad_line(out, state);
-    }
-    let answer = table::size(n.taxa, n.lanes, n.tree_room, n.split_room, n.places);
-    answer_lines::number(out, b"bytes ", answer, state)
+pub(crate) fn size(call: Call) -> Number {
+    let n = sizes_of(call);
+    table::size(n.taxa, n.lanes, n.trees, n.splits, n.places)
 }
 
-// `open N LANES TREES SPLITS PLACES NAMES LIST LIST`. A list is kept up to its 65th number: then it is too long for any
-// number of taxa, and is refused for that.
-pub(crate) fn open(
-    line: &mut [u8],
-    bounds: Bounds,
-    lent: &mut [u8],
-    out: &mut [u8],
-    state: State,
-) -> State {
+// `open N LANES TREES SPLITS PLACES NAMES LIST LIST`. A list is kept up to its 65th number: then it is too long for any number of taxa,
+// and is refused for that.
+pub(crate) fn open(line: &[u8], lent: &mut [u8], call: Call) -> Reply {
     let mut first = [0u64; 65];
     let mut second = [0u64; 65];
-    open_by(line, bounds, &mut first, &mut second, lent, out, state)
+    let k = parse::list(line, call, 1, &mut first);
+    let m = parse::list(line, call, 2, &mut second);
+    open_with(line, lent, call, &first, k, &second, m)
 }
 
-// `open`, by way of these buffers.
-fn open_by(
-    line: &mut [u8],
-    bounds: Bounds,
-    first: &mut [u64],
-    second: &mut [u64],
-    lent: &mut [u8],
-    out: &mut [u8],
-    state: State,
-) -> State {
-    let n = sizes_of(line, bounds);
-    if !n.is_good {
-        return answer_lines::bad_line(out, state);
-    }
-    let count = parse::list(line, bounds, 7, first);
-    let Count::Is(k) = count else {
-        return answer_lines::bad_line(out, state);
-    };
-    let count = parse::list(line, bounds, 8, second);
-    let Count::Is(m) = count else {
-        return answer_lines::bad_line(out, state);
-    };
-    let k = memory::least(k, first.len());
-    let m = memory::least(m, second.len());
-    open_with(line, bounds, n, &first[..k], &second[..m], lent, out, state)
-}
-
-// The opening with these numbers and lists.
+// The opening with k numbers of one list and m of the other, if these are lists.
 fn open_with(
-    line: &mut [u8],
-    bounds: Bounds,
-    n: Sizes,
-    first: &[u64],
-    second: &[u64],
+    line: &[u8],
     lent: &mut [u8],
-    out: &mut [u8],
-    state: State,
-) -> State {
-    let names = parse::bytes(line, bounds, 6);
-    if !names.is_good {
-        return answer_lines::bad_line(out, state);
+    call: Call,
+    first: &[u64],
+    k: usize,
+    second: &[u64],
+    m: usize,
+) -> Reply {
+    if first.len() < k {
+        return replies::bad_line();
     }
+    if second.len() < m {
+        return replies::bad_line();
+    }
+    let names = parse::bytes_of(line, call);
     let from = names.from;
     let to = names.to;
+    open_named(lent, call, &line[from..to], &first[..k], &second[..m])
+}
+
+// The opening with these names and constants.
+fn open_named(lent: &mut [u8], call: Call, names: &[u8], first: &[u64], second: &[u64]) -> Reply {
+    let n = sizes_of(call);
     let answer = table::open(
         lent,
         n.taxa,
         n.lanes,
-        n.tree_room,
-        n.split_room,
+        n.trees,
+        n.splits,
         n.places,
-        &line[from..to],
+        names,
         first,
         second,
     );
-    answer_lines::finish(out, answer, state)
+    replies::finish(answer)
 }

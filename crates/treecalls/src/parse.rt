@@ -1,225 +1,218 @@
-// The words of a line: names, numbers, bytes in hex and lists of numbers.
+// The words of a line: the call's word, numbers, bytes in hex and lists of numbers.
+use crate::kinds;
+use crate::parts;
+use crate::parts::NO_PART;
+use crate::parts::Part;
 use words::Number;
 ghost use Prim.Native.Nat.{_≤_};
 ghost use lib.ListN.{length};
 
-// Where the words of a line begin and end; of more than nine, only that there are more.
-pub struct Bounds {
-    pub count: usize,
-    pub from: [usize; 9],
-    pub to: [usize; 9],
-}
-
-// A part of a line.
-pub struct Part {
-    pub is_good: bool,
+// A line: its call, the numbers that follow, where the bytes stand that do, and where their word ended.
+pub(crate) struct Call {
+    pub kind: usize,
+    pub a: usize,
+    pub b: usize,
+    pub c: usize,
+    pub d: usize,
+    pub e: usize,
     pub from: usize,
     pub to: usize,
+    pub rest: usize,
 }
 
-// The part of a word that is not what it should be.
-const NO_PART: Part = Part {
-    is_good: false,
-    from: 0,
-    to: 0,
-};
+// What stands for the length of a list that is none.
+const NO_LIST: usize = usize::MAX;
 
-// How many elements a word has, or that it is no such word.
-pub enum Count {
-    Is(usize),
-    Nothing,
-}
-
-// The words of a line, parted by one space.
-pub(crate) fn split(line: &[u8]) -> Bounds {
-    let mut bounds = Bounds {
-        count: 0,
-        from: [0; 9],
-        to: [0; 9],
-    };
-    let mut at = 0;
-    while at <= line.len() {
-        let end = next(line, at, line.len(), 32);
-        bounds = with_word(bounds, at, end);
-        at = end + 1;
+// The call that a line is. Its bytes are put where they stand in hex.
+pub(crate) fn parsed(line: &mut [u8]) -> Call {
+    let call = with_numbers(line, kind_of(line));
+    if kinds::takes_bytes(call.kind) {
+        return with_bytes(line, call);
     }
-    bounds
+    call
 }
 
-// The words with one more.
-fn with_word(bounds: Bounds, from: usize, to: usize) -> Bounds {
-    let at = bounds.count;
-    let mut next = bounds;
-    if at < 9 {
-        next.from[at] = from;
-        next.to[at] = to;
-        next.count = at + 1;
+// Word i of a line; the words are parted by one space.
+fn word(line: &[u8], i: usize) -> Part
+    ensures { λ r. ⌜ (r .from ≤ r .to) × (r .to ≤ length (now (line .entry))) ⌝ }
+{
+    parts::nth(line, i, 32)
+}
+
+// The call of the first word, if the last of the words that it takes ends the line.
+fn kind_of(line: &[u8]) -> usize {
+    let first = word(line, 0);
+    let from = first.from;
+    let to = first.to;
+    let kind = kinds::of_word(&line[from..to]);
+    let last = word(line, kinds::last_word(kind));
+    if last.to == line.len() {
+        kind
     } else {
-        next.count = 10;
+        kinds::NO_CALL
+    }
+}
+
+// The call with the numbers that it takes.
+fn with_numbers(line: &[u8], kind: usize) -> Call {
+    let mut call = Call {
+        kind,
+        a: 0,
+        b: 0,
+        c: 0,
+        d: 0,
+        e: 0,
+        from: 0,
+        to: 0,
+        rest: 0,
+    };
+    let n = kinds::numbers_of(kind);
+    let mut i = 0;
+    while i < n {
+        i += 1;
+        call = with_number(call, i, number(line, i, kind));
+    }
+    call
+}
+
+// The call with its number i, if that is one.
+fn with_number(call: Call, i: usize, given: Number) -> Call {
+    let mut next = call;
+    let Number::Is(x) = given else {
+        next.kind = kinds::NO_CALL;
+        return next;
+    };
+    let x = x as usize;
+    match i {
+        1 => next.a = x,
+        2 => next.b = x,
+        3 => next.c = x,
+        4 => next.d = x,
+        _ => next.e = x,
     }
     next
 }
 
-// The place of the first byte b from `from` on and before `to`, or `to`.
-fn next(line: &[u8], from: usize, to: usize, b: u8) -> usize
-    requires { ⌜ from ≤ to ⌝ }
-    requires { ⌜ to ≤ length (now line) ⌝ }
-    ensures { λ r. ⌜ (from ≤ r) × (r ≤ to) ⌝ }
-{
-    let mut i = from;
-    while i < to {
-        if line[i] == b {
-            return i;
+// The number that word i is; `room -` is the largest room.
+fn number(line: &[u8], i: usize, kind: usize) -> Number {
+    let part = word(line, i);
+    if kind == kinds::ROOM {
+        if parts::is_dash(line, part.from, part.to) {
+            return Number::Is(u64::MAX);
         }
-        i += 1;
     }
-    i
-}
-
-// Word i of the line; the words were found in a line of this length.
-fn word(line: &[u8], bounds: Bounds, i: usize) -> Part
-    ensures { λ r. ⌜ (r .from ≤ r .to) × (r .to ≤ length (now (line .entry))) ⌝ }
-{
-    if 9 <= i {
-        return NO_PART;
-    }
-    let from = bounds.from[i];
-    let to = bounds.to[i];
-    if to < from {
-        return NO_PART;
-    }
-    if line.len() < to {
-        return NO_PART;
-    }
-    Part {
-        is_good: true,
-        from,
-        to,
-    }
-}
-
-// Whether word i of the line is this one.
-pub(crate) fn is(line: &[u8], bounds: Bounds, i: usize, name: &[u8]) -> bool {
-    let part = word(line, bounds, i);
-    let from = part.from;
-    let to = part.to;
-    same(&line[from..to], name)
-}
-
-// Whether two words are the same.
-fn same(word: &[u8], name: &[u8]) -> bool {
-    if word.len() != name.len() {
-        return false;
-    }
-    let mut i = 0;
-    while i < word.len() {
-        if word[i] != name[i] {
-            return false;
-        }
-        i += 1;
-    }
-    true
-}
-
-// The number that word i is.
-pub(crate) fn number(line: &[u8], bounds: Bounds, i: usize) -> Number {
-    let part = word(line, bounds, i);
     words::decimal(line, part.from, part.to)
 }
 
-// The bytes that word i is in hex, `-` for none. They are put where the word begins.
-pub(crate) fn bytes(line: &mut [u8], bounds: Bounds, i: usize) -> Part
-    ensures { λ r. ⌜ (r .from ≤ r .to) × (r .to ≤ length (now (line .exit))) ⌝ }
-{
-    let part = word(line, bounds, i);
-    let from = part.from;
-    let to = part.to;
-    if same(&line[from..to], b"-") {
-        return Part {
-            is_good: true,
-            from,
-            to: from,
-        };
+// The call with the bytes that it takes, `-` for none.
+fn with_bytes(line: &mut [u8], call: Call) -> Call {
+    let i = if call.kind == kinds::OPEN { 6 } else { 2 };
+    let part = word(line, i);
+    let mut next = call;
+    next.from = part.from;
+    next.to = part.from;
+    next.rest = part.to;
+    if parts::is_dash(line, part.from, part.to) {
+        return next;
     }
-    if from == to {
-        return NO_PART;
+    next.to = decode(line, part.from, part.to);
+    if next.to == next.from {
+        next.kind = kinds::NO_CALL;
     }
-    decode(line, from, to)
+    next
 }
 
-// Puts the bytes that stand in hex from `from` up to `to` where their digits begin.
-fn decode(line: &mut [u8], from: usize, to: usize) -> Part
+// Puts the bytes that stand in hex from `from` up to `to` where their digits begin, and answers where they end: at `from` if this is not hex.
+fn decode(line: &mut [u8], from: usize, to: usize) -> usize
     requires { ⌜ from ≤ to ⌝ }
     requires { ⌜ to ≤ length (now line) ⌝ }
-    ensures { λ r. ⌜ (r .from ≤ r .to) × (r .to ≤ length (now (line .exit))) ⌝ }
 {
     let mut end = from;
     let mut i = from;
     while i < to {
         if to - i < 2 {
-            return NO_PART;
+            return from;
         }
         let high = digit(line[i]);
         if 15 < high {
-            return NO_PART;
+            return from;
         }
         let low = digit(line[i + 1]);
         if 15 < low {
-            return NO_PART;
+            return from;
         }
         line[end] = high * 16 + low;
         end += 1;
         i += 2;
     }
-    Part {
-        is_good: true,
-        from,
-        to: end,
-    }
+    end
 }
 
 // The value of a hex digit, or 255.
 fn digit(b: u8) -> u8 {
-    if 48 <= b && b <= 57 {
+    if b < 48 {
+        return 255;
+    }
+    if b < 58 {
         return b - 48;
     }
-    if 97 <= b && b <= 102 {
+    if b < 97 {
+        return 255;
+    }
+    if b < 103 {
         return b - 87;
     }
     255
 }
 
-// The numbers that word i is, with commas between, `-` for none; they are put down as far as there are places for them.
-pub(crate) fn list(line: &[u8], bounds: Bounds, i: usize, out: &mut [u64]) -> Count {
-    let part = word(line, bounds, i);
+// Where the bytes of a call stand in its line.
+pub(crate) fn bytes_of(line: &[u8], call: Call) -> Part
+    ensures { λ r. ⌜ (r .from ≤ r .to) × (r .to ≤ length (now (line .entry))) ⌝ }
+{
+    let to = parts::least(call.to, line.len());
+    let from = parts::least(call.from, to);
+    Part { from, to }
+}
+
+// Puts down the numbers of list i behind the bytes of a call, from 1, and answers how many there are; what there is no place for is left
+// out. The bytes stand decoded, so that words are counted from behind them.
+pub(crate) fn list(line: &[u8], call: Call, i: usize, out: &mut [u64]) -> usize {
+    let rest = parts::least(call.rest, line.len());
+    list_in(&line[rest..], i, out)
+}
+
+// Puts down the numbers that word i is, with commas between, `-` for none.
+fn list_in(line: &[u8], i: usize, out: &mut [u64]) -> usize {
+    let part = word(line, i);
     let from = part.from;
     let to = part.to;
-    if same(&line[from..to], b"-") {
-        return Count::Is(0);
+    if parts::is_dash(line, from, to) {
+        return 0;
     }
     numbers(&line[from..to], out)
 }
 
 // The numbers of a list that is not empty.
-fn numbers(list: &[u8], out: &mut [u64]) -> Count {
+fn numbers(list: &[u8], out: &mut [u64]) -> usize {
     let mut count = 0;
     let mut at = 0;
     while at <= list.len() {
-        let end = next(list, at, list.len(), 44);
-        let v = words::decimal(list, at, end);
-        let Number::Is(x) = v else {
-            return Count::Nothing;
+        let end = parts::find(list, at, list.len(), 44);
+        let given = words::decimal(list, at, end);
+        let Number::Is(x) = given else {
+            return NO_LIST;
         };
-        put(out, count, x);
-        count += 1;
+        count = put(out, count, x);
         at = end + 1;
     }
-    Count::Is(count)
+    count
 }
 
-// Puts a number where there is a place for it.
-fn put(out: &mut [u64], i: usize, x: u64) {
+// Puts a number down as number i, if there is a place for it, and answers how many there are then.
+fn put(out: &mut [u64], i: usize, x: u64) -> usize {
     if i < out.len() {
         out[i] = x;
+        return i + 1;
     }
+    i
 }

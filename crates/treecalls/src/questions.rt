@@ -1,61 +1,56 @@
-// Questions whose answer is a number or one split.
-use crate::State;
-use crate::answer_lines;
-use crate::output;
+// Calls that leave the lent memory as it is and give a number or one split.
+use crate::kinds;
+use crate::opens;
+use crate::parse::Call;
+use crate::replies;
+use crate::replies::Reply;
+use answers::Number;
 use answers::Recorded;
 use answers::Split;
 use answers::Tree;
 
-// `trees`.
-pub(crate) fn trees(lent: &[u8], out: &mut [u8], state: State) -> State {
-    let answer = table::tree_count(lent);
-    answer_lines::number(out, b"number ", answer, state)
+// Makes the call.
+pub(crate) fn make(lent: &[u8], call: Call) -> Reply {
+    let kind = call.kind;
+    match kind {
+        kinds::NO_CALL => replies::bad_line(),
+        kinds::ROOM => replies::done(),
+        kinds::AGREE => agree(call.a as u64, call.b as u64),
+        kinds::SPLIT => split(lent, call.a),
+        kinds::SIZE => replies::number(replies::BYTES, opens::size(call)),
+        _ => replies::number(replies::NUMBER, number(lent, call)),
+    }
 }
 
-// `count`.
-pub(crate) fn count(lent: &[u8], out: &mut [u8], state: State) -> State {
-    let answer = table::split_count(lent);
-    answer_lines::number(out, b"number ", answer, state)
-}
-
-// `collisions`.
-pub(crate) fn collisions(lent: &[u8], out: &mut [u8], state: State) -> State {
-    let answer = comparing::collisions(lent);
-    answer_lines::number(out, b"number ", answer, state)
-}
-
-// `one A B`.
-pub(crate) fn one_sided(lent: &[u8], a: u64, b: u64, out: &mut [u8], state: State) -> State {
-    let answer = comparing::one_sided(lent, Tree(a as usize), Tree(b as usize));
-    answer_lines::number(out, b"number ", answer, state)
-}
-
-// `two A B`.
-pub(crate) fn doubled(lent: &[u8], a: u64, b: u64, out: &mut [u8], state: State) -> State {
-    let answer = comparing::doubled(lent, Tree(a as usize), Tree(b as usize));
-    answer_lines::number(out, b"number ", answer, state)
+// The calls that give a number.
+fn number(lent: &[u8], call: Call) -> Number {
+    let kind = call.kind;
+    match kind {
+        kinds::TREES => table::tree_count(lent),
+        kinds::COUNT => table::split_count(lent),
+        kinds::ONE => comparing::one_sided(lent, Tree(call.a), Tree(call.b)),
+        kinds::TWO => comparing::doubled(lent, Tree(call.a), Tree(call.b)),
+        _ => comparing::collisions(lent),
+    }
 }
 
 // `agree A B`.
-pub(crate) fn agree(a: u64, b: u64, out: &mut [u8], state: State) -> State {
+fn agree(a: u64, b: u64) -> Reply {
     if masks::agree(a, b) {
-        return output::bytes(out, b"agree 1\n", state);
+        return replies::with(replies::AGREE, 1);
     }
-    output::bytes(out, b"agree 0\n", state)
+    replies::with(replies::AGREE, 0)
 }
 
 // `split S`.
-pub(crate) fn split(lent: &[u8], s: u64, out: &mut [u8], state: State) -> State {
-    let answer = table::one_split(lent, Split(s as usize));
+fn split(lent: &[u8], s: usize) -> Reply {
+    let answer = table::one_split(lent, Split(s));
     match answer {
-        Recorded::Refused(r) => answer_lines::refused(out, r, state),
-        Recorded::Gives(mask, count) => recorded(out, mask, count, state),
+        Recorded::Refused(r) => replies::refused(r),
+        Recorded::Gives(mask, count) => Reply {
+            form: replies::SPLIT,
+            a: mask,
+            b: count as u64,
+        },
     }
-}
-
-// The answer of `split`: its mask and its count.
-fn recorded(out: &mut [u8], mask: u64, count: u32, state: State) -> State {
-    let begun = output::bytes(out, b"split ", state);
-    let masked = output::number(out, mask, begun);
-    answer_lines::named(out, b" ", count as u64, masked)
 }

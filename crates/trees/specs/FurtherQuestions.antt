@@ -8,7 +8,7 @@ use Rattle.trees.specs.Plain.{bytes, refused, gives}
 use Rattle.trees.specs.Names.{namesIn}
 use Rattle.trees.specs.Hash.{place, identifier, collisions}
 use Rattle.trees.specs.Held.{Held, opened}
-use Rattle.trees.specs.Questions.{treesHeld, splitsHeld, splitList, splitNumber, treeNumber, oneSidedOf, doubledOf, matrixOf, collisionsOf, strictOf, majorityOf, writtenOf}
+use Rattle.trees.specs.Questions.{treesHeld, splitsHeld, splitList, splitNumber, treeNumber, oneSidedOf, doubledOf, matrixOf, collisionsOf, strictOf, majorityOf, bothOf, writtenOf}
 use Rattle.trees.specs.Samples.{fedWith, collection}
 
 abbrev none : Held
@@ -45,11 +45,15 @@ pub questions-hold :
     × (strictOf three 14 ≡ gives (bytes "(A,B,(C,D,E));"))
     × (strictOf three 13 ≡ refused 4)
     × (strictOf none 0 ≡ refused 14)
+    × (bothOf three 14 16 ≡ gives (bytes "(A,B,(C,D,E));", bytes "(A,B,(C,(D,E)));"))
+    × (bothOf three 13 16 ≡ refused 4)
+    × (bothOf three 14 15 ≡ refused 4)
+    × (bothOf none 0 0 ≡ refused 14)
     × (writtenOf three 1 16 ≡ gives (bytes "(A,B,((C,E),D));"))
     × (writtenOf three 1 15 ≡ refused 4)
     × (writtenOf three 3 0 ≡ refused 13)
-unfolding collection treesHeld splitsHeld splitList splitNumber treeNumber oneSidedOf doubledOf matrixOf collisionsOf majorityOf strictOf writtenOf bytes
-questions-hold = (refl, refl, refl, refl, refl, refl, refl, refl, refl, refl, refl, refl, refl, refl, refl, refl, refl, refl, refl, refl, refl, refl, refl, refl, refl, refl, refl)
+unfolding collection treesHeld splitsHeld splitList splitNumber treeNumber oneSidedOf doubledOf matrixOf collisionsOf majorityOf strictOf bothOf writtenOf bytes
+questions-hold = (refl, refl, refl, refl, refl, refl, refl, refl, refl, refl, refl, refl, refl, refl, refl, refl, refl, refl, refl, refl, refl, refl, refl, refl, refl, refl, refl, refl, refl, refl, refl)
 
 -- ---- the hash
 

@@ -8,6 +8,7 @@
 --   matrixOf                the doubled distances of all pairs
 --   collisionsOf            the collision number
 --   strictOf, majorityOf    the consensus trees, written
+--   bothOf                  both of them, into a buffer each
 --   writtenOf               an accepted tree, written
 use Prim.Native.Nat.{ℕ}
 use mathlib.Core.Bool.{_||_}
@@ -85,6 +86,17 @@ strictOf h room = ifTrees h (ifRoom room (written (h .opening .names) (strict (h
 unfoldable pub majorityOf : Held → ℕ → Answer (List ℕ)
 unfolding ifTrees ifRoom written majority
 majorityOf h room = ifTrees h (ifRoom room (written (h .opening .names) (majority (h .trees))))
+
+-- what both answers give, or the first refusal
+unfoldable pub together : {A B : Type 0} → Answer A → Answer B → Answer (A × B)
+together (refused k) y = refused k
+together (gives x) (refused k) = refused k
+together (gives x) (gives y) = gives (x, y)
+
+-- a buffer each for the strict and the majority tree
+unfoldable pub bothOf : Held → ℕ → ℕ → Answer (List ℕ × List ℕ)
+unfolding together strictOf majorityOf
+bothOf h strictRoom majorityRoom = together (strictOf h strictRoom) (majorityOf h majorityRoom)
 
 unfoldable pub writtenOf : Held → ℕ → ℕ → Answer (List ℕ)
 unfolding ifTree ifRoom written tree

@@ -1,26 +1,36 @@
 // What is printed.
+use answers::Both;
 use answers::Number;
 use libc::STDERR_FILENO;
 use libc::STDOUT_FILENO;
 
-// Prints the sheet, line by line.
+// Prints the sheet, as many lines at a time as fit into 65,536 bytes.
 pub(crate) fn print_sheet(answer: Number, lent: &[u8]) {
-    let mut j = 0;
-    while j < usize::MAX {
-        if !print_line(answer, lent, j) {
+    let mut from = 0;
+    while from < usize::MAX {
+        let lines = print_lines(answer, lent, from);
+        if lines == 0 {
             return;
         }
-        j += 1;
+        // no sheet has so many lines
+        if usize::MAX - from < lines {
+            return;
+        }
+        from += lines;
     }
 }
 
-// Prints line number j; false, where there is none or it could not be written.
-fn print_line(answer: Number, lent: &[u8], j: usize) -> bool {
-    let mut out = [0u8; 8192];
-    let given = summary::line(answer, lent, j, &mut out);
-    match given {
-        Number::Gives(n) => print_front(&out, n),
-        Number::Refused(_) => false,
+// Prints lines from number `from` on, and answers how many; 0, where there are none or they could not be written.
+fn print_lines(answer: Number, lent: &[u8], from: usize) -> usize {
+    let mut out = [0u8; 65536];
+    match summary::lines(answer, lent, from, &mut out) {
+        Both::Gives(bytes, lines) => {
+            if !print_front(&out, bytes) {
+                return 0;
+            }
+            lines
+        }
+        Both::Refused(_) => 0,
     }
 }
 

@@ -138,14 +138,14 @@ fn widest_in(list: &[u64], k: usize, m: u64, i: Taxon) -> u64
     best
 }
 
-// x, where it is above best and below m and has taxon i; else best.
+// x, where it is above best and below m and has taxon i; else best. The last is tested first, as few have it.
 fn wider_of(best: u64, x: u64, m: u64, i: Taxon) -> u64
     requires { ⌜ i .0 < 64 ⌝ }
     ensures { λ r. ⌜ r ≡ wider m (i .0) x best ⌝ }
 {
-    if masks::comes_before(best, x) {
+    if masks::has_taxon(x, i) {
         if masks::comes_before(x, m) {
-            if masks::has_taxon(x, i) {
+            if masks::comes_before(best, x) {
                 return x;
             }
         }

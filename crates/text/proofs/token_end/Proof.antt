@@ -6,15 +6,16 @@ use borrow.Author.Tests.{eqb-true, eqb-false, not-true, not-false}
 use mathlib.Core.Path.{sym, ap, _∙_}
 use lib.ListN.{length}
 use Rattle.text.specs.Read.{kindNo}
-use Rattle.text.proofs.SymbolLaws.{kind-is, Run, run-none, run-more, run-stop, run-end}
+use Rattle.text.specs.PlaceLaws.{kind-is}
+use Rattle.text.proofs.SymbolLaws.{Run, run-none, run-more, run-stop, run-end}
 use Rattle.text.proofs.token_end.Statement.{statement}
 use Rattle.text.proofs.token_end.Tie as tie
 
 abbrev Inv-loop : tie.InvT-loop
-Inv-loop text from at₀ at = Run text from at
+Inv-loop text from end₀ end = Run text from end
 
 abbrev μ-loop : tie.MeasureT-loop
-μ-loop text from at₀ at = length text - at
+μ-loop text from end₀ end = length text - end
 
 loop-holds : tie.Need-loop-holds Inv-loop μ-loop
 loop-holds c = run-none _ _ (search needs)
@@ -28,8 +29,8 @@ is-label-byte-requires c κs = search needs
 returns : tie.Need-returns Inv-loop μ-loop
 returns c = run-stop _ _ _ (c .before .before .before .before .loop .inv) (search needs) (λ e. eqb-false _ 1 (sym (c .before .is-label-byte .ensures .1) ∙ not-true _ (c .if1 .taken)) (ap kindNo e))
 
-add-at : tie.Need-add-at Inv-loop μ-loop
-add-at c = search needs
+add-end : tie.Need-add-end Inv-loop μ-loop
+add-end c = search needs
 
 loop-less : tie.Need-loop-less Inv-loop μ-loop
 loop-less c = search needs
@@ -50,7 +51,7 @@ token-end-spec =
     shared-slice-read-is-label-byte
     is-label-byte-requires
     returns
-    add-at
+    add-end
     loop-less
     loop-again
     returns-2)

@@ -12,7 +12,6 @@ take-lines-spec =
     (λ c κs. search needs)
     (λ c. search needs)
     (λ c. simp length-take (omega arith))
-    (λ c κs. search needs)
     (λ c. search needs)
     (λ c. search needs)
     (λ c. search needs)

@@ -12,11 +12,11 @@ use Rattle.distances.proofs.marks.mark_tree.Statement.{statement}
 use Rattle.distances.proofs.marks.mark_tree.Tie as tie
 
 abbrev Inv-loop : tie.InvT-loop
-Inv-loop s i v marks₀ from n j₀ marks j =
-    (j ≤ n) × (length marks ≡ mostRoom) × (marked v (listAt s i) marks₀ ≡ marked v (drop j (listAt s i)) marks)
+Inv-loop s i marks₀ from n j₀ marks j =
+    (j ≤ n) × (length marks ≡ mostRoom) × (marked 0 (listAt s i) marks₀ ≡ marked 0 (drop j (listAt s i)) marks)
 
 abbrev μ-loop : tie.MeasureT-loop
-μ-loop s i v marks₀ from n j₀ marks j = n - j
+μ-loop s i marks₀ from n j₀ marks j = n - j
 
 row-in-requires : tie.Need-row-in-requires Inv-loop μ-loop
 row-in-requires c κs =
@@ -36,14 +36,14 @@ loop-again c =
     let back = c .before .before .before .before .before in
     let d = back .before in
     let l = c .before .before .loop in
-    let q = marked-more (d .args .v) (listAt (d .args .s .now) (d .args .i)) (l .marks) (l .j) _ (omega (arith, c .before .before .before .splits-in .ensures)) (c .row-in .ensures) in
+    let q = marked-more 0 (listAt (d .args .s .now) (d .args .i)) (l .marks) (l .j) _ (omega (arith, c .before .before .before .splits-in .ensures)) (c .row-in .ensures) in
     (omega arith, length-set (l .marks) _ _ ∙ l .inv .1, l .inv .2 ∙ q)
 
 returns : tie.Need-returns Inv-loop μ-loop
 returns c =
     let d = c .before .before .before .before .before in
     let l = c .before .loop in
-    sym (l .inv .2 ∙ marked-end (d .args .v) (listAt (d .args .s .now) (d .args .i)) (l .marks) (l .j) (omega (arith, c .before .before .splits-in .ensures)))
+    sym (l .inv .2 ∙ marked-end 0 (listAt (d .args .s .now) (d .args .i)) (l .marks) (l .j) (omega (arith, c .before .before .splits-in .ensures)))
 
 pub mark-tree-spec : {M : Type 1} → statement M
 mark-tree-spec =

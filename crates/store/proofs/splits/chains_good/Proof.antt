@@ -28,47 +28,44 @@ small : (s : List ℕ) → HeadAt s → (p m : ℕ) → p ≡ placeIn s m → p 
 small s h p m e = omega (arith, e, place-small s h m)
 
 loop-holds : tie.Need-loop-holds Inv-loop μ-loop
-loop-holds c = (omega arith, omega (arith, splits-few _ (c .before .before .before .before .pre)), refl, heights-none _, all-none _)
+loop-holds c = (omega arith, omega (arith, splits-few _ (c .before .before .pre .0)), refl, heights-none _, all-none _)
 
 returns : tie.Need-returns Inv-loop μ-loop
 returns c =
-    let back = c .before .before .before .before .before in
-    let l = back .before .before .loop in
-    let p = place-read _ _ _ _ (c .before .before .before .before .mask-at .ensures) (c .before .before .before .place-of .ensures) in
-    let far = back .before .before .before .before .before in
-    let h = c .before .wide16 .ensures ∙ l .inv .3 .each _ (small _ (far .before .before .pre) _ _ (c .before .before .before .place-of .ensures)) in
+    let q = c .before .before .before in
+    let l = q .before .before .before in
+    let g = l .before .before .before in
+    let p = place-read _ _ _ _ (q .before .mask-at .ensures) (q .place-of .ensures) in
+    let h = c .before .wide16 .ensures ∙ l .loop .inv .3 .each _ (small _ (g .pre .0) _ _ (q .place-of .ensures)) in
     let e = link-bad _ _ _ _ _ (c .before .before .link-at .ensures) p h (c .if1 .taken) in
-    let s = far .before .before .args .s .now in
-    let f : allBelow (goodLink s) (splitsHeldAt s) ≡ false = all-fails _ _ (l .k) (omega arith) e in
+    let s = g .args .s .now in
+    let f : allBelow (goodLink s) (splitsHeldAt s) ≡ false = all-fails _ _ (l .loop .k) (omega arith) e in
     sym (good-chains s ∙ rw f)
 
 loop-again : tie.Need-loop-again Inv-loop μ-loop
 loop-again c =
-    let back = c .before .before .before .before .before in
-    let l = back .before .before .loop in
-    let p = place-read _ _ _ _ (c .before .before .before .before .mask-at .ensures) (c .before .before .before .place-of .ensures) in
-    let far = back .before .before .before .before .before in
-    let b = small _ (far .before .before .pre) _ _ (c .before .before .before .place-of .ensures) in
-    let h = c .before .wide16 .ensures ∙ l .inv .3 .each _ b in
-    let e = link-good _ _ _ _ _ (c .before .before .link-at .ensures) p h (c .if1 .left) in (
-      omega arith,
-      l .inv .1,
-      simp length-set (l .inv .2),
-      heights-more _ _ _ (l .inv .2) (l .inv .3) _ p b,
-      all-more _ _ (l .inv .4) e,
-    )
+    let q = c .before .before .before in
+    let l = q .before .before .before in
+    let g = l .before .before .before in
+    let v = l .loop .inv in
+    let p = place-read _ _ _ _ (q .before .mask-at .ensures) (q .place-of .ensures) in
+    let b = small _ (g .pre .0) _ _ (q .place-of .ensures) in
+    let h = c .before .wide16 .ensures ∙ v .3 .each _ b in
+    let e = link-good _ _ _ _ _ (c .before .before .link-at .ensures) p h (c .if1 .left) in
+    (omega arith, v .1, simp length-set (v .2), heights-more _ _ _ (v .2) (v .3) _ p b, all-more _ _ (v .4) e)
 
 starts-good-requires : tie.Need-starts-good-requires Inv-loop μ-loop
 starts-good-requires c κs =
-    let back = c .before .before .before .before .before in
-    let e : c .before .before .loop .k ≡ splitsHeldAt (back .before .before .args .s .now) = omega arith in
-    (back .before .before .pre, rw e at (c .before .before .loop .inv .3))
+    let l = c .before .before in
+    let g = l .before .before .before in
+    let e : l .loop .k ≡ splitsHeldAt (g .args .s .now) = omega arith in
+    (g .pre .0, rw e at (l .loop .inv .3))
 
 returns-2 : tie.Need-returns-2 Inv-loop μ-loop
 returns-2 c =
-    let back = c .before .before .before .before .before in
-    let e : c .before .before .before .loop .k ≡ splitsHeldAt (back .before .before .before .args .s .now) = omega arith in
-    let a = rw e at (c .before .before .before .loop .inv .4) in
+    let l = c .before .before .before in
+    let e : l .loop .k ≡ splitsHeldAt (l .before .before .before .args .s .now) = omega arith in
+    let a = rw e at (l .loop .inv .4) in
     c .starts-good .ensures ∙ sym (good-chains _ ∙ rw a)
 
 pub chains-good-spec : {M : Type 1} → statement M
@@ -77,20 +74,19 @@ chains-good-spec =
     (tie.spec
     Inv-loop
     μ-loop
-    (λ c κs. (c .before .before .pre, refl))
-    (λ c κs. c .before .before .before .pre .head-there)
+    (λ c κs. c .before .pre .0 .head-there)
     loop-holds
-    (λ c κs. let back = c .before .before .before .before .before in (back .before .before .pre, omega arith))
-    (λ c κs. let back = c .before .before .before .before .before in (back .before .before .before .pre, c .before .before .before .before .before .fill-sums .ensures))
-    (λ c κs. let back = c .before .before .before .before .before in (back .before .before .before .before .pre, omega arith))
-    (λ c. let back = c .before .before .before .before .before in omega (arith, small _ (back .before .before .before .before .before .pre) _ _ (c .before .place-of .ensures)))
-    (λ c. let back = c .before .before .before .before .before in small _ (back .before .before .before .before .before .pre) _ _ (c .before .place-of .ensures))
+    (λ c κs. (c .before .before .before .before .pre .0, omega arith))
+    (λ c κs. c .before .before .before .before .before .pre)
+    (λ c κs. (c .before .before .before .before .before .before .pre .0, omega arith))
+    (λ c. omega (arith, small _ (c .before .before .before .before .before .before .before .pre .0) _ _ (c .before .place-of .ensures)))
+    (λ c. small _ (c .before .before .before .before .before .before .before .pre .0) _ _ (c .before .place-of .ensures))
     (λ c κs. tt)
     returns
     (λ c. omega arith)
     (λ c. omega arith)
-    (λ c. let back = c .before .before .before .before .before in let far = back .before .before .before .before .before in omega (arith, small _ (far .before .before .pre) _ _ (c .before .before .before .place-of .ensures)))
-    (λ c. let back = c .before .before .before .before .before in let far = back .before .before .before .before .before in small _ (far .before .before .pre) _ _ (c .before .before .before .place-of .ensures))
+    (λ c. let q = c .before .before .before in omega (arith, small _ (q .before .before .before .before .before .before .pre .0) _ _ (q .place-of .ensures)))
+    (λ c. let q = c .before .before .before in small _ (q .before .before .before .before .before .before .pre .0) _ _ (q .place-of .ensures))
     (λ c. omega arith)
     loop-again
     starts-good-requires

@@ -33,7 +33,7 @@ loop-again c =
       omega arith,
       omega (arith, l .inv .1, e),
       omega (arith, l .inv .1, p),
-      bytes-more _ _ _ _ (l .i) _ _ _ (l .inv .3) (l .inv .1) (c .before .before .constant .ensures) (c .double .ensures),
+      bytes-more _ _ _ _ (l .i) _ _ _ (l .inv .3) (l .inv .1) (c .before .before .constant .ensures) (c .double .ensures) (omega (arith, l .inv .1, p)),
     )
 
 returns : tie.Need-returns Inv-loop μ-loop

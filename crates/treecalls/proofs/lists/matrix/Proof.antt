@@ -1,7 +1,6 @@
--- `treecalls::lists::matrix` is safe. The length of a large array comes by its law, not by computing. Assumes nothing.
-use Prim.Native.Nat.{ℕ}
-use mathlib.Core.Path.{sym}
-use lib.ListN.{length-replicate}
+-- `treecalls::lists::matrix` is safe. Assumes nothing.
+use native.Mathlib.Omega.{arith}
+use lib.ListN.{length-take}
 use borrow.Author.Needs.{needs}
 use Rattle.treecalls.proofs.lists.matrix.Statement.{statement}
 use Rattle.treecalls.proofs.lists.matrix.Tie as tie
@@ -10,7 +9,10 @@ pub matrix-spec : {M : Type 1} → statement M
 matrix-spec =
     tie.close
     (tie.spec
-    (λ c. sym (length-replicate {A = ℕ} 1048576 0))
     (λ c κs. search needs)
-    (λ c. c .before .out .given)
+    (λ c. search needs)
+    (λ c. simp length-take (omega arith))
+    (λ c κs. search needs)
+    (λ c κs. search needs)
+    (λ c. search needs)
     (λ c. search needs))

@@ -9,8 +9,7 @@ pub flush-spec : {M : Type 1} → statement M
 flush-spec =
     tie.close
     (tie.spec
-    (λ c. search needs)
+    (λ c κs. search needs)
     (λ c. simp length-take (omega arith))
     (λ c κs. search needs)
-    (λ c. search needs)
     (λ c. search needs))

@@ -8,7 +8,7 @@ use Rattle.treecalls.proofs.parse.numbers.Statement.{statement}
 use Rattle.treecalls.proofs.parse.numbers.Tie as tie
 
 abbrev Inv-loop : tie.InvT-loop
-Inv-loop list out₀ count₀ at₀ out count at = (length out ≡ length out₀) × (at ≤ length list + 1) × (count ≤ at)
+Inv-loop list out₀ count₀ at₀ out count at = (length out ≡ length out₀) × (at ≤ length list + 1)
 
 abbrev μ-loop : tie.MeasureT-loop
 μ-loop list out₀ count₀ at₀ out count at = length list + 1 - at
@@ -19,17 +19,16 @@ numbers-spec =
     (tie.spec
     Inv-loop
     μ-loop
-    (λ c. (omega arith, omega arith, omega arith))
+    (λ c. (omega arith, omega arith))
     (λ c κs. (omega arith, omega arith))
     (λ c κs. (omega arith, omega arith))
     (λ c. search needs)
     (λ c. search needs)
-    (λ c. omega arith)
+    (λ c. search needs)
     (λ c. search needs)
     (λ c κs. search needs)
-    (λ c. omega arith)
-    (λ c. omega arith)
-    (λ c. omega arith)
-    (λ c. (omega arith, omega arith, omega arith))
-    (λ c. omega arith)
+    (λ c. search needs)
+    (λ c. search needs)
+    (λ c. (omega arith, omega arith))
+    (λ c. search needs)
     (λ c. search needs))

@@ -6,10 +6,10 @@ use Rattle.treesum.proofs.output.print_sheet.Statement.{statement}
 use Rattle.treesum.proofs.output.print_sheet.Tie as tie
 
 abbrev Inv-loop : tie.InvT-loop
-Inv-loop answer lent j₀ j = j ≤ 18446744073709551615
+Inv-loop answer lent from₀ from = from ≤ 18446744073709551615
 
 abbrev μ-loop : tie.MeasureT-loop
-μ-loop answer lent j₀ j = 18446744073709551615 - j
+μ-loop answer lent from₀ from = 18446744073709551615 - from
 
 pub print-sheet-spec : {M : Type 1} → statement M
 print-sheet-spec =
@@ -19,6 +19,8 @@ print-sheet-spec =
     μ-loop
     (λ c. omega arith)
     (λ c κs. search needs)
+    (λ c. search needs)
+    (λ c. omega arith)
     (λ c. search needs)
     (λ c. omega arith)
     (λ c. omega arith)

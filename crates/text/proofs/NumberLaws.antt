@@ -1,0 +1,198 @@
+-- The loops of `past_digits` and `past_number`.
+--
+--   Digits s i r        digits from i up to r
+--   Walked s b i q      the bytes from b up to i are of one token, and a length with them has come to q
+use Prim.Native.Nat.{ℕ, zero, suc, _+_, _-_, _≤_, _<_}
+use native.Mathlib.Nat.{add-zero, eq-or-lt-of-le}
+use native.Mathlib.Omega.{arith}
+use mathlib.Core.Path.{_≡_, refl, ap, sym, _∙_, subst}
+use mathlib.Core.Logic.{⊎-elim}
+use mathlib.Core.Bool.{Bool, true, false, _&&_, _||_, not}
+use mathlib.Core.List.{List, [], _∷_, _++_}
+use mathlib.Core.Option.{none, some}
+use lib.Dec.{T, leb, eqb, ltb}
+use lib.ListN.{length, getD, drop}
+use lib.Seq.{slice, slice-empty}
+use borrow.Author.Tests.{leb-true, le-leb, lt-leb, eqb-true, eqb-false, ltb-true, ltb-false, ne-eqb}
+use Rattle.trees.specs.Plain.{if_then_else_}
+use Rattle.trees.specs.Text.{Symbol, label, kind, colon, symbolsAfter, ended}
+use Rattle.trees.specs.Length.{isDigit}
+use Rattle.trees.specs.Tree.{Nodes}
+use Rattle.trees.specs.Reading.{readLength}
+use Rattle.theorems.specs.ListLaws.{and-right}
+use Rattle.theorems.specs.TextLaws.{byKind, symbols-step, symbols-end}
+use Rattle.text.specs.Automaton.{byteClass, move, run, isEnd}
+use Rattle.text.specs.Read.{kindNo, kindAt, NoBlank, symbolsAt, DigitsEnd, NumberBehind}
+use Rattle.text.proofs.ByteLaws.{at, isKind}
+use Rattle.text.proofs.SymbolLaws.{slice-more, run-ended}
+use Rattle.text.specs.PlaceLaws.{kind-is, there, kind-there, front-not, slice-length}
+use Rattle.text.proofs.PastLaws.{colon-front}
+use Rattle.text.proofs.AutomatonLaws.{run-length}
+
+-- ---- digits
+
+last : (b : ℕ) → b < 58 → b ≤ 57
+last b h = omega arith
+
+pub digit-tests : (b : ℕ) → 48 ≤ b → ltb b 58 ≡ isDigit b
+unfolding isDigit
+digit-tests b h = go (ltb b 58) refl
+  where
+    go : (t : Bool) → ltb b 58 ≡ t → t ≡ (leb 48 b && leb b 57)
+    go true e = sym (simp (le-leb 48 b h, le-leb b 57 (last b (ltb-true b 58 e))))
+    go false e = sym (simp (le-leb 48 b h, lt-leb b 57 (ltb-false b 58 e)))
+
+digit-label : (x : ℕ) → isDigit x ≡ true → kind x ≡ label
+unfolding isDigit kind
+digit-label x h =
+    let l : x ≤ 57 = leb-true x 57 (and-right (leb 48 x) (leb x 57) h) in
+    let t : (not (isDigit x) || isKind 1 x) ≡ true = at (λ k. not (isDigit k) || isKind 1 k) 58 refl x (omega arith) in
+    kind-is 1 (sym (eqb-true (kindNo (kind x)) 1 (ap (λ b. not b || isKind 1 x) (sym h) ∙ t))) (omega arith)
+
+digit-class : (x : ℕ) → isDigit x ≡ true → byteClass x ≡ 0
+unfolding byteClass
+digit-class x h = simp h
+
+-- a run of digits is as one digit
+move-again : (q : ℕ) → q < 9 → move (move q 0) 0 ≡ move q 0
+unfolding move
+move-again zero h = refl
+move-again (suc zero) h = refl
+move-again (suc (suc zero)) h = refl
+move-again (suc (suc (suc zero))) h = refl
+move-again (suc (suc (suc (suc zero)))) h = refl
+move-again (suc (suc (suc (suc (suc zero))))) h = refl
+move-again (suc (suc (suc (suc (suc (suc zero)))))) h = refl
+move-again (suc (suc (suc (suc (suc (suc (suc zero))))))) h = refl
+move-again (suc (suc (suc (suc (suc (suc (suc (suc zero)))))))) h = refl
+move-again (suc (suc (suc (suc (suc (suc (suc (suc (suc q))))))))) h = absurd (omega arith)
+
+module _ (s : List ℕ) (i : ℕ) where
+  pub record Digits (r : ℕ) : Type 0 where
+    pub past : i ≤ r
+    pub within : r ≤ length s
+    pub each : (j : ℕ) → i ≤ j → j < r → isDigit (getD s j 0) ≡ true
+
+  pub digits-none : i ≤ length s → Digits i
+  digits-none h = record { past = omega arith; within = h; each = λ j l m. absurd (omega arith) }
+
+  pub digits-more : (r : ℕ) → Digits r → r < length s → true ≡ isDigit (getD s r 0) → Digits (r + 1)
+  digits-more r d h e = record {
+    past = omega (arith, d .past);
+    within = omega arith;
+    each = λ j l m. ⊎-elim (λ (z : j ≡ r). ap (λ (n : ℕ). isDigit (getD s n 0)) z ∙ sym e) (λ (z : j < r). d .each j l z) (eq-or-lt-of-le (omega arith));
+  }
+
+  pub digits-end : (r k : ℕ) → Digits r → k ≡ 0 → DigitsEnd s i k r
+  digits-end r k d e = record { past = d .past; within = d .within; each = λ j l m. (e, d .each j l m) }
+
+  pub digits-never : (k : ℕ) → i ≤ length s → DigitsEnd s i k i
+  digits-never k h = record { past = omega arith; within = h; each = λ j l m. absurd (omega arith) }
+
+-- ---- a token, byte by byte
+
+run-snoc : (q : ℕ) (w : List ℕ) (x : ℕ) → run q (w ++ x ∷ []) ≡ move (run q w) (byteClass x)
+unfolding run
+run-snoc q [] x = refl
+run-snoc q (b ∷ w) x = run-snoc (move q (byteClass b)) w x
+
+-- behind a colon, a token that has ended
+ended-reads : (t : Nodes) (v : List ℕ) (ss : List Symbol) → 0 < length v → readLength t (colon ∷ ended v ss) ≡ (if isEnd (run 0 v) then some (t, ss) else none)
+unfolding readLength
+ended-reads t [] ss h = absurd (omega arith)
+ended-reads t (b ∷ w) ss h = ap (λ c. if c then some (t, ss) else none) (sym (run-length (b ∷ w)))
+
+module _ (s : List ℕ) (b : ℕ) where
+  pub record Walked (i q : ℕ) : Type 0 where
+    pub past : b ≤ i
+    pub within : i ≤ length s
+    pub small : q < 9
+    pub tokens : symbolsAt s b ≡ symbolsAfter (slice b i s) (drop i s)
+    pub state : run 0 (slice b i s) ≡ q
+
+  pub walked-none : b ≤ length s → Walked b 0
+  unfolding run
+  walked-none h = record { past = omega arith; within = h; small = omega arith; tokens = ap (λ (v : List ℕ). symbolsAfter v (drop b s)) (sym (slice-empty b s)); state = ap (run 0) (slice-empty b s) }
+
+  walked-byte : (i q q′ : ℕ) → Walked i q → i < length s → kind (getD s i 0) ≡ label → q′ ≡ move q (byteClass (getD s i 0)) → q′ < 9 → Walked (i + 1) q′
+  unfolding byKind
+  walked-byte i q q′ w h k e l =
+      let v : slice b (i + 1) s ≡ slice b i s ++ (getD s i 0 ∷ []) = slice-more s b i (w .past) h in
+      record {
+        past = omega (arith, w .past);
+        within = omega arith;
+        small = l;
+        tokens = w .tokens ∙ symbols-step s i h label k (slice b i s) ∙ ap (λ (x : List ℕ). symbolsAfter x (drop (i + 1) s)) (sym v);
+        state = ap (run 0) v ∙ run-snoc 0 (slice b i s) (getD s i 0) ∙ ap (λ (x : ℕ). move x (byteClass (getD s i 0))) (w .state) ∙ sym e;
+      }
+
+  walked-digits : (n i q : ℕ) → q < 9 → Walked i (move q 0) → ((j : ℕ) → i ≤ j → j < i + n → isDigit (getD s j 0) ≡ true) → i + n ≤ length s → Walked (i + n) (move q 0)
+  walked-digits zero i q l w d h = subst (λ (x : ℕ). Walked x (move q 0)) (sym (add-zero i)) w
+  walked-digits (suc n) i q l w d h =
+      let p = walked-digits n i q l w (λ j y z. d j y (omega arith)) (omega arith) in
+      let x : isDigit (getD s (i + n) 0) ≡ true = d (i + n) (omega arith) (omega arith) in
+      let m : move q 0 ≡ move (move q 0) (byteClass (getD s (i + n) 0)) = sym (move-again q l) ∙ ap (move (move q 0)) (sym (digit-class (getD s (i + n) 0) x)) in
+      subst (λ (y : ℕ). Walked y (move q 0)) (omega arith) (walked-byte (i + n) (move q 0) (move q 0) p (omega arith) (digit-label (getD s (i + n) 0) x) m (w .small))
+
+  -- a byte of the class k, and the digits behind it if it is one
+  pub walked-turn : (i q k q′ r : ℕ) → Walked i q → kindAt s i ≡ 1 → k ≡ byteClass (getD s i 0) → q′ ≡ move q k → q′ < 9 → DigitsEnd s (i + 1) k r → Walked r q′
+  walked-turn i q k q′ r w n c m l d = go (eqb k 0) refl
+    where
+      h : i < length s
+      h = there s i 1 n (omega arith)
+
+      one : Walked (i + 1) q′
+      one = walked-byte i q q′ w h (kind-is 1 (sym n ∙ kind-there s i h) (omega arith)) (m ∙ ap (move q) c) l
+
+      go : (t : Bool) → eqb k 0 ≡ t → Walked r q′
+      go true e =
+          let z : q′ ≡ move q 0 = m ∙ ap (move q) (eqb-true k 0 e) in
+          let y : i + 1 + (r - (i + 1)) ≡ r = omega (arith, d .past) in
+          let p : Walked (i + 1 + (r - (i + 1))) (move q 0) =
+          walked-digits (r - (i + 1)) (i + 1) q (w .small) (subst (Walked (i + 1)) z one) (λ j u v. d .each j u (omega arith) .1) (omega (arith, d .within)) in
+          subst (λ (x : ℕ). Walked r x) (sym z) (subst (λ (x : ℕ). Walked x (move q 0)) y p)
+      go false e = subst (λ (x : ℕ). Walked x q′) (same (ltb (i + 1) r) refl) one
+        where
+          same : (t : Bool) → ltb (i + 1) r ≡ t → i + 1 ≡ r
+          same true u = absurd (eqb-false k 0 e (d .each (i + 1) (omega arith) (ltb-true (i + 1) r u) .0))
+          same false u = omega (arith, d .past, ltb-false (i + 1) r u)
+
+  -- ---- the token's end
+  walked-ended : (i q : ℕ) → Walked i q → (kindAt s i ≡ 1 → ⊥) → symbolsAt s b ≡ ended (slice b i s) (symbolsAt s i)
+  walked-ended i q w n = w .tokens ∙ go (ltb i (length s)) refl
+    where
+      go : (t : Bool) → ltb i (length s) ≡ t → symbolsAfter (slice b i s) (drop i s) ≡ ended (slice b i s) (symbolsAt s i)
+      go true e = let h = ltb-true i (length s) e in run-ended s i h (kind (getD s i 0)) refl (λ k. n (kind-there s i h ∙ ap kindNo k)) (slice b i s)
+      go false e = let h = ltb-false i (length s) e in symbols-end s i h (slice b i s) ∙ ap (ended (slice b i s)) (sym (symbols-end s i h []))
+
+  number-reads : (i q : ℕ) → Walked i q → (kindAt s i ≡ 1 → ⊥) → b < i → (t : Nodes) → readLength t (colon ∷ symbolsAt s b) ≡ (if isEnd q then some (t, symbolsAt s i) else none)
+  number-reads i q w n h t =
+      ap (λ x. readLength t (colon ∷ x)) (walked-ended i q w n)
+      ∙ ended-reads t (slice b i s) (symbolsAt s i) (omega (arith, slice-length b i s (w .within)))
+      ∙ ap (λ (x : ℕ). if isEnd x then some (t, symbolsAt s i) else none) (w .state)
+
+  pub number-good : (i q : ℕ) → Walked i q → (kindAt s i ≡ 1 → ⊥) → isEnd q ≡ true → NumberBehind s b i
+  unfolding run
+  number-good i q w n e = record {
+    good = λ l. ((λ t. number-reads i q w n (go (ltb b i) refl) t ∙ ap (λ x. if x then some (t, symbolsAt s i) else none) e), w .past);
+    fault = λ l. absurd (omega (arith, w .within));
+  }
+    where
+      go : (t : Bool) → ltb b i ≡ t → b < i
+      go true h = ltb-true b i h
+      go false h =
+          let z : i ≡ b = omega (arith, ltb-false b i h, w .past) in
+          let y : q ≡ 0 = sym (w .state) ∙ ap (λ (x : ℕ). run 0 (slice b x s)) z ∙ ap (run 0) (slice-empty b s) in
+          absurd (subst T (sym e ∙ ap isEnd y) tt)
+
+  pub number-odd : (i q : ℕ) → NoBlank s b → Walked i q → (kindAt s i ≡ 1 → ⊥) → isEnd q ≡ false → NumberBehind s b (length s + 1)
+  number-odd i q f w n e = record { good = λ l. absurd (omega arith); fault = λ l. (refl, go (ltb b i) refl) }
+    where
+      go : (c : Bool) → ltb b i ≡ c → (t : Nodes) → readLength t (colon ∷ symbolsAt s b) ≡ none
+      go true h = λ t. number-reads i q w n (ltb-true b i h) t ∙ ap (λ x. if x then some (t, symbolsAt s i) else none) e
+      go false h =
+          let z : i ≡ b = omega (arith, ltb-false b i h, w .past) in
+          λ t. colon-front t (symbolsAt s b) (front-not s b 1 f (subst (λ (x : ℕ). kindAt s x ≡ 1 → ⊥) z n))
+
+pub not-end : (q : ℕ) → (q ≡ 2 → ⊥) → (q ≡ 4 → ⊥) → (q ≡ 7 → ⊥) → isEnd q ≡ false
+not-end q f g h = simp (ne-eqb q 2 f, ne-eqb q 4 g, ne-eqb q 7 h)

@@ -1,0 +1,108 @@
+// The calls, each with its number: calls whose words are of the same kinds stand together.
+use crate::parts;
+
+// A call's word alone.
+pub(crate) const TREES: usize = 0;
+
+pub(crate) const COUNT: usize = 1;
+
+pub(crate) const COLLISIONS: usize = 2;
+
+pub(crate) const SPLITS: usize = 3;
+
+pub(crate) const MATRIX: usize = 4;
+
+pub(crate) const STRICT: usize = 5;
+
+pub(crate) const MAJORITY: usize = 6;
+
+pub(crate) const BOTH: usize = 7;
+// A number behind it.
+pub(crate) const CLOSE: usize = 8;
+
+pub(crate) const SPLIT: usize = 9;
+
+pub(crate) const TREE: usize = 10;
+
+pub(crate) const WRITE: usize = 11;
+
+pub(crate) const LEND: usize = 12;
+
+pub(crate) const ROOM: usize = 13;
+// Two numbers.
+pub(crate) const ONE: usize = 14;
+
+pub(crate) const TWO: usize = 15;
+
+pub(crate) const AGREE: usize = 16;
+
+pub(crate) const PEEK: usize = 17;
+// A number and bytes.
+pub(crate) const POKE: usize = 18;
+
+pub(crate) const FEED: usize = 19;
+
+pub(crate) const BATCH: usize = 20;
+// Five numbers.
+pub(crate) const SIZE: usize = 21;
+// Five numbers, bytes and two lists.
+pub(crate) const OPEN: usize = 22;
+// A line that is no call.
+pub(crate) const NO_CALL: usize = 23;
+
+// The call of a word.
+pub(crate) fn of_word(word: &[u8]) -> usize {
+    parts::place(
+        word,
+        b"trees count collisions splits matrix strict majority both close split tree write lend room one two agree peek poke feed batch size open ",
+    )
+}
+
+// The number of the last word of a line with this call, from 0; for a line that is no call, one that no line has.
+pub(crate) fn last_word(kind: usize) -> usize {
+    match kind {
+        TREES..=BOTH => 0,
+        CLOSE..=ROOM => 1,
+        ONE..=BATCH => 2,
+        SIZE => 5,
+        OPEN => 8,
+        _ => usize::MAX,
+    }
+}
+
+// How many numbers follow the word.
+pub(crate) fn numbers_of(kind: usize) -> usize {
+    match kind {
+        CLOSE..=ROOM | POKE..=BATCH => 1,
+        ONE..=PEEK => 2,
+        SIZE | OPEN => 5,
+        _ => 0,
+    }
+}
+
+// Whether bytes follow the numbers.
+pub(crate) fn takes_bytes(kind: usize) -> bool {
+    match kind {
+        POKE..=BATCH | OPEN => true,
+        _ => false,
+    }
+}
+
+// What the library is lent to write: nothing.
+pub(crate) const NOTHING: usize = 0;
+// A buffer for numbers.
+pub(crate) const A_LIST: usize = 1;
+// A buffer for bytes, or two.
+pub(crate) const A_TEXT: usize = 2;
+// The collection.
+pub(crate) const MEMORY: usize = 3;
+
+// What the library is lent to write in this call.
+pub(crate) fn writes(kind: usize) -> usize {
+    match kind {
+        SPLITS | TREE | MATRIX => A_LIST,
+        STRICT | MAJORITY | BOTH | WRITE => A_TEXT,
+        CLOSE | POKE..=BATCH => MEMORY,
+        _ => NOTHING,
+    }
+}
