@@ -19,7 +19,7 @@ use native.Mathlib.Nat.{pow-suc, one-mul, lt-of-lt-of-le}
 use native.Mathlib.Omega.{arith}
 use lib.Arith.{bin-ind}
 use lib.Pow.{pow-pos, pow-mono, shl-exact}
-use lib.Bits.{bitAnd, and-step, and-comm, and-self}
+use lib.Bits.{bitAnd, and-step, and-self}
 use lib.Count.{ones, ones-step, ones-le, trailingZeros}
 use lib.Dec.{leb, eqb}
 use borrow.Author.Tests.{leb-true, eq-eqb, ne-eqb, lt-ltb, le-ltb, le-leb, lt-leb}
