@@ -1,6 +1,5 @@
 -- Laws of masks, over words of k bits for every k: what the operations on a word make of a mask.
 --
---   agree-both         agreement, by what two masks have in common
 --   shift-one          taxon i alone is the first taxon, i places up
 --   and-not            what is not in b is what is in the word's other bits
 --   two-none, two-less whether a mask has two taxa: one is left without the lowest
@@ -14,28 +13,22 @@
 --   lowest-none        the smallest taxon, of no taxa
 use Prim.Native.Nat.{ℕ, zero, suc, _+_, _-_, _*_, _/_, _%_, _^_, _≤_, _<_, min}
 use mathlib.Core.Path.{_≡_, refl, sym, ap, _∙_}
-use mathlib.Core.Bool.{true, false, _||_, not, and-true, and-false}
+use mathlib.Core.Bool.{true, false, not, and-true, and-false}
 use mathlib.Core.Logic.{_⊎_, inl, inr, ⊎-elim}
 use native.Mathlib.Nat.{pow-suc, one-mul, lt-of-lt-of-le}
 use native.Mathlib.Omega.{arith}
 use lib.Arith.{bin-ind}
 use lib.Pow.{pow-pos, pow-mono, shl-exact}
-use lib.Bits.{bitAnd, and-step, and-comm, and-self}
+use lib.Bits.{bitAnd, and-step, and-self}
 use lib.Count.{ones, ones-step, ones-le, trailingZeros}
 use lib.Dec.{leb, eqb}
 use borrow.Author.Tests.{leb-true, eq-eqb, ne-eqb, lt-ltb, le-ltb, le-leb, lt-leb}
-use Rattle.trees.specs.Mask.{everyTaxon, without, apart, within, agree, proper, lowestFrom, lowest}
+use Rattle.trees.specs.Mask.{everyTaxon, without, proper, lowestFrom, lowest}
 use Rattle.theorems.specs.ListLaws.{less-or-not, equal-or-not}
 use Rattle.theorems.specs.BitLaws.{even-odd}
 use Rattle.theorems.specs.OnesLaws.{ones-zero, ones-pos, ones-part}
 use Rattle.theorems.specs.MaskLaws.{below-sub, others-xor}
 use Rattle.theorems.specs.ProperLaws.{proper-ones, every-ones}
-
--- ---- agree
-
-pub agree-both : (a b : ℕ) → agree a b ≡ (eqb (bitAnd a b) 0 || (eqb (bitAnd a b) a || eqb (bitAnd a b) b))
-unfolding agree apart within
-agree-both a b = rw (and-comm b a)
 
 -- ---- shifts
 

@@ -10,18 +10,14 @@ ghost use Rattle.trees.specs.Mask.{has, everyTaxon, without, apart, within, pro
 ghost use Rattle.trees.specs.Mask.{agree as Mask·agree, side as Mask·side};
 use answers::Taxon;
 
-// Whether two splits agree: their masks have no common bit, or one lies within the other.
+// "Two splits agree if their masks have no common bit or one mask lies within the other."
 pub fn agree(a: u64, b: u64) -> bool
     ensures { λ r. ⌜ r ≡ Mask·agree a b ⌝ }
 {
-    let both = a & b;
-    if both == 0 {
-        return true;
-    }
-    if both == a {
-        return true;
-    }
-    both == b
+    let no_common_bit = are_apart(a, b);
+    let first_within_second = is_within(a, b);
+    let second_within_first = is_within(b, a);
+    no_common_bit || first_within_second || second_within_first
 }
 
 // Whether every taxon of a is in b.
