@@ -1,6 +1,6 @@
 -- The answers of the calls, as document 01 has them: each enum case with its number and values.
 --
---   refusalNumber r                                   the number of a refusal in the table of document 01
+--   refusalNumber r                                   the number of a refusal in documents 01 and 02
 --   refusing r                                        the answer that refuses with that number
 --   finishGiven, numberGiven, bothGiven, splitGiven, progressGiven     an answer of the code, as the definitions of crate trees have it
 use Prim.Native.Nat.{ℕ}
@@ -20,7 +20,7 @@ use Rattle.answers.specs.declared.Recorded.the-variants as recorded
 use Rattle.answers.specs.declared.Progress.{Progress}
 use Rattle.answers.specs.declared.Progress.the-variants as progress
 
--- "Refusal numbers"
+-- "Refusal numbers"; "15 block malformed, 16 key listed twice"
 unfoldable pub refusalNumber : Refusal → ℕ
 refusalNumber why.NotWhole = 1
 refusalNumber why.OutOfRange = 2
@@ -36,6 +36,8 @@ refusalNumber why.NoTreeRoom = 11
 refusalNumber why.NoSplitRoom = 12
 refusalNumber why.NoSuchNumber = 13
 refusalNumber why.NoTrees = 14
+refusalNumber why.BadBlock = 15
+refusalNumber why.RepeatedKey = 16
 
 abbrev pub refusing : {A : Type 0} → Refusal → Answer A
 refusing r = refused (refusalNumber r)

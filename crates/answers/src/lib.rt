@@ -16,7 +16,7 @@ pub struct Tree(pub usize);
 // The number of a recorded split: its place, from 0, in the list by rising mask.
 pub struct Split(pub usize);
 
-// Why a call refuses: the table of document 01, in its order.
+// Why a call refuses: the table of document 01, in its order, and the refusals of document 02 behind it.
 pub enum Refusal {
     NotWhole,
     OutOfRange,
@@ -32,6 +32,8 @@ pub enum Refusal {
     NoSplitRoom,
     NoSuchNumber,
     NoTrees,
+    BadBlock,
+    RepeatedKey,
 }
 
 // The answer of a call that gives nothing but that it was done.
@@ -72,7 +74,7 @@ pub struct Fed {
     pub progress: Progress,
 }
 
-// The number of a refusal in the table of document 01.
+// The number of a refusal in documents 01 and 02.
 pub fn refusal_number(r: Refusal) -> u32
     ensures { λ n. ⌜ n ≡ refusalNumber r ⌝ }
 {
@@ -91,5 +93,7 @@ pub fn refusal_number(r: Refusal) -> u32
         Refusal::NoSplitRoom => 12,
         Refusal::NoSuchNumber => 13,
         Refusal::NoTrees => 14,
+        Refusal::BadBlock => 15,
+        Refusal::RepeatedKey => 16,
     }
 }

@@ -73,7 +73,7 @@ pub record ClosedAs (s : List ℕ) (l : ℕ) (r : Finish) (t : List ℕ) : Type 
   pub holds : reached s l ≡ true → Holds (closedOf s l .after) s t
   pub outside : SameOutside s l t
 
--- refusals go from 1 to 14; an accepted tree's number counts from 256
+-- refusals are below 256; an accepted tree's number counts from there
 abbrev pub isRefusal : ℕ → Bool
 isRefusal v = ltb v 256
 

@@ -17,7 +17,7 @@ unfoldable pub semicolons : List ℕ → ℕ
 unfolding keep
 semicolons p = length (keep (eqb semicolon) p)
 
--- refusals go from 1 to 14
+-- refusals are below 256
 unfoldable pub verdictNumber : Answer Progress → ℕ
 verdictNumber (refused k) = k
 verdictNumber (gives moreWanted) = 0

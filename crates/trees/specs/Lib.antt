@@ -17,6 +17,9 @@ pub mod Held
 pub mod Questions
 pub mod Whole
 pub mod Batch
+pub mod Nexus
+pub mod NexusReading
+pub mod NexusCall
 pub mod Runs
 pub mod Samples
 pub mod FurtherTexts
