@@ -3,7 +3,8 @@
 --   refusalNumber r                                   the number of a refusal in documents 01 and 02
 --   refusing r                                        the answer that refuses with that number
 --   finishGiven, numberGiven, bothGiven, splitGiven, progressGiven     an answer of the code, as the definitions of crate trees have it
-use Prim.Native.Nat.{ℕ}
+--   Small a                                           the number of an accepted tree is at most 1,024
+use Prim.Native.Nat.{ℕ, _≤_}
 use Rattle.trees.specs.Plain.{Answer, refused, gives}
 use Rattle.trees.specs.Held.{moreWanted, accepted}
 use Rattle.trees.specs.Held as held
@@ -70,3 +71,9 @@ unfolding refusalNumber
 progressGiven (progress.Refused r) = refused (refusalNumber r)
 progressGiven progress.MoreWanted = gives moreWanted
 progressGiven (progress.Accepted t) = gives (accepted (t .0))
+
+-- a tree's number that fits its room
+unfoldable pub Small : Answer held.Progress → Type 0
+Small (refused k) = Unit {0}
+Small (gives moreWanted) = Unit {0}
+Small (gives (accepted t)) = t ≤ 1024

@@ -2,7 +2,8 @@
 //
 // Read `specs/Answers.antt` for the answers as document 01 has them.
 ghost use mathlib.Core.Path.{_≡_};
-ghost use Rattle.answers.specs.Answers.{refusalNumber};
+ghost use Rattle.trees.specs.Batch.{verdictNumber};
+ghost use Rattle.answers.specs.Answers.{refusalNumber, progressGiven, Small};
 
 // A taxon's number: its place in the name list, from 0.
 pub struct Taxon(pub u32);
@@ -95,5 +96,17 @@ pub fn refusal_number(r: Refusal) -> u32
         Refusal::NoTrees => 14,
         Refusal::BadBlock => 15,
         Refusal::RepeatedKey => 16,
+    }
+}
+
+// A verdict as a number: a refusal's, or 256 more than the tree's.
+pub fn verdict_number(p: Progress) -> u32
+    requires { ⌜ Small (progressGiven p) ⌝ }
+    ensures { λ r. ⌜ r ≡ verdictNumber (progressGiven p) ⌝ }
+{
+    match p {
+        Progress::Refused(r) => refusal_number(r),
+        Progress::MoreWanted => 0,
+        Progress::Accepted(t) => 256 + t.0 as u32,
     }
 }

@@ -1,0 +1,8 @@
+-- What the call promises, what places in a file stand for, and their laws.
+pub mod Places
+pub mod Commands
+pub mod Blocks
+pub mod Keys
+pub mod Texts
+pub mod Verdicts
+pub mod Fed
