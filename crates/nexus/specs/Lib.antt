@@ -1,5 +1,6 @@
 -- What the call promises, what places in a file stand for, and their laws.
 pub mod Places
+pub mod PlaceLaws
 pub mod Commands
 pub mod Blocks
 pub mod Keys

@@ -48,3 +48,4 @@ pub mod Unrooted
 pub mod UnrootedLaws
 pub mod Longest
 pub mod LongestLaws
+pub mod RunOfLaws

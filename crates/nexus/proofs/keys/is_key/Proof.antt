@@ -1,0 +1,4 @@
+use Rattle.nexus.proofs.keys.is_key.Statement.{statement}
+
+pub is-key-spec : {M : Type 1} → statement M
+is-key-spec = ?

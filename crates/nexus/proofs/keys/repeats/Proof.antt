@@ -1,0 +1,4 @@
+use Rattle.nexus.proofs.keys.repeats.Statement.{statement}
+
+pub repeats-spec : {M : Type 1} → statement M
+repeats-spec = ?

@@ -1,0 +1,4 @@
+use Rattle.nexus.proofs.tokens.first_token.Statement.{statement}
+
+pub first-token-spec : {M : Type 1} → statement M
+first-token-spec = ?
