@@ -3,7 +3,10 @@ pub mod Places
 pub mod PlaceLaws
 pub mod Commands
 pub mod Blocks
+pub mod BlockLaws
 pub mod Keys
 pub mod Texts
 pub mod Verdicts
+pub mod VerdictLaws
+pub mod FeedLaws
 pub mod Fed

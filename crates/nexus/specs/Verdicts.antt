@@ -3,6 +3,7 @@
 --   laneWith n text      an empty lane to which the first n bytes of a buffer were handed; 4,097 stand for any longer text
 --   Judges s text n r t  the verdict on that text: the answer r, and the lent bytes t, which were s
 --   LineAt f i r         the text of the tree whose line begins at i stands at r
+--   LinesAt f i n        the lines of n trees begin at i
 --   Feeds b s v t w      the verdicts of b stand at the front of w, which was v, and the lent bytes t, which were s, hold what b leaves
 --   FeedsLines ps f i n s v t w     the trees whose lines begin at i are fed, n in all
 use Prim.Native.Nat.{ℕ, _+_, _≤_, _<_}
@@ -41,6 +42,12 @@ pub record LineAt (f : List ℕ) (i : ℕ) (r : Token) : Type 0 where
       → (r .end < length f)
       × (uncommented (part (r .from) (r .end) f) ≡ t)
       × (reads (inTrees false) (commandsAt f (r .end + 1)) ≡ some (record { pairs = []; texts = ts }))
+
+-- the lines of n trees begin at i
+pub record LinesAt (f : List ℕ) (i n : ℕ) : Type 0 where
+  pub texts : List (List ℕ)
+  pub count : length texts ≡ n
+  pub read : reads (inTrees false) (commandsAt f i) ≡ some (record { pairs = []; texts = texts })
 
 pub record Feeds (b : Batched) (s v t w : List ℕ) : Type 0 where
   pub holds : Holds (b .after) s t

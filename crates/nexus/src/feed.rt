@@ -8,7 +8,7 @@ ghost use Rattle.head.specs.Head.{namesAt};
 ghost use Rattle.head.specs.Index.{Indexed};
 ghost use Rattle.layout.specs.WholeStore.{wholeAt};
 ghost use Rattle.nexus.specs.Commands.{pairsIn, Placed};
-ghost use Rattle.nexus.specs.Verdicts.{LineAt, FeedsLines};
+ghost use Rattle.nexus.specs.Verdicts.{LineAt, LinesAt, FeedsLines};
 use crate::commands;
 use crate::keys;
 use crate::lines;
@@ -33,6 +33,7 @@ pub(crate) fn feed_lines(
     requires { ⌜ wholeAt (now s) ≡ true ⌝ }
     requires { ⌜ from ≤ length (now f) ⌝ }
     requires { ⌜ Placed (now list) pairs (now places) ⌝ }
+    requires { ⌜ LinesAt (now f) from n ⌝ }
     requires { ⌜ n ≤ length (now verdicts) ⌝ }
     ensures { λ r. ⌜ FeedsLines (pairsIn (now (list .entry)) pairs (now (places .entry))) (now (f .entry)) from n (now (s .entry)) (now (verdicts .entry)) (now (s .exit)) (now (verdicts .exit)) ⌝ }
 {

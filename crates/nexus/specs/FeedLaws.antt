@@ -1,0 +1,235 @@
+-- The trees of a file, fed one after another. Assumes nothing.
+--
+--   later-texts        behind the TREES block no text comes
+--   with-text          a text, and what is read behind it
+--   line-text, line-end, line-wrong     the line of a tree that is there
+--   lane-is            a plain text handed whole to an empty lane
+--   small-finished     the number of a tree that is accepted is at most 1,024
+--   Going, going-..    as many texts as the loop has fed, and the rest decides
+use Prim.Native.Nat.{ℕ, suc, _+_, _-_, _≤_, _<_}
+use native.Mathlib.Nat.{zero-add}
+use native.Mathlib.Numerals.{add-one}
+use native.Mathlib.Omega.{arith}
+use mathlib.Core.Path.{_≡_, refl, sym, ap, ap₂, subst, _∙_}
+use mathlib.Core.Logic.{_⊎_, inl, inr}
+use mathlib.Core.Bool.{Bool, true, false}
+use mathlib.Core.List.{List, [], _∷_, _++_, map, append-assoc, append-nil}
+use mathlib.Core.Option.{Option, none, some}
+use lib.Dec.{ltb}
+use lib.ListN.{length, getD, set, take, drop, length-take, length-drop, length-append, length-set, take-append-drop}
+use lib.Seq.{drop-take, drop-drop, take-suc-set, drop-set-lt}
+use borrow.Author.Tests.{lt-ltb, le-ltb, ltb-true}
+use Rattle.trees.specs.Plain.{if_then_else_, every, Answer, refused, gives}
+use Rattle.trees.specs.Text.{isBlank}
+use Rattle.trees.specs.Opening.{Opening, storeSize}
+use Rattle.trees.specs.Held.{Held, Lane, holding, overrun, mostText, longer, withTree, verdict, finished, recording, moreWanted, accepted}
+use Rattle.trees.specs.Batch.{verdictNumber, isRefusal, noneAccepted, Batched, withVerdict}
+use Rattle.trees.specs.Nexus.{uncommented, isWord, Pair, File}
+use Rattle.trees.specs.NexusReading.{twoTokens, endsOther, outside, inOther, inTrees, Move, wrong, to, brings, blockBegun, moved, withText, closes, readsOn, reads}
+use Rattle.trees.specs.NexusCall.{replaced, onText, handing}
+use Rattle.theorems.specs.ListLaws.{less-or-not, if-true, if-false}
+use Rattle.answers.specs.declared.Progress.{Progress}
+use Rattle.answers.specs.Answers.{progressGiven, Small}
+use Rattle.head.specs.Head.{namesAt, openingAt}
+use Rattle.head.specs.Index.{Indexed}
+use Rattle.layout.specs.Store.{sizeAt, treesHeldAt, heldAt, heldIn, ranOver}
+use Rattle.layout.specs.WholeStore.{wholeAt}
+use Rattle.layout.specs.WholeFacts.{whole-at-facts}
+use Rattle.layout.specs.InsideLaws.{trees-few}
+use Rattle.store.specs.Lent.{Holds}
+use Rattle.store.specs.RecordedAtLaws.{trees-length}
+use Rattle.feeding.specs.HoldLaws.{size-held}
+use Rattle.feeding.specs.BatchLaws.{none-front, none-back}
+use Rattle.nexus.specs.declared.tokens.Token.{Token}
+use Rattle.nexus.specs.declared.lines.Line.the-variants as line
+use Rattle.nexus.specs.Places.{part, plainAt, commandsAt, CommandEnd}
+use Rattle.nexus.specs.Commands.{LineMoves}
+use Rattle.nexus.specs.BlockLaws.{reads-last, reads-moved}
+use Rattle.nexus.specs.Texts.{TextAs}
+use Rattle.nexus.specs.Verdicts.{laneWith, Judges, LineAt, LinesAt, Feeds, FeedsLines}
+
+-- ---- behind the TREES block
+
+none-some : {A : Type 0} (x : A) → _≡_ {A = Option A} none (some x) → ⊥
+none-some x e = let z : _≡_ {A = ℕ} 0 1 = cc in omega arith
+
+abbrev NoTexts : Option File → Type 0
+NoTexts r = (x : File) → r ≡ some x → x .texts ≡ []
+
+-- what a command does outside the blocks that stand behind it
+abbrev later : Bool → Bool → Move
+later begin trees = if begin then if trees then wrong else to (inOther true) else wrong
+
+begun-later : (p : Option Pair) → (b : Bool) × (t : Bool) × (blockBegun true p ≡ later b t)
+unfolding blockBegun
+begun-later none = (false, false, refl)
+begun-later (some p) = (isWord "BEGIN" (p .0), isWord "TREES" (p .1), refl)
+
+closes-later : (b : Bool) → NoTexts (if b then some (record { pairs = []; texts = [] }) else none)
+closes-later true x e = ap (λ (o : Option File). elim o [ none ↦ [] | some y ↦ y .texts ]) (sym e)
+closes-later false x e = absurd (none-some x e)
+
+moves-later : (cs : List (List ℕ)) → NoTexts (reads (inOther true) cs) → (b t : Bool) → NoTexts (readsOn (later b t) (λ p. reads p cs))
+unfolding readsOn
+moves-later cs h true true x e = absurd (none-some x e)
+moves-later cs h true false x e = h x e
+moves-later cs h false t x e = absurd (none-some x e)
+
+ends-later : (cs : List (List ℕ)) → NoTexts (reads (outside true) cs) → NoTexts (reads (inOther true) cs) → (b : Bool)
+    → NoTexts (readsOn (if b then to (outside true) else to (inOther true)) (λ p. reads p cs))
+unfolding readsOn
+ends-later cs h g true x e = h x e
+ends-later cs h g false x e = g x e
+
+pub later-texts : (cs : List (List ℕ)) → NoTexts (reads (outside true) cs) × NoTexts (reads (inOther true) cs)
+unfolding reads moved closes
+later-texts [] = (λ x e. absurd (none-some x e), λ x e. absurd (none-some x e))
+later-texts (c ∷ []) = (closes-later (every isBlank c), λ x e. absurd (none-some x e))
+later-texts (c ∷ d ∷ cs) =
+    let h = later-texts (d ∷ cs) in
+    let b = begun-later (twoTokens c) in
+    (
+      λ x e. moves-later (d ∷ cs) (h .1) (b .0) (b .1) x (ap (λ (m : Move). readsOn m (λ p. reads p (d ∷ cs))) (sym (b .2)) ∙ e),
+      ends-later (d ∷ cs) (h .0) (h .1) (endsOther c),
+    )
+
+-- ---- the line of a tree
+
+abbrev only : List (List ℕ) → File
+only ts = record { pairs = []; texts = ts }
+
+textsOf : Option File → List (List ℕ)
+textsOf none = []
+textsOf (some x) = x .texts
+
+pairsOf : Option File → List Pair
+pairsOf none = []
+pairsOf (some x) = x .pairs
+
+headOf : List (List ℕ) → List ℕ
+headOf [] = []
+headOf (t ∷ ts) = t
+
+tailOf : List (List ℕ) → List (List ℕ)
+tailOf [] = []
+tailOf (t ∷ ts) = ts
+
+pub with-text : (u t : List ℕ) (ts : List (List ℕ)) (x : Option File) → withText u x ≡ some (only (t ∷ ts)) → (u ≡ t) × (x ≡ some (only ts))
+unfolding withText textsOf pairsOf headOf tailOf
+with-text u t ts none e = absurd (none-some _ e)
+with-text u t ts (some x) e = (
+  ap (λ (o : Option File). headOf (textsOf o)) e,
+  ap₂ (λ (ps : List Pair) (us : List (List ℕ)). some (record { pairs = ps; texts = us })) (ap pairsOf e) (ap (λ (o : Option File). tailOf (textsOf o)) e),
+)
+
+-- the bytes from a place of a command on are a part of the file
+part-of : (f : List ℕ) (i e j : ℕ) → i + j ≤ e → drop j (part i e f) ≡ part (i + j) e f
+part-of f i e j h =
+    drop-take j (e - i) (drop i f) ∙ ap (take (e - i - j)) (drop-drop j i f)
+    ∙ ap (λ (n : ℕ). take n (drop (i + j) f)) (omega arith)
+
+module _ (f : List ℕ) (i e : ℕ) (c : CommandEnd f i e) where
+  -- a command without a semicolon is no line
+  ended-not : (x : File) → reads (inTrees false) (commandsAt f i) ≡ some x → e ≡ length f → ⊥
+  unfolding closes
+  ended-not x h l = none-some x (sym (reads-last f i e c l (inTrees false)) ∙ h)
+
+  inside : (x : File) → reads (inTrees false) (commandsAt f i) ≡ some x → e < length f
+  inside x h = omega (arith, ended-not x h, c .within)
+
+  pub line-text : (j : ℕ) → LineMoves (part i e f) (line.Text j) → i + j ≤ e → LineAt f i (record { from = i + j; end = e })
+  unfolding readsOn
+  line-text j l b = record {
+    past = omega arith;
+    order = b;
+    within = c .within;
+    gives = λ t ts h.
+        let d = inside (only (t ∷ ts)) h in
+        let q = with-text (plainAt (part i e f) j) t ts _ (sym (reads-moved f i e c d (inTrees false) (brings (plainAt (part i e f) j)) (l .moves)) ∙ h) in
+        (d, ap uncommented (sym (part-of f i e j b)) ∙ q .0, q .1);
+  }
+
+  abbrev nowhere : Token
+  nowhere = record { from = e; end = e }
+
+  -- no text stands there
+  nothing-there : ((t : List ℕ) (ts : List (List ℕ)) → reads (inTrees false) (commandsAt f i) ≡ some (only (t ∷ ts)) → ⊥) → LineAt f i nowhere
+  nothing-there n = record { past = c .past; order = omega arith; within = c .within; gives = λ t ts h. absurd (n t ts h) }
+
+  pub line-wrong : LineMoves (part i e f) line.Wrong → LineAt f i nowhere
+  unfolding readsOn
+  line-wrong l = nothing-there (λ t ts h. none-some _ (sym (reads-moved f i e c (inside _ h) (inTrees false) wrong (l .moves)) ∙ h))
+
+  pub line-end : LineMoves (part i e f) line.End → LineAt f i nowhere
+  unfolding readsOn
+  line-end l = nothing-there (λ t ts h.
+      let q = later-texts (commandsAt f (e + 1)) .0 _ (sym (reads-moved f i e c (inside _ h) (inTrees false) (to (outside true)) (l .moves)) ∙ h) in
+      let z : _≡_ {A = ℕ} (suc (length ts)) 0 = ap length q in
+      omega arith)
+
+-- ---- the verdict on a plain text
+
+pub lane-is : (t : List ℕ) (n : ℕ) (p : List ℕ) → TextAs t n p → laneWith n p ≡ longer (holding []) t
+unfolding longer
+lane-is t n p x = go (less-or-not mostText (length t))
+  where
+    go : (mostText < length t) ⊎ (length t ≤ mostText) → laneWith n p ≡ (if ltb mostText (length t) then overrun else holding t)
+    go (inl h) = if-true _ _ (lt-ltb mostText n (omega (arith, x .over h))) ∙ sym (if-true _ _ (lt-ltb mostText (length t) h))
+    go (inr h) =
+        if-false _ _ (le-ltb mostText n (omega (arith, x .fits h .0))) ∙ ap holding (x .fits h .1)
+        ∙ sym (if-false _ _ (le-ltb mostText (length t) h))
+
+pub small-finished : (s : List ℕ) → wholeAt s ≡ true → (v : Answer (List ℕ)) → Small (finished (heldAt s) v)
+unfolding Small finished
+small-finished s w (refused k) = tt
+small-finished s w (gives t) = omega (arith, trees-length s, trees-few s (whole-at-facts s w .head))
+
+-- a verdict whose number is a refusal's
+refusal-only : (h : Held) (v : Answer (List ℕ)) → isRefusal (verdictNumber (finished h v)) ≡ true → (k : ℕ) × (v ≡ refused k)
+unfolding verdictNumber finished
+refusal-only h (refused k) e = (k, refl)
+refusal-only h (gives t) e = absurd (omega (arith, ltb-true (256 + length (h .trees)) 256 e))
+
+recording-opening : (h : Held) (v : Answer (List ℕ)) → recording h v .opening ≡ h .opening
+unfolding recording withTree
+recording-opening h (refused k) = refl
+recording-opening h (gives t) = refl
+
+-- ---- text after text
+
+-- i of the n trees whose lines begin at `from` are fed, the next line begins at `at`; s and v were lent, and are now t and w
+pub record Going (ps : List Pair) (f : List ℕ) (from n : ℕ) (s v t w : List ℕ) (at i : ℕ) : Type 0 where
+  pub reach : at ≤ length f
+  pub all : List (List ℕ)
+  pub rest : List (List ℕ)
+  pub begun : reads (inTrees false) (commandsAt f from) ≡ some (only all)
+  pub read : reads (inTrees false) (commandsAt f at) ≡ some (only rest)
+  pub count : i + length rest ≡ n
+  pub whole : wholeAt t ≡ true
+  pub opening : heldAt t .opening ≡ heldAt s .opening
+  pub size : length t ≡ length s
+  pub behind : (j : ℕ) → sizeAt s ≤ j → getD t j 0 ≡ getD s j 0
+  pub found : noneAccepted (take i w) ≡ true → t ≡ s
+  pub room : length w ≡ length v
+  pub kept : drop i w ≡ drop i v
+  pub verdicts : handing (heldAt s) (map (replaced ps) all) .verdicts ≡ take i w ++ handing (heldAt t) (map (replaced ps) rest) .verdicts
+  pub after : handing (heldAt s) (map (replaced ps) all) .after ≡ handing (heldAt t) (map (replaced ps) rest) .after
+
+pub going-none : (ps : List Pair) (f : List ℕ) (from n : ℕ) (s v : List ℕ) → wholeAt s ≡ true → from ≤ length f → LinesAt f from n → Going ps f from n s v s v from 0
+going-none ps f from n s v w h l = record {
+  reach = h;
+  all = l .texts;
+  rest = l .texts;
+  begun = l .read;
+  read = l .read;
+  count = omega (arith, l .count);
+  whole = w;
+  opening = refl;
+  size = refl;
+  behind = λ j b. refl;
+  found = λ e. refl;
+  room = refl;
+  kept = refl;
+  verdicts = refl;
+  after = refl;
+}
