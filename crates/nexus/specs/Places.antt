@@ -15,7 +15,7 @@
 use Prim.Native.Nat.{ℕ, _+_, _-_, _≤_, _<_}
 use mathlib.Core.Path.{_≡_}
 use mathlib.Core.Bool.{Bool, true, false, not, _&&_}
-use mathlib.Core.List.{List, [], _∷_}
+use mathlib.Core.List.{List, [], _∷_, _++_}
 use lib.Dec.{ltb, eqb}
 use lib.ListN.{length, getD, take, drop}
 use Rattle.trees.specs.Plain.{byte}
@@ -37,6 +37,8 @@ commandsAt s i = parts semicolon (plainAt s i)
 pub record CommentEnd (s : List ℕ) (i r : ℕ) : Type 0 where
   pub closed : r ≤ length s → (i < r) × (behindComment (drop i s) ≡ byte " " ∷ plainAt s r)
   pub unclosed : length s < r → (r ≡ length s + 1) × (behindComment (drop i s) ≡ byte "[" ∷ [])
+  -- whatever stands behind it
+  pub alone : r ≤ length s → (t : List ℕ) → behindComment (part i r s ++ t) ≡ byte " " ∷ uncommented t
 
 pub record Skipped (s : List ℕ) (i r : ℕ) : Type 0 where
   pub past : i ≤ r
