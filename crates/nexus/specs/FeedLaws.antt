@@ -17,7 +17,7 @@ use mathlib.Core.List.{List, [], _∷_, _++_, map, append-assoc, append-nil}
 use mathlib.Core.Option.{Option, none, some}
 use lib.Dec.{ltb}
 use lib.ListN.{length, getD, set, take, drop, length-take, length-drop, length-append, length-set, take-append-drop}
-use lib.Seq.{drop-take, drop-drop, take-suc-set, drop-set-lt}
+use lib.Seq.{length-take-le, drop-at, drop-drop, take-suc-set, drop-set-lt}
 use borrow.Author.Tests.{lt-ltb, le-ltb, ltb-true}
 use Rattle.trees.specs.Plain.{if_then_else_, every, Answer, refused, gives}
 use Rattle.trees.specs.Text.{isBlank}
@@ -27,7 +27,7 @@ use Rattle.trees.specs.Batch.{verdictNumber, isRefusal, noneAccepted, Batched, 
 use Rattle.trees.specs.Nexus.{uncommented, isWord, Pair, File}
 use Rattle.trees.specs.NexusReading.{twoTokens, endsOther, outside, inOther, inTrees, Move, wrong, to, brings, blockBegun, moved, withText, closes, readsOn, reads}
 use Rattle.trees.specs.NexusCall.{replaced, onText, handing}
-use Rattle.theorems.specs.ListLaws.{less-or-not, if-true, if-false}
+use Rattle.theorems.specs.ListLaws.{less-or-not, if-true, if-false, and-left}
 use Rattle.answers.specs.declared.Progress.{Progress}
 use Rattle.answers.specs.Answers.{progressGiven, Small}
 use Rattle.head.specs.Head.{namesAt, openingAt}
@@ -43,6 +43,7 @@ use Rattle.feeding.specs.BatchLaws.{none-front, none-back}
 use Rattle.nexus.specs.declared.tokens.Token.{Token}
 use Rattle.nexus.specs.declared.lines.Line.the-variants as line
 use Rattle.nexus.specs.Places.{part, plainAt, commandsAt, CommandEnd}
+use Rattle.nexus.specs.PartLaws.{part-join}
 use Rattle.nexus.specs.Commands.{LineMoves}
 use Rattle.nexus.specs.BlockLaws.{reads-last, reads-moved}
 use Rattle.nexus.specs.Texts.{TextAs}
@@ -123,10 +124,10 @@ with-text u t ts (some x) e = (
 )
 
 -- the bytes from a place of a command on are a part of the file
-part-of : (f : List ℕ) (i e j : ℕ) → i + j ≤ e → drop j (part i e f) ≡ part (i + j) e f
-part-of f i e j h =
-    drop-take j (e - i) (drop i f) ∙ ap (take (e - i - j)) (drop-drop j i f)
-    ∙ ap (λ (n : ℕ). take n (drop (i + j) f)) (omega arith)
+part-of : (f : List ℕ) (i e j : ℕ) → i + j ≤ e → e ≤ length f → drop j (part i e f) ≡ part (i + j) e f
+part-of f i e j h g =
+    let n : length (part i (i + j) f) ≡ j = omega (arith, length-take (i + j - i) (drop i f), length-drop i f) in
+    ap (drop j) (part-join f i (i + j) e (omega arith) h) ∙ drop-at (part i (i + j) f) (part (i + j) e f) j n
 
 module _ (f : List ℕ) (i e : ℕ) (c : CommandEnd f i e) where
   -- a command without a semicolon is no line
@@ -146,7 +147,7 @@ module _ (f : List ℕ) (i e : ℕ) (c : CommandEnd f i e) where
     gives = λ t ts h.
         let d = inside (only (t ∷ ts)) h in
         let q = with-text (plainAt (part i e f) j) t ts _ (sym (reads-moved f i e c d (inTrees false) (brings (plainAt (part i e f) j)) (l .moves)) ∙ h) in
-        (d, ap uncommented (sym (part-of f i e j b)) ∙ q .0, q .1);
+        (d, ap uncommented (sym (part-of f i e j b (c .within))) ∙ q .0, q .1);
   }
 
   abbrev nowhere : Token
@@ -189,6 +190,10 @@ refusal-only : (h : Held) (v : Answer (List ℕ)) → isRefusal (verdictNumber (
 unfolding verdictNumber finished
 refusal-only h (refused k) e = (k, refl)
 refusal-only h (gives t) e = absurd (omega (arith, ltb-true (256 + length (h .trees)) 256 e))
+
+none-last : (x : List ℕ) (v : ℕ) → noneAccepted (x ++ v ∷ []) ≡ true → isRefusal v ≡ true
+unfolding noneAccepted every
+none-last x v e = and-left (isRefusal v) true (none-back x (v ∷ []) e)
 
 recording-opening : (h : Held) (v : Answer (List ℕ)) → recording h v .opening ≡ h .opening
 unfolding recording withTree
@@ -233,3 +238,131 @@ going-none ps f from n s v w h l = record {
   verdicts = refl;
   after = refl;
 }
+
+module _ (ps : List Pair) (f : List ℕ) (from n : ℕ) (s v t w : List ℕ) (at i : ℕ) (g : Going ps f from n s v t w at i) where
+  pub going-index : (starts links : List ℕ) → Indexed (namesAt s) starts links → Indexed (namesAt t) starts links
+  unfolding heldIn openingAt
+  going-index starts links x = rw (ap (λ (o : Opening). o .names) (g .opening)) x
+
+  -- the next text
+  module _ (d : i < n) where
+    some-text : (x : List ℕ) × (xs : List (List ℕ)) × (g .rest ≡ x ∷ xs)
+    some-text = go (g .rest) (g .count)
+      where
+        go : (us : List (List ℕ)) → i + length us ≡ n → (x : List ℕ) × (xs : List (List ℕ)) × (us ≡ x ∷ xs)
+        go [] e = absurd (omega arith)
+        go (x ∷ xs) e = (x, xs, refl)
+
+    next : List ℕ
+    next = some-text .0
+
+    later-ones : List (List ℕ)
+    later-ones = some-text .1
+
+    next-read : reads (inTrees false) (commandsAt f at) ≡ some (only (next ∷ later-ones))
+    unfolding next later-ones
+    next-read = g .read ∙ ap (λ (us : List (List ℕ)). some (only us)) (some-text .2)
+
+    module _ (k : Token) (l : LineAt f at k) (room : n ≤ length v) (m : ℕ) (text : List ℕ)
+        (x : TextAs (replaced ps (uncommented (part (k .from) (k .end) f))) m text)
+        (r : Progress) (u : List ℕ) (j : Judges t text m r u) (y : ℕ) (e : y ≡ verdictNumber (progressGiven r)) where
+      line-is : uncommented (part (k .from) (k .end) f) ≡ next
+      line-is = l .gives next later-ones next-read .1
+
+      judged-there : verdict (heldAt t) (laneWith m text) ≡ onText (heldAt t) (replaced ps next)
+      unfolding onText
+      judged-there = ap (verdict (heldAt t)) (lane-is _ m text x ∙ ap (λ (b : List ℕ). longer (holding []) (replaced ps b)) line-is)
+
+      after-held : heldAt u ≡ recording (heldAt t) (onText (heldAt t) (replaced ps next))
+      after-held = j .holds .held ∙ ap (recording (heldAt t)) judged-there
+
+      number-is : y ≡ verdictNumber (finished (heldAt t) (onText (heldAt t) (replaced ps next)))
+      number-is = e ∙ ap verdictNumber (j .answer ∙ ap (finished (heldAt t)) judged-there)
+
+      handing-on : handing (heldAt t) (map (replaced ps) (g .rest)) ≡ withVerdict y (handing (heldAt u) (map (replaced ps) later-ones))
+      unfolding handing next later-ones
+      handing-on = ap (λ (us : List (List ℕ)). handing (heldAt t) (map (replaced ps) us)) (some-text .2) ∙ rw (← number-is, ← after-held)
+
+      opening-on : heldAt u .opening ≡ heldAt s .opening
+      opening-on = ap (λ (h : Held). h .opening) after-held ∙ recording-opening (heldAt t) _ ∙ g .opening
+
+      behind-on : (q : ℕ) → sizeAt s ≤ q → getD u q 0 ≡ getD s q 0
+      behind-on q b =
+          let z : storeSize (recording (heldAt t) (verdict (heldAt t) (laneWith m text)) .opening .numbers) ≡ sizeAt s =
+          ap (λ (o : Opening). storeSize (o .numbers)) (recording-opening (heldAt t) _ ∙ g .opening) ∙ size-held s in
+          j .holds .behind q (omega arith) ∙ g .behind q b
+
+      found-on : noneAccepted (take i w ++ y ∷ []) ≡ true → u ≡ s
+      found-on q =
+          let a : isRefusal y ≡ true = none-last (take i w) y q in
+          let b = refusal-only (heldAt t) (verdict (heldAt t) (laneWith m text)) (rw (e, j .answer) at a) in
+          j .found (b .0) (b .1) ∙ g .found (none-front (take i w) (y ∷ []) q)
+
+      pub going-more : Going ps f from n s v u (set w i y) (k .end + 1) (i + 1)
+      unfolding withVerdict later-ones
+      going-more =
+          let z = l .gives next later-ones next-read in
+          let c : length (g .rest) ≡ suc (length (some-text .1)) = ap length (some-text .2) in
+          record {
+            reach = omega (arith, z .0);
+            all = g .all;
+            rest = some-text .1;
+            begun = g .begun;
+            read = z .2;
+            count = omega (arith, g .count, c);
+            whole = j .holds .whole;
+            opening = opening-on;
+            size = j .holds .size ∙ g .size;
+            behind = behind-on;
+            found = λ q. found-on (rw (add-one i, take-suc-set w i y (omega (arith, g .room))) at q);
+            room = length-set w i y ∙ g .room;
+            kept = rw (add-one i) (drop-set-lt (suc i) w i y (omega arith) ∙ next-kept);
+            verdicts =
+                g .verdicts
+                ∙ rw (handing-on, add-one i, take-suc-set w i y (omega (arith, g .room))) (sym (append-assoc (take i w) (y ∷ []) _));
+            after = g .after ∙ rw handing-on refl;
+          }
+        where
+          beyond : (b : List ℕ) → drop (suc i) b ≡ drop 1 (drop i b)
+          beyond b = sym (drop-drop 1 i b ∙ ap (λ (q : ℕ). drop q b) (add-one i))
+
+          next-kept : drop (suc i) w ≡ drop (suc i) v
+          next-kept = beyond w ∙ ap (drop 1) (g .kept) ∙ sym (beyond v)
+
+  -- behind the last text
+  module _ (d : i ≡ n) where
+    none-left : g .rest ≡ []
+    none-left = go (g .rest) (g .count)
+      where
+        go : (us : List (List ℕ)) → i + length us ≡ n → us ≡ []
+        go [] e = refl
+        go (x ∷ xs) e = absurd (omega arith)
+
+    last-after : handing (heldAt s) (map (replaced ps) (g .all)) .after ≡ heldAt t
+    unfolding handing
+    last-after = g .after ∙ ap (λ (us : List (List ℕ)). handing (heldAt t) (map (replaced ps) us) .after) none-left
+
+    last-verdicts : handing (heldAt s) (map (replaced ps) (g .all)) .verdicts ≡ take i w
+    unfolding handing
+    last-verdicts =
+        g .verdicts ∙ ap (λ (us : List (List ℕ)). take i w ++ handing (heldAt t) (map (replaced ps) us) .verdicts) none-left
+        ∙ append-nil (take i w)
+
+    fed : n ≤ length v → Feeds (handing (heldAt s) (map (replaced ps) (g .all))) s v t w
+    fed room = record {
+      holds = rw last-after (record {
+        whole = g .whole;
+        held = refl;
+        size = g .size;
+        behind = λ j b. g .behind j (omega (arith, ap (λ (o : Opening). storeSize (o .numbers)) (g .opening), size-held s));
+      });
+      verdicts = sym (take-append-drop i w) ∙ rw (last-verdicts, length-take-le i w (omega (arith, g .room)), g .kept) refl;
+      found = λ q. g .found (rw last-verdicts at q);
+    }
+
+    pub gone : n ≤ length v → FeedsLines ps f from n s v t w
+    unfolding textsOf
+    gone room = record {
+      feeds = λ ts c h.
+          subst (λ (us : List (List ℕ)). Feeds (handing (heldAt s) (map (replaced ps) us)) s v t w) (ap textsOf (sym (g .begun) ∙ h)) (fed room);
+    }
