@@ -4,6 +4,8 @@ pub mod PlaceLaws
 pub mod Commands
 pub mod Blocks
 pub mod Keys
+pub mod KeyLaws
 pub mod Texts
+pub mod TextLaws
 pub mod Verdicts
 pub mod Fed
