@@ -3,6 +3,7 @@
 --   part-slice                           the bytes of a text between two places, as crate head says it
 --   part-length                          how many they are
 --   key-slice, key-same, key-unlike      the key of a pair, and other bytes that are as many, or not
+--   keys-compared                        two keys, compared
 --   keys-length, keys-at                 the keys, and the key of pair j
 --   differ-not, differ-next, differ-end  no key comes twice, a pair at a time
 --   again-here, again-next, again-end    a key sought among others
@@ -14,7 +15,7 @@ use native.Mathlib.Omega.{arith}
 use mathlib.Core.Path.{_≡_, refl, sym, ap, _∙_}
 use mathlib.Core.Bool.{Bool, true, false, _&&_, _||_, not}
 use mathlib.Core.List.{List, [], _∷_}
-use mathlib.Core.Option.{Option, none, some}
+use mathlib.Core.Option.{none, some}
 use lib.ListN.{length, getD, drop, length-drop, drop-of-length-le}
 use lib.Seq.{slice, length-take-le, drop-cons}
 use Rattle.trees.specs.Plain.{if_then_else_, sameBytes, inNames}
@@ -54,6 +55,11 @@ module _ (s ps : List ℕ) (i a z : ℕ) (p : a ≡ getD ps (4 * i) 0) (q : z �
     key-unlike f g n =
         rw key-part
         (run-unlike (part a z s) (part b e t) (λ r. n (sym (part-length s a z h f) ∙ r ∙ part-length t b e k g)))
+
+-- the keys of pairs j and i, that of i from b up to e
+pub keys-compared : (s ps : List ℕ) (i j b e : ℕ) (r t : Bool) → b ≡ getD ps (4 * i) 0 → e ≡ getD ps (4 * i + 1) 0
+    → r ≡ sameBytes (keyIn s ps j) (part b e s) → r ≡ t → sameBytes (keyIn s ps j) (keyIn s ps i) ≡ t
+keys-compared s ps i j b e r t p q f g = rw (← p, ← q) (sym f ∙ g)
 
 -- ---- the keys of the pairs
 

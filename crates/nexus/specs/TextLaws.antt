@@ -9,18 +9,17 @@
 --   written-none, written-more                   the text as the loop writes it
 --   text-over, text-all                          it runs over, or is whole
 use Prim.Native.Nat.{ℕ, zero, suc, _+_, _-_, _≤_, _<_}
-use native.Mathlib.Nat.{add-zero}
 use native.Mathlib.Numerals.{add-one}
 use native.Mathlib.Omega.{arith}
 use mathlib.Core.Path.{_≡_, refl, sym, ap, _∙_}
-use mathlib.Core.Logic.{_⊎_, inl, inr, ⊎-elim}
+use mathlib.Core.Logic.{⊎-elim}
 use mathlib.Core.Bool.{Bool, true, false, not, _||_, true≢false}
 use mathlib.Core.List.{List, [], _∷_, _++_, append-assoc, append-nil}
 use lib.Dec.{eqb}
-use lib.ListN.{length, getD, set, take, drop, length-set, length-append, length-drop, drop-of-length-le}
-use lib.Seq.{sets-eq, take-at, take-suc-set, take-length, length-take-le, drop-cons, take-append-add}
+use lib.ListN.{length, getD, set, take, drop, length-set, length-append}
+use lib.Seq.{sets-eq, take-at, take-suc-set, length-take-le, drop-cons}
 use borrow.Author.Tests.{eq-eqb, ne-eqb}
-use Rattle.trees.specs.Plain.{if_then_else_, member, bytes}
+use Rattle.trees.specs.Plain.{member, bytes}
 use Rattle.trees.specs.Text.{isBlank, isLabelByte}
 use Rattle.trees.specs.Held.{mostText}
 use Rattle.trees.specs.Nexus.{Pair, begins, uncommented, behindComment}
@@ -111,7 +110,8 @@ put-run o s to b e p l h f g q =
     let m = length-take-le to o (omega arith) in
     let k : length (take to o ++ part b e s) ≡ to + (e - b) = length-append (take to o) (part b e s) ∙ omega arith in
     put-fits (part b e s) to o (to + (e - b)) p (ap length q ∙ copied-length o to s b (e - b)) (omega arith) (omega arith)
-    (rw q (ap (take (to + (e - b))) (sets-eq (part b e s) o to (omega arith)) ∙ take-at (take to o ++ part b e s) _ _ k))
+    (rw q
+    (ap (take (to + (e - b))) (sets-eq (part b e s) o to (omega arith)) ∙ take-at (take to o ++ part b e s) _ _ k))
 
 -- ---- a token, as it is shown
 
@@ -201,7 +201,7 @@ module _ (ps : List Pair) (free : Bool) (s : List ℕ) where
       ap (replacedAfter ps free w) (plain-byte s i (omega arith) (bracket-no-label b l))
       ∙ label-more ps free w b _ l
       ∙ label-run k (i + 1) r (w ++ b ∷ []) (omega arith) f (λ j m. each j (omega arith))
-      ∙ ap (λ (v : List ℕ). replacedAfter ps free v (plainAt s r)) (append-assoc w (b ∷ []) (part (i + 1) r s) ∙ ap (λ (v : List ℕ). w ++ v) (sym c))
+      ∙ ap (λ (v : List ℕ). replacedAfter ps free v (plainAt s r)) (append-assoc w (b ∷ []) (part (i + 1) r s) ∙ rw c)
 
   module _ (at to : ℕ) (o : List ℕ) (r : ℕ) (p : List ℕ) (e : ℕ) (x : RunEnd s at e) where
     pub token-step : at < e → PutAs (shown ps free (part at e s)) to r o p → Stepped ps s at to free o e r true p
@@ -255,10 +255,20 @@ module _ (ps : List Pair) (s : List ℕ) where
       text-rest : replaced ps (uncommented s) ≡ take to o ++ y .shows ++ replacedAfter ps next [] (plainAt s z)
       text-rest = x .rest ∙ ap (λ (l : List ℕ). take to o ++ l) (y .rest) ∙ sym (append-assoc (take to o) (y .shows) _)
 
+      text-length : to + length (y .shows) ≤ length (replaced ps (uncommented s))
+      text-length =
+          let f = x .few in
+          let g = x .size in
+          let k = length-take-le to o (omega arith) in
+          rw (text-rest, length-append, length-append) (omega arith)
+
       pub written-more : (r ≡ ranOver → ⊥) → Written ps s z r next p
       written-more n =
           let f : to + length (y .shows) ≤ mostText =
-          ⊎-elim (λ (h : mostText < to + length (y .shows)). absurd (n (y .put .over h))) (λ h. h) (less-or-not mostText (to + length (y .shows))) in
+          ⊎-elim
+          (λ (h : mostText < to + length (y .shows)). absurd (n (y .put .over h)))
+          (λ h. h)
+          (less-or-not mostText (to + length (y .shows))) in
           let q = y .put .fits f in
           record {
             within = y .within;
@@ -269,12 +279,10 @@ module _ (ps : List Pair) (s : List ℕ) where
 
       pub text-over : r ≡ ranOver → TextAs (replaced ps (uncommented s)) r p
       text-over e =
-          let g = x .size in
-          let k = x .few in
+          let n = text-length in
           let f : mostText < to + length (y .shows) =
-          ⊎-elim (λ (h : mostText < to + length (y .shows)). h) (λ (h : to + length (y .shows) ≤ mostText). absurd (omega (arith, y .put .fits h .0)))
+          ⊎-elim
+          (λ (h : mostText < to + length (y .shows)). h)
+          (λ (h : to + length (y .shows) ≤ mostText). absurd (omega (arith, y .put .fits h .0)))
           (less-or-not mostText (to + length (y .shows))) in
-          let n : length (replaced ps (uncommented s)) ≡ to + length (y .shows) + length (replacedAfter ps next [] (plainAt s z)) =
-          ap length text-rest ∙ length-append (take to o ++ y .shows) _
-          ∙ ap (λ (m : ℕ). m + length (replacedAfter ps next [] (plainAt s z))) (length-append (take to o) (y .shows) ∙ ap (λ (m : ℕ). m + length (y .shows)) (length-take-le to o (omega arith))) in
           record { fits = λ l. absurd (omega arith); over = λ l. e }

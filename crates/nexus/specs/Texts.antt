@@ -1,7 +1,7 @@
 -- Writing a tree's plain text.
 --
---   shownAt s i          the byte that is read at place i: a blank for a comment
---   ShownAt s i b        it is b
+--   behindOne s          s without its first byte
+--   ShownAt s i b        the byte that is read at place i is b: a blank for a comment
 --   PassedAt s i r       what is read behind it begins at r
 --   PutAs w to r o p     the bytes w are put at `to` into the buffer o, which is then p, and end at r; r is 4,097 where they end past 4,096
 --   TextAs t r p         the text t stands at the front of the buffer p and has r bytes; r is 4,097 where it has more than 4,096
@@ -10,16 +10,12 @@ use Prim.Native.Nat.{ℕ, _+_, _≤_, _<_}
 use mathlib.Core.Path.{_≡_}
 use mathlib.Core.Bool.{Bool}
 use mathlib.Core.List.{List, [], _∷_, _++_}
-use lib.ListN.{length, take, drop, getD}
+use lib.ListN.{length, take}
 use Rattle.trees.specs.Held.{mostText}
 use Rattle.trees.specs.Nexus.{Pair, uncommented}
 use Rattle.trees.specs.NexusCall.{replaced, replacedAfter}
 use Rattle.layout.specs.Store.{ranOver}
 use Rattle.nexus.specs.Places.{plainAt}
-
-unfoldable pub firstOr : ℕ → List ℕ → ℕ
-firstOr d [] = d
-firstOr d (b ∷ s) = b
 
 unfoldable pub behindOne : List ℕ → List ℕ
 behindOne [] = []

@@ -7,11 +7,9 @@ use Rattle.trees.specs.Plain.{inNames}
 use Rattle.trees.specs.NexusCall.{keysOf}
 use Rattle.nexus.specs.Commands.{pairsIn}
 use Rattle.nexus.specs.Keys.{keyIn}
-use Rattle.nexus.specs.KeyLaws.{again-here, again-next, again-end}
+use Rattle.nexus.specs.KeyLaws.{keys-compared, again-here, again-next, again-end}
 use Rattle.nexus.proofs.keys.comes_again.Statement.{statement}
 use Rattle.nexus.proofs.keys.comes_again.Tie as tie
-use Rattle.nexus.proofs.keys.comes_again.Reads as reads
-use Rattle.nexus.proofs.keys.comes_again.Lts as lts
 
 abbrev Inv-loop : tie.InvT-loop
 Inv-loop list n places i k j₀ j =
@@ -30,15 +28,19 @@ is-key-requires c κs =
 
 returns : tie.Need-returns Inv-loop μ-loop
 returns c =
+    let l = c .before .before .before .loop in
     let k = c .before .before .before .before .key-at .ensures in
-    let r = rw (k .0, k .1) at (c .before .is-key .ensures) in
-    sym (c .before .before .before .loop .inv ∙ again-here _ _ _ _ (c .before .before .loop-test .taken) _ (sym r ∙ c .if1 .taken))
+    let a = c .before .before .before .before .before .before .before .args in
+    let q = keys-compared (a .list .now) (a .places .now) (a .i) (l .j) _ _ _ _ (k .0) (k .1) (c .before .is-key .ensures) (c .if1 .taken) in
+    sym (l .inv ∙ again-here _ _ _ _ (c .before .before .loop-test .taken) _ q)
 
 loop-again : tie.Need-loop-again Inv-loop μ-loop
 loop-again c =
+    let l = c .before .before .before .loop in
     let k = c .before .before .before .before .key-at .ensures in
-    let r = rw (k .0, k .1) at (c .before .is-key .ensures) in
-    c .before .before .before .loop .inv ∙ again-next _ _ _ _ (c .before .before .loop-test .taken) _ (sym r ∙ c .if1 .left)
+    let a = c .before .before .before .before .before .before .before .args in
+    let q = keys-compared (a .list .now) (a .places .now) (a .i) (l .j) _ _ _ _ (k .0) (k .1) (c .before .is-key .ensures) (c .if1 .left) in
+    l .inv ∙ again-next _ _ _ _ (c .before .before .loop-test .taken) _ q
 
 returns-2 : tie.Need-returns-2 Inv-loop μ-loop
 returns-2 c =

@@ -1,10 +1,10 @@
 -- `nexus::keys::find_key` meets its contract. The loop's invariant: the keys from the entry on decide. Assumes nothing.
-use Prim.Native.Nat.{ℕ, _≤_, _<_, _-_}
+use Prim.Native.Nat.{ℕ, _≤_, _-_}
 use mathlib.Core.Path.{_≡_, sym, ap, _∙_}
 use mathlib.Core.Bool.{Bool}
 use mathlib.Core.List.{List, []}
 use native.Mathlib.Omega.{arith}
-use lib.ListN.{length, getD}
+use lib.ListN.{getD}
 use Rattle.trees.specs.Plain.{sameBytes}
 use Rattle.trees.specs.NexusCall.{keysOf}
 use Rattle.head.specs.Index.{key, Sought, left}
@@ -15,8 +15,6 @@ use Rattle.nexus.specs.Keys.{keyIn}
 use Rattle.nexus.specs.KeyLaws.{part-slice, keys-length, keys-at, found-here, found-out}
 use Rattle.nexus.proofs.keys.find_key.Statement.{statement}
 use Rattle.nexus.proofs.keys.find_key.Tie as tie
-use Rattle.nexus.proofs.keys.find_key.Reads as reads
-use Rattle.nexus.proofs.keys.find_key.Lts as lts
 
 abbrev Inv-loop : tie.InvT-loop
 Inv-loop list n places starts links text b e k number₀ number =

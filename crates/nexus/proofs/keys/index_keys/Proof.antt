@@ -11,8 +11,6 @@ use Rattle.nexus.specs.Commands.{pairsIn}
 use Rattle.nexus.specs.KeyLaws.{key-slice, keys-length, keys-at}
 use Rattle.nexus.proofs.keys.index_keys.Statement.{statement}
 use Rattle.nexus.proofs.keys.index_keys.Tie as tie
-use Rattle.nexus.proofs.keys.index_keys.Reads as reads
-use Rattle.nexus.proofs.keys.index_keys.Lts as lts
 
 abbrev Inv-loop : tie.InvT-loop
 Inv-loop list n places starts₀ links₀ i₀ starts links i =

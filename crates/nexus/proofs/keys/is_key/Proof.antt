@@ -5,8 +5,6 @@ use mathlib.Core.Path.{sym, _∙_}
 use Rattle.nexus.specs.KeyLaws.{key-same, key-unlike}
 use Rattle.nexus.proofs.keys.is_key.Statement.{statement}
 use Rattle.nexus.proofs.keys.is_key.Tie as tie
-use Rattle.nexus.proofs.keys.is_key.Reads as reads
-use Rattle.nexus.proofs.keys.is_key.Lts as lts
 
 returns : tie.Need-returns
 returns c =

@@ -10,8 +10,6 @@ use Rattle.nexus.specs.Commands.{pairsIn}
 use Rattle.nexus.specs.KeyLaws.{differ-not, differ-next, differ-end}
 use Rattle.nexus.proofs.keys.repeats.Statement.{statement}
 use Rattle.nexus.proofs.keys.repeats.Tie as tie
-use Rattle.nexus.proofs.keys.repeats.Reads as reads
-use Rattle.nexus.proofs.keys.repeats.Lts as lts
 
 abbrev Inv-loop : tie.InvT-loop
 Inv-loop list n places i₀ i = different (keysOf (pairsIn list n places)) ≡ different (drop i (keysOf (pairsIn list n places)))

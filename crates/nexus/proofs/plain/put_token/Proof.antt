@@ -8,8 +8,6 @@ use Rattle.nexus.specs.KeyLaws.{part-length, name-stays, name-found}
 use Rattle.nexus.specs.TextLaws.{put-kept, put-named}
 use Rattle.nexus.proofs.plain.put_token.Statement.{statement}
 use Rattle.nexus.proofs.plain.put_token.Tie as tie
-use Rattle.nexus.proofs.plain.put_token.Reads as reads
-use Rattle.nexus.proofs.plain.put_token.Lts as lts
 
 returns : tie.Need-returns
 returns c = put-kept _ _ _ _ _ _ _ (not-true _ (c .before .before .before .before .if1 .taken)) (c .before .before .put-run .ensures)

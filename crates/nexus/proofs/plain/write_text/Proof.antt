@@ -10,8 +10,6 @@ use Rattle.nexus.specs.Texts.{Written, Stepped}
 use Rattle.nexus.specs.TextLaws.{token-step, byte-step, written-none, written-more, text-over, text-all}
 use Rattle.nexus.proofs.plain.write_text.Statement.{statement}
 use Rattle.nexus.proofs.plain.write_text.Tie as tie
-use Rattle.nexus.proofs.plain.write_text.Reads as reads
-use Rattle.nexus.proofs.plain.write_text.Lts as lts
 
 abbrev Inv-loop : tie.InvT-loop
 Inv-loop list n places starts links raw out₀ at₀ to₀ free₀ out at to free = Written (pairsIn list n places) raw at to free out
