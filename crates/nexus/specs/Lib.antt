@@ -9,7 +9,9 @@ pub mod Commands
 pub mod Blocks
 pub mod BlockLaws
 pub mod Keys
+pub mod KeyLaws
 pub mod Texts
+pub mod TextLaws
 pub mod Verdicts
 pub mod VerdictLaws
 pub mod FeedLaws

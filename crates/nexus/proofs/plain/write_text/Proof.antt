@@ -1,4 +1,87 @@
+-- `nexus::plain::write_text` meets its contract. The loop's invariant: the text before `at` is written, and the bytes from `at` on decide the rest.
+-- Assumes nothing.
+use Prim.Native.Nat.{_-_}
+use native.Mathlib.Omega.{arith}
+use mathlib.Core.Path.{sym, _∙_}
+use mathlib.Core.Logic.{⊎-elim}
+use lib.ListN.{length}
+use Rattle.nexus.specs.Commands.{pairsIn}
+use Rattle.nexus.specs.Texts.{Written, Stepped}
+use Rattle.nexus.specs.TextLaws.{token-step, byte-step, written-none, written-more, text-over, text-all}
 use Rattle.nexus.proofs.plain.write_text.Statement.{statement}
+use Rattle.nexus.proofs.plain.write_text.Tie as tie
+
+abbrev Inv-loop : tie.InvT-loop
+Inv-loop list n places starts links raw out₀ at₀ to₀ free₀ out at to free = Written (pairsIn list n places) raw at to free out
+
+abbrev μ-loop : tie.MeasureT-loop
+μ-loop list n places starts links raw out₀ at₀ to₀ free₀ out at to free = length raw - at
+
+put-token-requires : tie.Need-put-token-requires Inv-loop μ-loop
+put-token-requires c κs =
+    let x = c .before .before .before .before .before .before .before .before .before in
+    let v = c .before .before .before .before .loop .inv in
+    let e = c .before .before .token-end .ensures in
+    (x .pre .0, (x .pre .1 .0, (c .before .if1 .taken, (e .within, (v .few, v .size)))))
+
+put-byte-requires : tie.Need-put-byte-requires Inv-loop μ-loop
+put-byte-requires c κs = let v = c .before .before .before .before .before .loop .inv in (v .few, v .size)
+
+-- a turn of the loop, by a token or by a byte
+stepped : (c : tie.Joined1 Inv-loop μ-loop) →
+    let a = c .before .before .before .before .before .before .before .before .args in
+    let l = c .before .before .before .loop in
+    Stepped (pairsIn (a .list .now) (a .n) (a .places .now)) (a .raw .now) (l .at) (l .to) (l .free) (l .out)
+    (c .if1 .at) (c .if1 .to) (c .if1 .free) (c .if1 .out)
+stepped c =
+    let e = c .before .token-end .ensures in
+    ⊎-elim
+    (λ w. rw (w .5, w .6, w .7, w .8) (token-step _ _ _ _ _ _ _ _ _ e (w .0 .taken) (w .2 .ensures)))
+    (λ w. rw (w .8, w .9, w .10, w .11)
+    (byte-step _ _ _ _ _ _ _ _ _ e _ _ _ (w .0 .left) (w .1 .ensures) (w .7 .ensures) (w .3 .ensures) (w .6 .ensures)))
+    (c .if1 .came)
+
+returns : tie.Need-returns Inv-loop μ-loop
+returns c =
+    let v = c .before .before .before .before .loop .inv in
+    let y = stepped (c .before) in
+    (text-over _ _ _ _ _ _ v _ _ _ _ y (c .if2 .taken), y .put .size ∙ v .size)
+
+same-length : tie.Need-same-length Inv-loop μ-loop
+same-length c =
+    let x = c .before .before .before .before .before .before .before .before .before in
+    stepped (c .before) .put .size ∙ c .before .before .before .before .loop .inv .size ∙ sym (x .pre .1 .1)
+
+loop-less : tie.Need-loop-less Inv-loop μ-loop
+loop-less c = let y = stepped (c .before) in omega (arith, y .past, y .within)
+
+loop-again : tie.Need-loop-again Inv-loop μ-loop
+loop-again c =
+    written-more _ _ _ _ _ _ (c .before .before .before .before .loop .inv) _ _ _ _ (stepped (c .before)) (c .if2 .left)
+
+same-length-2 : tie.Need-same-length-2 Inv-loop μ-loop
+same-length-2 c =
+    c .before .loop .inv .size ∙ sym (c .before .before .before .before .before .before .pre .1 .1)
+
+returns-2 : tie.Need-returns-2 Inv-loop μ-loop
+returns-2 c = (text-all _ _ _ _ _ _ (c .before .loop .inv) (c .loop-test .left), c .before .loop .inv .size)
 
 pub write-text-spec : {M : Type 1} → statement M
-write-text-spec = ?
+write-text-spec =
+    tie.close
+    (tie.spec
+    Inv-loop
+    μ-loop
+    (λ c. written-none _ _ _ (c .before .before .before .before .pre .1 .1))
+    (λ c κs. c .before .loop .inv .within)
+    put-token-requires
+    (λ c κs. omega arith)
+    put-byte-requires
+    (λ c κs. tt)
+    (λ c κs. omega arith)
+    same-length
+    returns
+    loop-less
+    loop-again
+    same-length-2
+    returns-2)
