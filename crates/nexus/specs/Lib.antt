@@ -2,7 +2,9 @@
 pub mod Places
 pub mod PlaceLaws
 pub mod Commands
+pub mod PairLaws
 pub mod Blocks
+pub mod TranslateLaws
 pub mod Keys
 pub mod Texts
 pub mod Verdicts
