@@ -36,10 +36,13 @@ reads-more q c x s = subst (λ ds. reads q (c ∷ ds) ≡ readsOn (moved q c) (�
 
 no-end : (w : List ℕ) → isWord "TRANSLATE" w ≡ true → isWord "END" w ≡ false
 unfolding isWord
-no-end w e = go (sameBytes (map capital w) (bytes "END")) refl
+no-end w e = go (isWord "END" w) refl
   where
-    go : (t : Bool) → sameBytes (map capital w) (bytes "END") ≡ t → t ≡ false
-    go true q = let z : _≡_ {A = ℕ} 3 9 = ap length (sym (same-true _ _ q) ∙ same-true _ _ e) in absurd (omega arith)
+    go : (t : Bool) → isWord "END" w ≡ t → t ≡ false
+    go true q =
+        let z : bytes "END" ≡ bytes "TRANSLATE" = sym (same-true (map capital w) (bytes "END") q) ∙ same-true (map capital w) (bytes "TRANSLATE") e in
+        let n : _≡_ {A = ℕ} 3 9 = ap length z in
+        absurd (omega arith)
     go false q = refl
 
 module _ (c : List ℕ) where
@@ -112,7 +115,8 @@ module _ (f : List ℕ) (i e : ℕ) (end : CommandEnd f i e) (w : Token) (tw : T
       unfolding listed
       listed-pairs =
           let g = p .good (omega arith) in
-          ap listed (g .0) ∙ if-true _ _ (le-leb _ 64 (omega (arith, pairs-length (part i e f) ps n, g .1 .few)))
+          let h : length (pairsIn (part i e f) n ps) ≤ 64 = omega (arith, pairs-length (part i e f) ps n, g .1 .few) in
+          ap listed (g .0) ∙ if-true _ _ (le-leb _ 64 h)
 
       pub good-list : ListedAs f i (record { from = i; end = e; pairs = n; at = e + 1 }) ps
       unfolding readsOn

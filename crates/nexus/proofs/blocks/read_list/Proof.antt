@@ -1,4 +1,6 @@
 use borrow.Author.Needs.{needs}
+use borrow.Author.Tests.{not-true, not-false}
+use Rattle.nexus.specs.TranslateLaws.{no-list, bad-list, good-list}
 use Rattle.nexus.proofs.blocks.read_list.Statement.{statement}
 use Rattle.nexus.proofs.blocks.read_list.Tie as tie
 use Rattle.nexus.proofs.blocks.read_list.Reads as reads
@@ -50,7 +52,7 @@ is-word-requires c κs = search needs
 
 -- src/blocks.rt:81:9
 returns : tie.Need-returns
-returns c = ?
+returns c = (no-list _ _ _ (c .before .before .before .before .before .before .command-end .ensures) _ (c .before .before .before .before .first-token .ensures) _ (c .before .is-word .ensures) (c .before .before .before .before .before .before .before .before .before .pre .0) (not-true _ (c .if1 .taken)) _, search needs)
 
 -- src/blocks.rt:88:31
 sub-read-pairs : tie.Need-sub-read-pairs
@@ -78,7 +80,7 @@ same-length c = search needs
 
 -- src/blocks.rt:90:9
 returns-2 : tie.Need-returns-2
-returns-2 c = ?
+returns-2 c = (bad-list _ _ _ (c .before .before .before .before .before .before .before .before .before .before .before .before .command-end .ensures) _ (c .before .before .before .before .before .before .before .before .before .before .first-token .ensures) _ (c .before .before .before .before .before .before .before .is-word .ensures) (not-false _ (c .before .before .before .before .before .before .if1 .left)) _ _ (c .before .before .before .read-pairs .ensures .0) (c .if2 .taken), c .before .before .before .read-pairs .ensures .1)
 
 -- src/blocks.rt:101:13
 add-t9 : tie.Need-add-t9
@@ -90,7 +92,7 @@ same-length-2 c = search needs
 
 -- src/blocks.rt:72:1
 returns-3 : tie.Need-returns-3
-returns-3 c = ?
+returns-3 c = (good-list _ _ _ (c .before .before .before .before .before .before .before .before .before .before .before .before .command-end .ensures) _ (c .before .before .before .before .before .before .before .before .before .before .first-token .ensures) _ (c .before .before .before .before .before .before .before .is-word .ensures) (not-false _ (c .before .before .before .before .before .before .if1 .left)) _ _ (c .before .before .before .read-pairs .ensures .0) (c .if2 .left), c .before .before .before .read-pairs .ensures .1)
 
 pub read-list-spec : {M : Type 1} → statement M
 read-list-spec =
