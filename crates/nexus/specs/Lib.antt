@@ -2,9 +2,8 @@
 pub mod Places
 pub mod PlaceLaws
 pub mod Commands
-pub mod PairLaws
 pub mod Blocks
-pub mod TranslateLaws
+pub mod PairLaws
 pub mod Keys
 pub mod Texts
 pub mod Verdicts

@@ -1,43 +1,63 @@
--- Laws of the pairs that a TRANSLATE command lists. Assumes nothing.
+-- Laws of the pairs that a TRANSLATE command lists, and of that command. Assumes nothing.
 --
 --   firstPart x s, laterParts x s     the first part of s between its bytes x, and the later ones
 --   parts-split        they are the parts of s
 --   run-part, behind-part, later-part     a run of bytes, none of which is x, at the front of a part and of the whole
---   first-part, behind-first, later-first     the first token of a part and of the whole, and what stands behind it
+--   twoBy k n b        the pair of k and n, where both are tokens and the test b passes
+--   first-part, behind-first, later-first, blank-part     tokens and blanks at the front of a part and of the whole
+--   behindTwo s        what stands behind the first two tokens of s, and blanks
 --   two-part           the two tokens that a first part is, told by the whole
 --   pairs-step         a list of pairs is its first part and the later ones
---   no-key, no-name, stray, pair-step     a list whose first part lacks a token, has more than two, is a pair
---   list-none, list-stray, list-last, list-more     the same, told by places
+--   no-key, no-name, stray, pair-step     a list whose first part lacks a token, has more than two tokens, is a pair
+--   NoComma l          some byte, and no comma, stands at the front of l
+--   comment-front, other-front, other-stray     so it is behind a comment's bracket, at another byte, and then a part has more
+--   part-none, part-some     the bytes between two places: none, or one and more
+--   pairOf c k v       the bytes of the tokens k and v of c
+--   list-none, list-stray, list-last, list-more     a list whose first part is no pair, is the last one, or has others behind it, told by places
 --   prepended ps x     the pairs ps before the pairs x, if any
+--   prepended-none, prepended-some, prepended-more     before nothing, before others, one more
 --   too-many           64 pairs and a part more are no list
 --   up-to              what holds below n and at n holds below n + 1
 --   pairs-snoc, pairs-same, pairs-length     the pairs at places: one more, the same, how many
 --   placed-before, placed-0 to placed-3, placed-length     the places with those of a pair that was put
---   pairs-more, placed-more     the pairs at these places
+--   pair-before, pair-here     the pairs there: those before it, and itself
+--   pairs-more, placed-more, placed-none     the pairs at these places
 --   ReadTo c i at n ps     from i on, n pairs were read up to at, and their places are ps
+--   placed-next, rest-next     one pair more
 --   read-none, read-fault, read-many, read-last, read-more     the paths of `read_pairs`
+--   reads-more         a command, and what stands behind its semicolon
+--   no-end             the keyword TRANSLATE is not END
+--   moved-line, moved-list     what a command does that begins with another word, with TRANSLATE
+--   with-none          no pairs before those of a file
+--   closed, goes-on    a command of the TREES block without a semicolon, and with one
+--   is-translate       the first token is TRANSLATE, told by places
+--   same-read          another command reads the same, whether the block has just begun or not
+--   list-moves, listed-pairs     what a TRANSLATE command does, and where it lists pairs
+--   no-list, bad-list, good-list     the paths of `read_list`
 use Prim.Native.Nat.{ℕ, zero, suc, _+_, _-_, _*_, _≤_, _<_}
 use native.Mathlib.Numerals.{add-one}
 use native.Mathlib.Omega.{arith}
 use mathlib.Core.Path.{_≡_, refl, sym, ap, ap₂, subst, _∙_}
 use mathlib.Core.Logic.{_⊎_, ⊎-elim}
 use mathlib.Core.Bool.{Bool, true, false, _&&_, true≢false}
-use mathlib.Core.List.{List, [], _∷_, _++_, append-nil}
+use mathlib.Core.List.{List, [], _∷_, _++_, map, append-nil}
 use mathlib.Core.Option.{Option, none, some}
 use lib.Dec.{leb, eqb}
 use lib.ListN.{length, getD, set, take, drop, length-take, length-drop, length-set, length-append}
 use lib.Seq.{getD-set-same, getD-set-other}
-use borrow.Author.Tests.{eqb-true, eq-eqb, ne-eqb, le-leb, lt-leb}
-use Rattle.trees.specs.Plain.{if_then_else_, every}
+use borrow.Author.Tests.{eqb-true, ne-eqb, le-leb, lt-leb}
+use Rattle.trees.specs.Plain.{if_then_else_, every, sameBytes, bytes}
 use Rattle.trees.specs.Text.{isBlank, isLabelByte}
-use Rattle.trees.specs.Nexus.{runOf, behindRun, begins, uncommented, behindComment, withByte, parts, Pair}
-use Rattle.trees.specs.NexusReading.{firstToken, behindFirst, twoTokens, withPair, readPairs, wrong, listed}
+use Rattle.trees.specs.Nexus.{runOf, behindRun, begins, uncommented, behindComment, withByte, parts, capital, isWord, Pair, File}
+use Rattle.trees.specs.NexusReading.{firstToken, behindFirst, twoTokens, withPair, readPairs, readLine, isEnd, Place, outside, inTrees, Move, wrong, to, lists, listed, lineGiven, moved, withPairs, readsOn, reads}
 use Rattle.theorems.specs.ListLaws.{if-true, if-false, and-true, less-or-not, equal-or-not}
 use Rattle.theorems.specs.RunOfLaws.{run-over, every-behind}
+use Rattle.theorems.specs.NameLaws.{same-true}
 use Rattle.nexus.specs.declared.tokens.Token.{Token}
-use Rattle.nexus.specs.Places.{part, plainAt, Skipped, TokenAt}
+use Rattle.nexus.specs.Places.{part, plainAt, commandsAt, Skipped, TokenAt, CommandEnd}
 use Rattle.nexus.specs.PlaceLaws.{plain-none, plain-byte, plain-comment}
 use Rattle.nexus.specs.Commands.{pairAt, pairsFrom, pairsIn, Placed, placedPair, PairsAs}
+use Rattle.nexus.specs.Blocks.{ListedAs}
 
 -- ---- parts
 
@@ -203,6 +223,10 @@ part-none i r s e = let z : r - i ≡ 0 = omega arith in ap (λ (n : ℕ). take 
 part-some : (i r : ℕ) (s : List ℕ) → i ≤ r → (i ≡ r → ⊥) → r ≤ length s → 1 ≤ length (part i r s)
 part-some i r s h n l = simp (length-take, length-drop) (omega arith)
 
+-- the bytes of the tokens k and v
+abbrev pairOf : List ℕ → Token → Token → Pair
+pairOf c k v = (part (k .from) (k .end) c, part (v .from) (v .end) c)
+
 module _ (c : List ℕ) (at : ℕ) (k v : Token) (tk : TokenAt c at k) (tv : TokenAt c (k .end) v) where
   second : firstToken (behindFirst (plainAt c at)) ≡ part (v .from) (v .end) c
   second = ap firstToken (tk .behind) ∙ tv .token
@@ -224,28 +248,28 @@ module _ (c : List ℕ) (at : ℕ) (k v : Token) (tk : TokenAt c at k) (tv : Tok
 
   module _ (two : (k .from ≡ k .end → ⊥) × (v .from ≡ v .end → ⊥)) (e : ℕ) (sk : Skipped c (v .end) e) where
     list-read : firstPart 44 (plainAt c e) ≡ []
-        → readPairs (parts 44 (plainAt c at)) ≡ withPair (some (part (k .from) (k .end) c, part (v .from) (v .end) c)) (readPairs (laterParts 44 (plainAt c e)))
+        → readPairs (parts 44 (plainAt c at)) ≡ withPair (some (pairOf c k v)) (readPairs (laterParts 44 (plainAt c e)))
     list-read q =
         let hk : 1 ≤ length (firstToken (plainAt c at)) = rw (tk .token) (part-some _ _ c (tk .order) (two .0) (tk .within)) in
         let hv : 1 ≤ length (firstToken (behindFirst (plainAt c at))) = rw second (part-some _ _ c (tv .order) (two .1) (tv .within)) in
         rw (tk .token, second, behind-two e sk) at (pair-step (plainAt c at) hk hv (ap (firstPart 44) (behind-two e sk) ∙ q))
 
-    pub list-last : e ≡ length c
-        → readPairs (parts 44 (plainAt c at)) ≡ withPair (some (part (k .from) (k .end) c, part (v .from) (v .end) c)) (some [])
+    list-last : e ≡ length c
+        → readPairs (parts 44 (plainAt c at)) ≡ withPair (some (pairOf c k v)) (some [])
     unfolding firstPart laterParts readPairs
     list-last q =
         let z = plain-none c e (omega arith) in
         list-read (ap (firstPart 44) z)
-        ∙ ap (λ (l : List ℕ). withPair (some (part (k .from) (k .end) c, part (v .from) (v .end) c)) (readPairs (laterParts 44 l))) z
+        ∙ ap (λ (l : List ℕ). withPair (some (pairOf c k v)) (readPairs (laterParts 44 l))) z
 
-    pub list-more : e < length c → getD c e 0 ≡ 44
+    list-more : e < length c → getD c e 0 ≡ 44
         → readPairs (parts 44 (plainAt c at))
-        ≡ withPair (some (part (k .from) (k .end) c, part (v .from) (v .end) c)) (readPairs (parts 44 (plainAt c (e + 1))))
+        ≡ withPair (some (pairOf c k v)) (readPairs (parts 44 (plainAt c (e + 1))))
     unfolding firstPart laterParts
     list-more h q =
         let z = plain-byte c e h (λ x. omega arith) ∙ ap (λ (b : ℕ). b ∷ plainAt c (e + 1)) q in
         list-read (ap (firstPart 44) z)
-        ∙ ap (λ (l : List ℕ). withPair (some (part (k .from) (k .end) c, part (v .from) (v .end) c)) (readPairs (laterParts 44 l))) z
+        ∙ ap (λ (l : List ℕ). withPair (some (pairOf c k v)) (readPairs (laterParts 44 l))) z
 
 -- ---- pairs before others
 
@@ -300,7 +324,7 @@ module _ (s ps : List ℕ) where
   pairs-from-length j zero = refl
   pairs-from-length j (suc n) = ap suc (pairs-from-length (suc j) n)
 
-  pub pairs-length : (n : ℕ) → length (pairsIn s n ps) ≡ n
+  pairs-length : (n : ℕ) → length (pairsIn s n ps) ≡ n
   unfolding pairsIn
   pairs-length n = pairs-from-length 0 n
 
@@ -351,10 +375,10 @@ module _ (ps : List ℕ) (n : ℕ) (k v : Token) where
     placed-3 : getD (placedPair ps n k v) (4 * n + 3) 0 ≡ v .end
     placed-3 = getD-set-same (putThree ps n k v) (4 * n + 3) (v .end) 0 (simp length-set (omega arith))
 
-    pair-here : (s : List ℕ) → pairAt s (placedPair ps n k v) n ≡ (part (k .from) (k .end) s, part (v .from) (v .end) s)
+    pair-here : (s : List ℕ) → pairAt s (placedPair ps n k v) n ≡ pairOf s k v
     pair-here s = rw (placed-0, placed-1, placed-2, placed-3)
 
-    pairs-more : (s : List ℕ) → pairsIn s (n + 1) (placedPair ps n k v) ≡ pairsIn s n ps ++ ((part (k .from) (k .end) s, part (v .from) (v .end) s) ∷ [])
+    pairs-more : (s : List ℕ) → pairsIn s (n + 1) (placedPair ps n k v) ≡ pairsIn s n ps ++ (pairOf s k v ∷ [])
     unfolding pairsIn
     pairs-more s =
         let z : 0 + n ≡ n = omega arith in
@@ -385,10 +409,10 @@ module _ (ps : List ℕ) (n : ℕ) (k v : Token) where
               (rw (placed-2, placed-3) (vo, vw));
         }
 
-pub placed-none : (s ps : List ℕ) → Placed s 0 ps
+placed-none : (s ps : List ℕ) → Placed s 0 ps
 placed-none s ps = record { few = omega arith; reach = omega arith; keys = λ j h. absurd (omega arith); names = λ j h. absurd (omega arith) }
 
--- ---- the paths
+-- ---- the paths of `read_pairs`
 
 pub record ReadTo (c : List ℕ) (i at n : ℕ) (ps : List ℕ) : Type 0 where
   pub here : at ≤ length c
@@ -415,20 +439,20 @@ module _ (c : List ℕ) (i at n : ℕ) (ps : List ℕ) (r : ReadTo c i at n ps) 
       }
 
   module _
-    (k v : Token)
-    (e : ℕ)
-    (qs : List ℕ)
-    (few : n < 64)
-    (room : 4 * n + 4 ≤ length ps)
-    (tk : TokenAt c at k)
-    (tv : TokenAt c (k .end) v)
-    (two : (k .from ≡ k .end → ⊥) × (v .from ≡ v .end → ⊥))
-    (sk : Skipped c (v .end) e)
-    (put : qs ≡ placedPair ps n k v) where
+      (k v : Token)
+      (e : ℕ)
+      (qs : List ℕ)
+      (few : n < 64)
+      (room : 4 * n + 4 ≤ length ps)
+      (tk : TokenAt c at k)
+      (tv : TokenAt c (k .end) v)
+      (two : (k .from ≡ k .end → ⊥) × (v .from ≡ v .end → ⊥))
+      (sk : Skipped c (v .end) e)
+      (put : qs ≡ placedPair ps n k v) where
     placed-next : Placed c (n + 1) qs
     placed-next = rw put (placed-more ps n k v room c few (r .placed) (tk .order) (tk .within) (tv .order) (tv .within))
 
-    rest-next : (x : Option (List Pair)) → readPairs (parts 44 (plainAt c at)) ≡ withPair (some (part (k .from) (k .end) c, part (v .from) (v .end) c)) x
+    rest-next : (x : Option (List Pair)) → readPairs (parts 44 (plainAt c at)) ≡ withPair (some (pairOf c k v)) x
         → readPairs (parts 44 (plainAt c i)) ≡ prepended (pairsIn c (n + 1) qs) x
     rest-next x q =
         r .rest ∙ ap (prepended (pairsIn c n ps)) q
@@ -442,3 +466,116 @@ module _ (c : List ℕ) (i at n : ℕ) (ps : List ℕ) (r : ReadTo c i at n ps) 
 
     pub read-more : e < length c → getD c e 0 ≡ 44 → ReadTo c i (e + 1) (n + 1) qs
     read-more h q = record { here = omega arith; placed = placed-next; rest = rest-next _ (list-more c at k v tk tv two e sk h q) }
+
+-- ---- commands of the TREES block
+
+pub reads-more : (q : Place) (c : List ℕ) (x : ℕ) (s : List ℕ) → reads q (c ∷ parts x s) ≡ readsOn (moved q c) (λ p. reads p (parts x s))
+unfolding reads
+reads-more q c x s = subst (λ ds. reads q (c ∷ ds) ≡ readsOn (moved q c) (λ p. reads p ds)) (sym (parts-split x s)) refl
+
+-- ---- a TRANSLATE command
+
+no-end : (w : List ℕ) → isWord "TRANSLATE" w ≡ true → isWord "END" w ≡ false
+unfolding isWord
+no-end w e = go (isWord "END" w) refl
+  where
+    go : (t : Bool) → isWord "END" w ≡ t → t ≡ false
+    go true q =
+        let z : bytes "END" ≡ bytes "TRANSLATE" = sym (same-true (map capital w) (bytes "END") q) ∙ same-true (map capital w) (bytes "TRANSLATE") e in
+        let n : _≡_ {A = ℕ} 3 9 = ap length z in
+        absurd (omega arith)
+    go false q = refl
+
+module _ (c : List ℕ) where
+  moved-line : isWord "TRANSLATE" (firstToken c) ≡ false → moved (inTrees true) c ≡ moved (inTrees false) c
+  unfolding moved
+  moved-line e =
+      ap (λ (t : Bool). if isEnd c then to (outside true) else if t then listed (readPairs (parts 44 (behindFirst c))) else lineGiven (readLine c)) e
+
+  moved-list : isWord "TRANSLATE" (firstToken c) ≡ true → moved (inTrees true) c ≡ listed (readPairs (parts 44 (behindFirst c)))
+  unfolding moved isEnd
+  moved-list e = if-false _ _ (ap (λ (t : Bool). t && every isBlank (behindFirst c)) (no-end (firstToken c) e)) ∙ if-true _ _ e
+
+with-none : (x : Option File) → x ≡ withPairs [] x
+unfolding withPairs
+with-none none = refl
+with-none (some x) = refl
+
+-- ---- the paths of `read_list`
+
+abbrev pub translateBytes : List ℕ
+translateBytes = 84 ∷ 82 ∷ 65 ∷ 78 ∷ 83 ∷ 76 ∷ 65 ∷ 84 ∷ 69 ∷ []
+
+module _ (f : List ℕ) (i e : ℕ) (end : CommandEnd f i e) where
+  closed : (fresh : Bool) → length f ≤ e → reads (inTrees fresh) (commandsAt f i) ≡ none
+  unfolding reads
+  closed fresh h = let q : e ≡ length f = omega (arith, end .within) in ap (reads (inTrees fresh)) (end .last q)
+
+  goes-on : (fresh : Bool) → e < length f
+      → reads (inTrees fresh) (commandsAt f i) ≡ readsOn (moved (inTrees fresh) (uncommented (part i e f))) (λ p. reads p (commandsAt f (e + 1)))
+  goes-on fresh h = ap (reads (inTrees fresh)) (end .more h) ∙ reads-more (inTrees fresh) (uncommented (part i e f)) _ _
+
+module _
+    (f : List ℕ)
+    (i e : ℕ)
+    (end : CommandEnd f i e)
+    (w : Token)
+    (tw : TokenAt (part i e f) 0 w)
+    (t : Bool)
+    (word : t ≡ sameBytes (map capital (part (w .from) (w .end) (part i e f))) translateBytes) where
+  is-translate : isWord "TRANSLATE" (firstToken (uncommented (part i e f))) ≡ t
+  unfolding isWord
+  is-translate = ap (λ (l : List ℕ). sameBytes (map capital l) translateBytes) (tw .token) ∙ sym word
+
+  same-read : t ≡ false → reads (inTrees true) (commandsAt f i) ≡ reads (inTrees false) (commandsAt f i)
+  same-read q =
+      let m = moved-line (uncommented (part i e f)) (is-translate ∙ q) in
+      ⊎-elim
+      (λ h. goes-on f i e end true h ∙ ap (λ (u : Move). readsOn u (λ p. reads p (commandsAt f (e + 1)))) m ∙ sym (goes-on f i e end false h))
+      (λ h. closed f i e end true h ∙ sym (closed f i e end false h))
+      (less-or-not e (length f))
+
+  pub no-list : i ≤ length f → t ≡ false → (ps : List ℕ) → ListedAs f i (record { from = i; end = i; pairs = 0; at = i }) ps
+  unfolding pairsIn
+  no-list h q ps =
+      record {
+        good = λ l. (omega arith, h, placed-none (part i i f) ps, same-read q ∙ with-none (reads (inTrees false) (commandsAt f i)));
+        fault = λ l. absurd (omega arith);
+      }
+
+  module _ (is : t ≡ true) where
+    list-moves : moved (inTrees true) (uncommented (part i e f)) ≡ listed (readPairs (parts 44 (plainAt (part i e f) (w .end))))
+    list-moves = moved-list (uncommented (part i e f)) (is-translate ∙ is) ∙ ap (λ (l : List ℕ). listed (readPairs (parts 44 l))) (tw .behind)
+
+    pub bad-list : (n : ℕ) (ps : List ℕ) → PairsAs (part i e f) (w .end) n ps → n ≡ 0 → ListedAs f i (record { from = i; end = e; pairs = 0; at = length f + 1 }) ps
+    unfolding readsOn
+    bad-list n ps p z =
+        record {
+          good = λ l. absurd (omega arith);
+          fault = λ l.
+              ⊎-elim
+              (λ h. goes-on f i e end true h ∙ ap (λ (u : Move). readsOn u (λ q. reads q (commandsAt f (e + 1)))) (list-moves ∙ p .fault z))
+              (λ h. closed f i e end true h)
+              (less-or-not e (length f));
+        }
+
+    module _ (n : ℕ) (ps : List ℕ) (p : PairsAs (part i e f) (w .end) n ps) (some-there : n ≡ 0 → ⊥) where
+      listed-pairs : listed (readPairs (parts 44 (plainAt (part i e f) (w .end)))) ≡ lists (pairsIn (part i e f) n ps)
+      unfolding listed
+      listed-pairs =
+          let g = p .good (omega arith) in
+          let h : length (pairsIn (part i e f) n ps) ≤ 64 = omega (arith, pairs-length (part i e f) ps n, g .1 .few) in
+          ap listed (g .0) ∙ if-true _ _ (le-leb _ 64 h)
+
+      pub good-list : ListedAs f i (record { from = i; end = e; pairs = n; at = e + 1 }) ps
+      unfolding readsOn
+      good-list =
+          record {
+            good = λ l. (
+              end .past,
+              end .within,
+              p .good (omega arith) .1,
+              goes-on f i e end true (omega arith) ∙ ap (λ (u : Move). readsOn u (λ q. reads q (commandsAt f (e + 1)))) (list-moves ∙ listed-pairs),
+            );
+            fault = λ l. closed f i e end true (omega arith);
+          }

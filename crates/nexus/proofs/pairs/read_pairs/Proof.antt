@@ -1,5 +1,4 @@
--- `nexus::pairs::read_pairs` meets its contract. The loop's invariant: n pairs were read up to `at`, their places were put, and the rest is
--- read from there on. Assumes nothing.
+-- `nexus::pairs::read_pairs` meets its contract. The loop's invariant: n pairs were read up to `at`, their places were put, and the rest is read from there on. Assumes nothing.
 use Prim.Native.Nat.{_+_, _*_, _-_, _≤_, _<_}
 use mathlib.Core.Path.{_≡_, ap, _∙_}
 use borrow.Author.Needs.{needs}
@@ -27,7 +26,9 @@ first-token-requires-2 c κs = c .first-token .ensures .within
 returns : tie.Need-returns Inv-loop μ-loop
 returns c =
     let l = c .before .before .before .before .before .loop in
-    (read-fault _ _ _ _ _ (l .inv .0) _ (list-none _ _ _ _ (c .before .before .before .first-token .ensures) (c .before .before .first-token2 .ensures) (c .before .is-none .ensures .none (c .if1 .taken))), l .inv .1)
+    let k = c .before .before .before .first-token in
+    let v = c .before .before .first-token2 in
+    (read-fault _ _ _ _ _ (l .inv .0) _ (list-none _ _ _ _ (k .ensures) (v .ensures) (c .before .is-none .ensures .none (c .if1 .taken))), l .inv .1)
 
 put-pair-requires : tie.Need-put-pair-requires Inv-loop μ-loop
 put-pair-requires c κs =
@@ -52,9 +53,12 @@ returns-2 c =
     let k = c .before .before .before .before .before .before .before .before .before .first-token in
     let v = c .before .before .before .before .before .before .before .before .first-token2 in
     let put = c .before .before .before .before .put-pair .ensures in
+    let two = c .before .before .before .before .before .before .before .is-none .ensures .both (c .before .before .before .before .before .before .if1 .left) in
     let few : l .n < 64 = c .before .before .before .before .before .before .before .before .before .before .loop-test .taken in
-    let room : 4 * l .n + 4 ≤ length (l .places) = omega arith in
-    (read-last _ _ _ _ _ (l .inv .0) _ _ _ _ few room (k .ensures) (v .ensures) (c .before .before .before .before .before .before .before .is-none .ensures .both (c .before .before .before .before .before .before .if1 .left)) (c .before .skip .ensures) put (c .if2 .taken), ap length put ∙ placed-length (l .places) (l .n) (k .result) (v .result) ∙ l .inv .1)
+    let room : 4 * l .n + 4 ≤ length (l .places) = omega arith in (
+      read-last _ _ _ _ _ (l .inv .0) _ _ _ _ few room (k .ensures) (v .ensures) two (c .before .skip .ensures) put (c .if2 .taken),
+      ap length put ∙ placed-length (l .places) (l .n) (k .result) (v .result) ∙ l .inv .1,
+    )
 
 same-length-3 : tie.Need-same-length-3 Inv-loop μ-loop
 same-length-3 c =
@@ -69,8 +73,10 @@ returns-3 c =
     let l = c .before .before .before .before .before .before .before .before .before .before .before .before .before .loop in
     let k = c .before .before .before .before .before .before .before .before .before .before .before .first-token in
     let v = c .before .before .before .before .before .before .before .before .before .before .first-token2 in
-    let put = c .before .before .before .before .before .before .put-pair .ensures in
-    (read-fault _ _ _ _ _ (l .inv .0) _ (list-stray _ _ _ _ (k .ensures) (v .ensures) _ (c .before .before .before .skip .ensures) (search needs) (c .if3 .taken)), ap length put ∙ placed-length (l .places) (l .n) (k .result) (v .result) ∙ l .inv .1)
+    let put = c .before .before .before .before .before .before .put-pair .ensures in (
+      read-fault _ _ _ _ _ (l .inv .0) _ (list-stray _ _ _ _ (k .ensures) (v .ensures) _ (c .before .before .before .skip .ensures) (search needs) (c .if3 .taken)),
+      ap length put ∙ placed-length (l .places) (l .n) (k .result) (v .result) ∙ l .inv .1,
+    )
 
 loop-again : tie.Need-loop-again Inv-loop μ-loop
 loop-again c =
@@ -78,9 +84,12 @@ loop-again c =
     let k = c .before .before .before .before .before .before .before .before .before .before .before .first-token in
     let v = c .before .before .before .before .before .before .before .before .before .before .first-token2 in
     let put = c .before .before .before .before .before .before .put-pair .ensures in
+    let two = c .before .before .before .before .before .before .before .before .before .is-none .ensures .both (c .before .before .before .before .before .before .before .before .if1 .left) in
     let few : l .n < 64 = c .before .before .before .before .before .before .before .before .before .before .before .before .loop-test .taken in
-    let room : 4 * l .n + 4 ≤ length (l .places) = omega arith in
-    (read-more _ _ _ _ _ (l .inv .0) _ _ _ _ few room (k .ensures) (v .ensures) (c .before .before .before .before .before .before .before .before .before .is-none .ensures .both (c .before .before .before .before .before .before .before .before .if1 .left)) (c .before .before .before .skip .ensures) put (search needs) (c .if3 .left), ap length put ∙ placed-length (l .places) (l .n) (k .result) (v .result) ∙ l .inv .1)
+    let room : 4 * l .n + 4 ≤ length (l .places) = omega arith in (
+      read-more _ _ _ _ _ (l .inv .0) _ _ _ _ few room (k .ensures) (v .ensures) two (c .before .before .before .skip .ensures) put (search needs) (c .if3 .left),
+      ap length put ∙ placed-length (l .places) (l .n) (k .result) (v .result) ∙ l .inv .1,
+    )
 
 returns-4 : tie.Need-returns-4 Inv-loop μ-loop
 returns-4 c = (read-many _ _ _ _ _ (c .before .loop .inv .0) _ (c .loop-test .left), c .before .loop .inv .1)
