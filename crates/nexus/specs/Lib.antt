@@ -8,6 +8,7 @@ pub mod CommandLaws
 pub mod Commands
 pub mod Blocks
 pub mod BlockLaws
+pub mod PairLaws
 pub mod Keys
 pub mod KeyLaws
 pub mod Texts
