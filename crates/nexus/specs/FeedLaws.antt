@@ -2,7 +2,7 @@
 --
 --   later-texts        behind the TREES block no text comes
 --   with-text          a text, and what is read behind it
---   line-text, line-end, line-wrong     the line of a tree that is there
+--   line-fits, line-text, line-end, line-wrong     the line of a tree that is there
 --   lane-is            a plain text handed whole to an empty lane
 --   small-finished     the number of a tree that is accepted is at most 1,024
 --   Going, going-..    as many texts as the loop has fed, and the rest decides
@@ -137,6 +137,11 @@ module _ (f : List ℕ) (i e : ℕ) (c : CommandEnd f i e) where
 
   inside : (x : File) → reads (inTrees false) (commandsAt f i) ≡ some x → e < length f
   inside x h = omega (arith, ended-not x h, c .within)
+
+  -- a text begins inside its line
+  pub line-fits : (j : ℕ) → LineMoves (part i e f) (line.Text j) → i + j ≤ e
+  line-fits j l =
+      omega (arith, l .within j refl, length-take (e - i) (drop i f), c .past)
 
   pub line-text : (j : ℕ) → LineMoves (part i e f) (line.Text j) → i + j ≤ e → LineAt f i (record { from = i + j; end = e })
   unfolding readsOn

@@ -17,3 +17,4 @@ pub mod Verdicts
 pub mod VerdictLaws
 pub mod FeedLaws
 pub mod Fed
+pub mod FedLaws
