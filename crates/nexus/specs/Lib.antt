@@ -1,6 +1,7 @@
 -- What the call promises, what places in a file stand for, and their laws.
 pub mod Places
 pub mod PlaceLaws
+pub mod TokenLaws
 pub mod Commands
 pub mod Blocks
 pub mod Keys
