@@ -2,8 +2,8 @@
 --
 --   name-equals, name-label     which bytes stand in a tree's name
 --   part-rest, part-length      a part of a list, what stands behind it, and how long it is
---   Word s b e k i              what is left to compare of the keyword k and the bytes from b up to e, behind i bytes
---   word-begun, word-unlike, word-more, word-other, word-end     the comparison, a byte at a time
+--   Alike s b e k i             the first i bytes of the keyword k are those from b on, in any case: the rest up to e decides
+--   word-unlike, word-begun, word-more, word-other, word-end     the comparison, a byte at a time
 --   Run p s i r                 the bytes from i up to r pass the test p
 --   run-none, run-more          such a run, a byte at a time
 --   run-plain                   a run without brackets stands as it is
@@ -66,36 +66,43 @@ part-length s i r h l = length-take-le (r - i) (drop i s) (simp length-drop (ome
 
 -- ---- keywords
 
-abbrev pub Word : List ℕ → ℕ → ℕ → List ℕ → ℕ → Bool
-Word s b e k i = sameBytes (map capital (part (b + i) e s)) (drop i k)
+-- what is left to compare, behind i bytes
+abbrev left : List ℕ → ℕ → ℕ → List ℕ → ℕ → Bool
+left s b e k i = sameBytes (map capital (part (b + i) e s)) (drop i k)
 
-module _ (s : List ℕ) (b e : ℕ) (k : List ℕ) where
-  pub word-begun : sameBytes (map capital (part b e s)) k ≡ Word s b e k 0
-  word-begun = let z : b + 0 ≡ b = omega arith in rw z
+pub record Alike (s : List ℕ) (b e : ℕ) (k : List ℕ) (i : ℕ) : Type 0 where
+  pub within : i ≤ length k
+  pub same : sameBytes (map capital (part b e s)) k ≡ left s b e k i
 
-  pub word-unlike : b ≤ e → e ≤ length s → (e - b ≡ length k → ⊥) → sameBytes (map capital (part b e s)) k ≡ false
-  word-unlike h l n =
+module _ (s : List ℕ) (b e : ℕ) (k : List ℕ) (h : b ≤ e) (l : e ≤ length s) where
+  pub word-unlike : (e - b ≡ length k → ⊥) → sameBytes (map capital (part b e s)) k ≡ false
+  word-unlike n =
       let q : length (map capital (part b e s)) ≡ e - b = length-map (part b e s) capital ∙ part-length s b e h l in
       run-unlike (map capital (part b e s)) k (λ z. n (sym q ∙ z))
 
-  module _ (i : ℕ) where
-    word-cons : b + i < e → e ≤ length s → i < length k → Word s b e k i ≡ (eqb (capital (getD s (b + i) 0)) (getD k i 0) && Word s b e k (i + 1))
+  pub word-begun : Alike s b e k 0
+  word-begun = record { within = omega arith; same = let z : b + 0 ≡ b = omega arith in rw z }
+
+  module _ (f : e - b ≡ length k) (i : ℕ) (a : Alike s b e k i) where
+    left-cons : i < length k → left s b e k i ≡ (eqb (capital (getD s (b + i) 0)) (getD k i 0) && left s b e k (i + 1))
     unfolding sameBytes
-    word-cons h l m =
+    left-cons m =
         let n : b + (i + 1) ≡ b + i + 1 = omega arith in
-        rw (n, part-cons s (b + i) e h l, drop-cons k i 0 m, add-one i)
+        rw (n, part-cons s (b + i) e (omega arith) l, drop-cons k i 0 m, add-one i)
 
-    pub word-more : b + i < e → e ≤ length s → i < length k → capital (getD s (b + i) 0) ≡ getD k i 0 → Word s b e k i ≡ Word s b e k (i + 1)
-    word-more h l m q = word-cons h l m ∙ rw (eq-eqb _ _ q)
+    pub word-more : i < length k → capital (getD s (b + i) 0) ≡ getD k i 0 → Alike s b e k (i + 1)
+    word-more m q = record { within = omega arith; same = a .same ∙ left-cons m ∙ rw (eq-eqb _ _ q) }
 
-    pub word-other : b + i < e → e ≤ length s → i < length k → (capital (getD s (b + i) 0) ≡ getD k i 0 → ⊥) → Word s b e k i ≡ false
-    word-other h l m q = word-cons h l m ∙ rw (ne-eqb _ _ q)
+    pub word-other : i < length k → (capital (getD s (b + i) 0) ≡ getD k i 0 → ⊥) → sameBytes (map capital (part b e s)) k ≡ false
+    word-other m q = a .same ∙ left-cons m ∙ rw (ne-eqb _ _ q)
 
-    pub word-end : b + i ≡ e → i ≡ length k → Word s b e k i ≡ true
+    pub word-end : length k ≤ i → sameBytes (map capital (part b e s)) k ≡ true
     unfolding sameBytes
-    word-end h m =
+    word-end m =
+        let w = a .within in
         let z : e - (b + i) ≡ 0 = omega arith in
-        rw (z, m, drop-length k)
+        let n : i ≡ length k = omega arith in
+        a .same ∙ rw (z, n, drop-length k)
 
 -- ---- runs of bytes that pass a test
 

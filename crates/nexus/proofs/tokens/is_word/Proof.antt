@@ -1,37 +1,34 @@
--- `nexus::tokens::is_word` meets its contract. The loop's invariant: what is left of the token and the keyword decides. Assumes nothing.
-use Prim.Native.Nat.{_-_, _≤_}
+-- `nexus::tokens::is_word` meets its contract. The loop's invariant: the first `i` bytes are alike, so that the rest decides.
+-- Assumes nothing.
+use Prim.Native.Nat.{_-_}
 use native.Mathlib.Omega.{arith}
 use borrow.Author.Needs.{needs}
-use mathlib.Core.Path.{_≡_, sym, _∙_}
-use mathlib.Core.List.{map}
+use mathlib.Core.Path.{sym, _∙_}
 use lib.ListN.{length}
-use Rattle.trees.specs.Plain.{sameBytes}
-use Rattle.trees.specs.Nexus.{capital}
-use Rattle.nexus.specs.Places.{part}
-use Rattle.nexus.specs.TokenLaws.{Word, word-begun, word-unlike, word-more, word-other, word-end}
+use Rattle.nexus.specs.TokenLaws.{Alike, word-unlike, word-begun, word-more, word-other, word-end}
 use Rattle.nexus.proofs.tokens.is_word.Statement.{statement}
 use Rattle.nexus.proofs.tokens.is_word.Tie as tie
 
 abbrev Inv-loop : tie.InvT-loop
-Inv-loop s b e k i₀ i = (i ≤ length k) × (sameBytes (map capital (part b e s)) k ≡ Word s b e k i)
+Inv-loop s b e k i₀ i = Alike s b e k i
 
 abbrev μ-loop : tie.MeasureT-loop
 μ-loop s b e k i₀ i = length k - i
 
 returns : tie.Need-returns Inv-loop μ-loop
-returns c = ?
+returns c = sym (word-unlike _ _ _ _ (c .before .before .before .pre .0) (c .before .before .before .pre .1) (c .if1 .taken))
 
 loop-holds : tie.Need-loop-holds Inv-loop μ-loop
-loop-holds c = (omega arith, word-begun _ _ _ _)
+loop-holds c = word-begun _ _ _ _ (c .before .before .before .pre .0) (c .before .before .before .pre .1)
 
 returns-2 : tie.Need-returns-2 Inv-loop μ-loop
-returns-2 c = ?
+returns-2 c = sym (word-other _ _ _ _ (c .before .before .before .before .before .before .before .before .before .pre .0) (c .before .before .before .before .before .before .before .before .before .pre .1) (omega arith) _ (c .before .before .before .before .before .loop .inv) (search needs) (λ q. c .if2 .taken (c .before .before .capital .ensures ∙ q)))
 
 loop-again : tie.Need-loop-again Inv-loop μ-loop
-loop-again c = ?
+loop-again c = word-more _ _ _ _ (c .before .before .before .before .before .before .before .before .before .pre .0) (c .before .before .before .before .before .before .before .before .before .pre .1) (omega arith) _ (c .before .before .before .before .before .loop .inv) (search needs) (sym (c .before .before .capital .ensures) ∙ c .if2 .left)
 
 returns-3 : tie.Need-returns-3 Inv-loop μ-loop
-returns-3 c = ?
+returns-3 c = sym (word-end _ _ _ _ (c .before .before .before .before .before .pre .0) (c .before .before .before .before .before .pre .1) (omega arith) _ (c .before .loop .inv) (search needs))
 
 pub is-word-spec : {M : Type 1} → statement M
 is-word-spec =
