@@ -3,6 +3,7 @@ pub mod Places
 pub mod PlaceLaws
 pub mod TokenLaws
 pub mod Commands
+pub mod LineLaws
 pub mod Blocks
 pub mod Keys
 pub mod Texts

@@ -1,4 +1,9 @@
+-- `nexus::lines::is_end` meets its contract. Assumes nothing.
 use borrow.Author.Needs.{needs}
+use borrow.Author.Tests.{not-true, not-false}
+use mathlib.Core.Path.{sym, _∙_}
+use Rattle.trees.specs.Plain.{bytes}
+use Rattle.nexus.specs.LineLaws.{end-not, end-is}
 use Rattle.nexus.proofs.lines.is_end.Statement.{statement}
 use Rattle.nexus.proofs.lines.is_end.Tie as tie
 use Rattle.nexus.proofs.lines.is_end.Reads as reads
@@ -7,37 +12,21 @@ use Rattle.nexus.proofs.comments.skip.Reads as skip-reads
 use Rattle.nexus.proofs.tokens.first_token.Reads as first-token-reads
 use Rattle.nexus.proofs.tokens.is_word.Reads as is-word-reads
 
--- src/lines.rt:92:9
-first-token-requires : tie.Need-first-token-requires
-first-token-requires c κs = search needs
-
--- src/lines.rt:93:43
-slice-aggregate-is-word : tie.Need-slice-aggregate-is-word
-slice-aggregate-is-word c = search needs
-
--- src/lines.rt:93:9
-is-word-requires : tie.Need-is-word-requires
-is-word-requires c κs = search needs
-
--- src/lines.rt:94:9
 returns : tie.Need-returns
-returns c = ?
+unfolding bytes
+returns c = sym (end-not _ _ (c .before .before .before .first-token .ensures) (sym (c .before .is-word .ensures) ∙ not-true _ (c .if1 .taken)))
 
--- src/lines.rt:96:5
-skip-requires : tie.Need-skip-requires
-skip-requires c κs = search needs
-
--- src/lines.rt:89:1
 returns-2 : tie.Need-returns-2
-returns-2 c = ?
+unfolding bytes
+returns-2 c = sym (end-is _ _ (c .before .before .before .before .first-token .ensures) _ (sym (c .before .before .is-word .ensures) ∙ not-false _ (c .before .if1 .left)) (c .skip .ensures))
 
 pub is-end-spec : {M : Type 1} → statement M
 is-end-spec =
     tie.close
     (tie.spec
-    first-token-requires
-    slice-aggregate-is-word
-    is-word-requires
+    (λ c κs. search needs)
+    (λ c. search needs)
+    (λ c κs. search needs)
     returns
-    skip-requires
+    (λ c κs. search needs)
     returns-2)
