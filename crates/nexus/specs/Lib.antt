@@ -4,6 +4,7 @@ pub mod PlaceLaws
 pub mod TokenLaws
 pub mod Commands
 pub mod LineLaws
+pub mod OtherLaws
 pub mod Blocks
 pub mod Keys
 pub mod Texts

@@ -6,7 +6,7 @@
 --   word-unlike, word-begun, word-more, word-other, word-end     the comparison, a byte at a time
 --   Run p s i r                 the bytes from i up to r pass the test p
 --   run-none, run-more          such a run, a byte at a time
---   run-plain                   a run without brackets stands as it is
+--   run-every, run-plain        every byte of it passes; a run without brackets stands as it is
 --   run-stop                    no byte that passes stands behind it
 --   run-at, behind-at           the longest run from a place on, and what stands behind it
 --   begun-at                    whether a byte of it stands there
@@ -148,7 +148,7 @@ module _ (p : ℕ → Bool) (n : p 91 ≡ false) (z : p 32 ≡ false) where
       go false f = f
 
   module _ (s : List ℕ) (i r : ℕ) (w : Run p s i r) where
-    run-every : every p (part i r s) ≡ true
+    pub run-every : every p (part i r s) ≡ true
     run-every =
         let l = part-length s i r (w .past) (w .within) in
         let a = w .past in
