@@ -79,3 +79,91 @@ ends-blanks (b ∷ s) = go (isBlank b) refl (ends-blanks s)
         → endsAfter true (b ∷ s) ≡ endsAfter true (if t then behindRun isBlank s else b ∷ s)
     go true e f = ends-byte b s (blank-label b e) ∙ f
     go false e f = refl
+
+-- ---- past a token or a byte
+
+label-run : (c : List ℕ) (i e : ℕ) → WordAt c i e → Run isLabelByte c i e
+label-run c i e w = record { past = w .past; within = w .within; each = w .each }
+
+-- a bracket that does not read as a blank
+never-ends : (l : List ℕ) → begins isBlank (behindComment l) ≡ false → behindComment l ≡ 91 ∷ []
+unfolding behindComment begins isBlank
+never-ends [] e = refl
+never-ends (b ∷ l) e = go (eqb b 93) (never-ends l) e
+  where
+    go : (t : Bool) → (begins isBlank (behindComment l) ≡ false → behindComment l ≡ 91 ∷ []) → begins isBlank (if t then 32 ∷ uncommented l else behindComment l) ≡ false
+        → (if t then 32 ∷ uncommented l else behindComment l) ≡ 91 ∷ []
+    go true f e = absurd (true≢false e)
+    go false f e = f e
+
+module _ (c : List ℕ) (i e : ℕ) (w : WordAt c i e) where
+  pub word-past : i < e → WordEnd c i e
+  unfolding isLabelByte
+  word-past h =
+      let u = label-run c i e w in
+      let q = run-plain isLabelByte refl refl c i e u in
+      let l = part-length c i e (w .past) (w .within) in
+      record { past = h; within = w .within; same = λ n. ap (endsAfter true) q
+          ∙ ends-token (part i e c) (plainAt c e) (run-every isLabelByte refl refl c i e u) (run-stop isLabelByte refl refl c i e u (w .stop)) (omega arith) (sym (ap lastEnd q) ∙ n) }
+
+  pub bracket-past : getD c i 0 ≡ 91 → WordEnd c i (length c)
+  unfolding isLabelByte
+  bracket-past b =
+      let h = w .there in
+      let q : plainAt c i ≡ behindComment (drop (i + 1) c) = plain-comment c i h b in
+      let r : plainAt c i ≡ 91 ∷ [] = q ∙ never-ends (drop (i + 1) c) (sym (ap (begins isBlank) q) ∙ w .bare) in
+      let z : plainAt c (length c) ≡ [] = plain-none c (length c) (omega arith) in
+      record { past = h; within = omega arith; same = λ n. ap (endsAfter true) r ∙ ends-byte 91 [] refl ∙ sym (ap (endsAfter true) z) }
+
+  pub byte-past : e ≤ i → (getD c i 0 ≡ 91 → ⊥) → WordEnd c i (i + 1)
+  byte-past h b =
+      let t = w .there in
+      let p = w .past in
+      let q : e ≡ i = omega arith in
+      let n : isLabelByte (getD c i 0) ≡ false = ap (λ (j : ℕ). isLabelByte (getD c j 0)) (sym q) ∙ w .stop (omega arith) in
+      record { past = omega arith; within = omega arith; same = λ _. ap (endsAfter true) (plain-byte c i t b) ∙ ends-byte (getD c i 0) (plainAt c (i + 1)) n }
+
+-- ---- a command, a token at a time
+
+pub record Passed (c : List ℕ) (i : ℕ) : Type 0 where
+  pub within : i ≤ length c
+  pub bare : begins isBlank (plainAt c i) ≡ false
+  pub same : endsOther (uncommented c) ≡ endsAfter true (plainAt c i)
+
+pub passed-first : (c : List ℕ) (i : ℕ) → Skipped c 0 i → Passed c i
+unfolding endsOther
+passed-first c i k = record { within = k .within; bare = k .stop; same = ends-blanks (uncommented c) ∙ ap (endsAfter true) (k .plain) }
+
+ends-last : (s : List ℕ) → lastEnd s ≡ true → endsAfter true s ≡ true
+unfolding endsAfter lastEnd isWord runOf
+ends-last [] e = absurd (true≢false (sym e))
+ends-last (b ∷ s) e = ap (λ (t : Bool). t || endsAfter (not (isLabelByte b)) s) e
+
+module _ (c : List ℕ) (i : ℕ) (p : Passed c i) where
+  pub passed-more : (j r : ℕ) → lastEnd (plainAt c i) ≡ false → WordEnd c i j → Skipped c j r → Passed c r
+  passed-more j r n w k =
+      record { within = k .within; bare = k .stop; same = p .same ∙ w .same n ∙ ends-blanks (plainAt c j) ∙ ap (endsAfter true) (k .plain) }
+
+  pub end-none : length c ≤ i → endsOther (uncommented c) ≡ false
+  unfolding endsAfter
+  end-none h = p .same ∙ ap (endsAfter true) (plain-none c i h)
+
+  module _ (e : ℕ) (w : RunEnd c i e) where
+    pub word-at : i < length c → WordAt c i e
+    word-at h = record { there = h; bare = p .bare; past = w .past; within = w .within; each = w .each; stop = w .stop }
+
+    last-is : lastEnd (plainAt c i) ≡ (sameBytes (map capital (part i e c)) (bytes "END") && every isBlank (plainAt c e))
+    unfolding lastEnd isWord isLabelByte
+    last-is =
+        let u : Run isLabelByte c i e = record { past = w .past; within = w .within; each = w .each } in
+        rw (run-at isLabelByte refl refl c i e u (w .stop), behind-at isLabelByte refl refl c i e u (w .stop))
+
+    pub not-word : sameBytes (map capital (part i e c)) (bytes "END") ≡ false → lastEnd (plainAt c i) ≡ false
+    not-word k = last-is ∙ rw k
+
+    module _ (k : sameBytes (map capital (part i e c)) (bytes "END") ≡ true) (r : ℕ) (x : Skipped c e r) where
+      pub not-last : (r ≡ length c → ⊥) → lastEnd (plainAt c i) ≡ false
+      not-last n = last-is ∙ rw k (blanks-only c e r x ∙ ne-eqb r (length c) n)
+
+      pub end-here : r ≡ length c → endsOther (uncommented c) ≡ true
+      end-here q = p .same ∙ ends-last (plainAt c i) (last-is ∙ rw k (blanks-only c e r x ∙ eq-eqb r (length c) q))
