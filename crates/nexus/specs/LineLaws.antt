@@ -4,8 +4,8 @@
 --   end-not, end-is       a command that does not begin with END; one that does ends the block where nothing stands behind it
 --   not-begin, no-name, more-behind     a command that is wrong outside the blocks: not BEGIN, no name, more than a name
 --   trees-begun, other-begun            one that begins the TREES block, or another
---   line-none             a command that gives no tree
---   not-tree, name-lacks, equals-lacks, line-text     a tree's line: not TREE, no name, no `=`, and the text behind it
+--   not-tree, name-lacks, equals-lacks  a command that gives no tree: not TREE, no name, no `=`
+--   line-text             one that does: its text stands behind the `=`
 --   ends-trees, line-wrong, line-brings     what a command of the TREES block does
 use Prim.Native.Nat.{ℕ, _+_, _≤_, _<_}
 use native.Mathlib.Omega.{arith}
@@ -13,14 +13,14 @@ use mathlib.Core.Path.{_≡_, refl, sym, ap, _∙_}
 use mathlib.Core.Logic.{_⊎_, inl, inr}
 use mathlib.Core.Bool.{Bool, true, false, _&&_, true≢false}
 use mathlib.Core.List.{List, [], _∷_, map}
-use mathlib.Core.Option.{Option, none, some}
+use mathlib.Core.Option.{none, some}
 use lib.Dec.{eqb, leb, ltb}
 use lib.ListN.{length, getD, drop}
-use borrow.Author.Tests.{eq-eqb, ne-eqb, eqb-true, eqb-false, lt-ltb, le-ltb, ltb-true, le-leb}
+use borrow.Author.Tests.{eq-eqb, ne-eqb, eqb-true, lt-ltb, le-ltb, ltb-true, le-leb}
 use Rattle.trees.specs.Plain.{if_then_else_, every, sameBytes, bytes}
 use Rattle.trees.specs.Text.{isBlank}
-use Rattle.trees.specs.Nexus.{behindRun, begins, uncommented, behindComment, capital, isWord, isNameByte, Pair}
-use Rattle.trees.specs.NexusReading.{firstToken, behindFirst, twoTokens, textBehind, nameAndText, readLine, isEnd, Move, wrong, blockBegun, moved, lineGiven}
+use Rattle.trees.specs.Nexus.{begins, uncommented, behindComment, capital, isWord}
+use Rattle.trees.specs.NexusReading.{firstToken, behindFirst, twoTokens, textBehind, nameAndText, readLine, isEnd, wrong, blockBegun, moved, lineGiven}
 use Rattle.theorems.specs.ListLaws.{if-true, if-false, less-or-not, equal-or-not}
 use Rattle.theorems.specs.RunOfLaws.{every-behind}
 use Rattle.text.specs.Read.{hasByte}

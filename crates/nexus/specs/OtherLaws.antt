@@ -1,16 +1,16 @@
--- Laws of another block's end: its last token is END. A command is passed a token at a time, or a byte. Assumes nothing.
+-- Laws of another block's end: its last token is END. A command is passed a token or a byte at a time. Assumes nothing.
 --
---   last-not            no END stands where no label byte does
---   ends-blanks         blanks at the front are passed
---   word-past, bracket-past, byte-past     so is a token, the bracket of a comment that never ends, and any other byte
+--   last-not, ends-fresh, ends-inside, ends-token, ends-byte, ends-blanks     what stands at the front does not end it, and is passed
+--   word-past, bracket-past, byte-past     a token, the bracket of a comment that never ends, any other byte is passed
 --   Passed c i          what stands from i on decides, and is no blank
---   passed-first, passed-more     from the first place behind blanks on, and on from a token
---   end-here, end-none  the command ends the block; nothing is left of it
---   not-word, not-last  a token is not END; one stands before others
-use Prim.Native.Nat.{ℕ, suc, _+_, _≤_, _<_}
+--   passed-first, passed-more     from the first place behind blanks on, and on from there
+--   word-at             the token, if any, that stands there
+--   not-word, not-last  it is not END, or not the last
+--   end-here, end-none  it is the last END; nothing is left
+use Prim.Native.Nat.{ℕ, _+_, _≤_, _<_}
 use native.Mathlib.Omega.{arith}
 use mathlib.Core.Path.{_≡_, refl, sym, ap, _∙_}
-use mathlib.Core.Logic.{_⊎_, inl, inr}
+use mathlib.Core.Logic.{inl, inr}
 use mathlib.Core.Bool.{Bool, true, false, _&&_, _||_, not, true≢false}
 use mathlib.Core.List.{List, [], _∷_, _++_, map}
 use lib.Dec.{eqb}
@@ -20,7 +20,7 @@ use Rattle.trees.specs.Plain.{if_then_else_, every, sameBytes, bytes}
 use Rattle.trees.specs.Text.{isBlank, isLabelByte}
 use Rattle.trees.specs.Nexus.{runOf, behindRun, begins, uncommented, behindComment, capital, isWord}
 use Rattle.trees.specs.NexusReading.{lastEnd, endsAfter, endsOther}
-use Rattle.theorems.specs.ListLaws.{if-true, if-false, and-left, and-right, Mem, member-mem}
+use Rattle.theorems.specs.ListLaws.{and-left, and-right, Mem, member-mem}
 use Rattle.theorems.specs.RunOfLaws.{run-over}
 use Rattle.text.specs.Read.{RunEnd}
 use Rattle.nexus.specs.Places.{part, plainAt, Skipped}
@@ -70,7 +70,7 @@ blank-label b e = go (member-mem b (32 ∷ 9 ∷ 13 ∷ 10 ∷ []) e)
     go (inr (inr (inr (inl q)))) = ap isLabelByte q
     go (inr (inr (inr (inr h)))) = absurd h
 
-pub ends-blanks : (s : List ℕ) → endsAfter true s ≡ endsAfter true (behindRun isBlank s)
+ends-blanks : (s : List ℕ) → endsAfter true s ≡ endsAfter true (behindRun isBlank s)
 unfolding behindRun
 ends-blanks [] = refl
 ends-blanks (b ∷ s) = go (isBlank b) refl (ends-blanks s)
@@ -81,9 +81,6 @@ ends-blanks (b ∷ s) = go (isBlank b) refl (ends-blanks s)
     go false e f = refl
 
 -- ---- past a token or a byte
-
-label-run : (c : List ℕ) (i e : ℕ) → WordAt c i e → Run isLabelByte c i e
-label-run c i e w = record { past = w .past; within = w .within; each = w .each }
 
 -- a bracket that does not read as a blank
 never-ends : (l : List ℕ) → begins isBlank (behindComment l) ≡ false → behindComment l ≡ 91 ∷ []
@@ -100,11 +97,12 @@ module _ (c : List ℕ) (i e : ℕ) (w : WordAt c i e) where
   pub word-past : i < e → WordEnd c i e
   unfolding isLabelByte
   word-past h =
-      let u = label-run c i e w in
+      let u : Run isLabelByte c i e = record { past = w .past; within = w .within; each = w .each } in
       let q = run-plain isLabelByte refl refl c i e u in
+      let a = run-every isLabelByte refl refl c i e u in
+      let z = run-stop isLabelByte refl refl c i e u (w .stop) in
       let l = part-length c i e (w .past) (w .within) in
-      record { past = h; within = w .within; same = λ n. ap (endsAfter true) q
-          ∙ ends-token (part i e c) (plainAt c e) (run-every isLabelByte refl refl c i e u) (run-stop isLabelByte refl refl c i e u (w .stop)) (omega arith) (sym (ap lastEnd q) ∙ n) }
+      record { past = h; within = w .within; same = λ n. ap (endsAfter true) q ∙ ends-token (part i e c) (plainAt c e) a z (omega arith) (sym (ap lastEnd q) ∙ n) }
 
   pub bracket-past : getD c i 0 ≡ 91 → WordEnd c i (length c)
   unfolding isLabelByte

@@ -1,7 +1,7 @@
 -- Laws of tokens and keywords at places in a file. Assumes nothing.
 --
 --   name-equals, name-label     which bytes stand in a tree's name
---   part-rest, part-length      a part of a list, what stands behind it, and how long it is
+--   part-length                 how long a part of a list is
 --   Alike s b e k i             the first i bytes of the keyword k are those from b on, in any case: the rest up to e decides
 --   word-unlike, word-begun, word-more, word-other, word-end     the comparison, a byte at a time
 --   Run p s i r                 the bytes from i up to r pass the test p
@@ -55,7 +55,7 @@ part-cons s i r h l =
     let m : i < length s = omega arith in
     rw (n, drop-cons s i 0 m, add-one i)
 
-pub part-rest : (s : List ℕ) (i r : ℕ) → i ≤ r → drop i s ≡ part i r s ++ drop r s
+part-rest : (s : List ℕ) (i r : ℕ) → i ≤ r → drop i s ≡ part i r s ++ drop r s
 part-rest s i r h =
     let n : i + (r - i) ≡ r = omega arith in
     let q : drop (r - i) (drop i s) ≡ drop r s = drop-drop (r - i) i s ∙ ap (λ (j : ℕ). drop j s) n in
@@ -153,7 +153,7 @@ module _ (p : ℕ → Bool) (n : p 91 ≡ false) (z : p 32 ≡ false) where
         let l = part-length s i r (w .past) (w .within) in
         let a = w .past in
         every-each (part i r s) (λ j h. let f : j < r - i = omega arith in
-            ap p (getD-take (r - i) (drop i s) j 0 f ∙ getD-drop i s j 0) ∙ w .each (i + j) (omega arith) (omega arith))
+        ap p (getD-take (r - i) (drop i s) j 0 f ∙ getD-drop i s j 0) ∙ w .each (i + j) (omega arith) (omega arith))
 
     pub run-plain : plainAt s i ≡ part i r s ++ plainAt s r
     run-plain = ap uncommented (part-rest s i r (w .past)) ∙ plain-append (part i r s) (drop r s) run-every
@@ -195,9 +195,12 @@ unfolding firstToken behindFirst isLabelByte
 token-at s i a e k w =
     let u : Run isLabelByte s a e = record { past = w .past; within = w .within; each = w .each } in
     record {
-        past = k .past; order = w .past; within = w .within; blanks = k .plain;
-        token = ap (runOf isLabelByte) (k .plain) ∙ run-at isLabelByte refl refl s a e u (w .stop);
-        behind = ap (behindRun isLabelByte) (k .plain) ∙ behind-at isLabelByte refl refl s a e u (w .stop)
+      past = k .past;
+      order = w .past;
+      within = w .within;
+      blanks = k .plain;
+      token = ap (runOf isLabelByte) (k .plain) ∙ run-at isLabelByte refl refl s a e u (w .stop);
+      behind = ap (behindRun isLabelByte) (k .plain) ∙ behind-at isLabelByte refl refl s a e u (w .stop);
     }
 
 pub name-at : (s : List ℕ) (i r : ℕ) → Run isNameByte s i r → (r < length s → isNameByte (getD s r 0) ≡ false) → NameEnd s i r

@@ -10,12 +10,6 @@ use Rattle.trees.specs.Plain.{bytes}
 use Rattle.nexus.specs.OtherLaws.{Passed, passed-first, passed-more, end-none, word-at, not-word, not-last, end-here}
 use Rattle.nexus.proofs.lines.ends_other.Statement.{statement}
 use Rattle.nexus.proofs.lines.ends_other.Tie as tie
-use Rattle.nexus.proofs.lines.ends_other.Reads as reads
-use Rattle.nexus.proofs.lines.ends_other.Lts as lts
-use Rattle.nexus.proofs.comments.skip.Reads as skip-reads
-use Rattle.nexus.proofs.lines.past_word.Reads as past-word-reads
-use Rattle.nexus.proofs.tokens.is_word.Reads as is-word-reads
-use Rattle.text.proofs.token_end.Reads as token-end-reads
 
 abbrev Inv-loop : tie.InvT-loop
 Inv-loop c at₀ t4 at = Passed c at

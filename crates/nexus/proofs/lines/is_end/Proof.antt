@@ -6,11 +6,6 @@ use Rattle.trees.specs.Plain.{bytes}
 use Rattle.nexus.specs.LineLaws.{end-not, end-is}
 use Rattle.nexus.proofs.lines.is_end.Statement.{statement}
 use Rattle.nexus.proofs.lines.is_end.Tie as tie
-use Rattle.nexus.proofs.lines.is_end.Reads as reads
-use Rattle.nexus.proofs.lines.is_end.Lts as lts
-use Rattle.nexus.proofs.comments.skip.Reads as skip-reads
-use Rattle.nexus.proofs.tokens.first_token.Reads as first-token-reads
-use Rattle.nexus.proofs.tokens.is_word.Reads as is-word-reads
 
 returns : tie.Need-returns
 unfolding bytes
