@@ -17,8 +17,8 @@ use mathlib.Core.List.{List, [], _∷_}
 use mathlib.Core.Option.{none, some}
 use lib.ListN.{length, getD, set}
 use Rattle.trees.specs.Plain.{if_then_else_, byte}
-use Rattle.trees.specs.Nexus.{uncommented, parts, Pair, mostKeys}
-use Rattle.trees.specs.Text.{isLabelByte}
+use Rattle.trees.specs.Nexus.{begins, uncommented, parts, Pair, mostKeys}
+use Rattle.trees.specs.Text.{isBlank, isLabelByte}
 use Rattle.trees.specs.NexusReading.{twoTokens, lastEnd, endsAfter, readLine, readPairs, Move, wrong, to, brings, outside, inOther, inTrees, blockBegun, listed, moved}
 use Rattle.nexus.specs.declared.lines.Begun.{Begun}
 use Rattle.nexus.specs.declared.lines.Begun.the-variants.{Other, Trees, Wrong}
@@ -36,9 +36,10 @@ begunMove came Wrong = wrong
 abbrev pub BegunAs : List ℕ → Begun → Type 0
 BegunAs c r = (came : Bool) → blockBegun came (twoTokens (uncommented c)) ≡ begunMove came r
 
--- from i up to e stands a token, if any
+-- from i up to e stands a token, if any, and no blank at i, so that a bracket there begins a comment that never ends
 pub record WordAt (c : List ℕ) (i e : ℕ) : Type 0 where
   pub there : i < length c
+  pub bare : begins isBlank (plainAt c i) ≡ false
   pub past : i ≤ e
   pub within : e ≤ length c
   pub each : (j : ℕ) → i ≤ j → j < e → isLabelByte (getD c j 0) ≡ true

@@ -5,7 +5,10 @@ pub mod PartLaws
 pub mod CommentLaws
 pub mod PlainLaws
 pub mod CommandLaws
+pub mod TokenLaws
 pub mod Commands
+pub mod LineLaws
+pub mod OtherLaws
 pub mod Blocks
 pub mod BlockLaws
 pub mod PairLaws

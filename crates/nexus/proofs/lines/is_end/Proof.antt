@@ -1,4 +1,27 @@
+-- `nexus::lines::is_end` meets its contract. Assumes nothing.
+use borrow.Author.Needs.{needs}
+use borrow.Author.Tests.{not-true, not-false}
+use mathlib.Core.Path.{sym, _∙_}
+use Rattle.trees.specs.Plain.{bytes}
+use Rattle.nexus.specs.LineLaws.{end-not, end-is}
 use Rattle.nexus.proofs.lines.is_end.Statement.{statement}
+use Rattle.nexus.proofs.lines.is_end.Tie as tie
+
+returns : tie.Need-returns
+unfolding bytes
+returns c = sym (end-not _ _ (c .before .before .before .first-token .ensures) (sym (c .before .is-word .ensures) ∙ not-true _ (c .if1 .taken)))
+
+returns-2 : tie.Need-returns-2
+unfolding bytes
+returns-2 c = sym (end-is _ _ (c .before .before .before .before .first-token .ensures) _ (sym (c .before .before .is-word .ensures) ∙ not-false _ (c .before .if1 .left)) (c .skip .ensures))
 
 pub is-end-spec : {M : Type 1} → statement M
-is-end-spec = ?
+is-end-spec =
+    tie.close
+    (tie.spec
+    (λ c κs. search needs)
+    (λ c. search needs)
+    (λ c κs. search needs)
+    returns
+    (λ c κs. search needs)
+    returns-2)
