@@ -299,8 +299,7 @@ module _ (f : List ℕ) (i : ℕ) (l : Listing) (ps : List ℕ) (o : ListedAs f 
       trees-found e r q =
           let t = m .good g in
           let y = t .2 ∙ ap (withTexts (t .0)) e ∙ texts-all (t .0) in
-          let p = o .good h in
-          (
+          let p = o .good h in (
             record { pairs = listedPairs ++ []; texts = t .0 },
             p .3 ∙ ap (withPairs listedPairs) y,
             rw q (record { order = p .0; within = p .1; there = h; placed = p .2; pairs = append-nil listedPairs; trees = t .1; lines = y }),

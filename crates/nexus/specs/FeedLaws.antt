@@ -4,6 +4,7 @@
 --   with-text          a text, and what is read behind it
 --   line-fits, line-text, line-end, line-wrong     the line of a tree that is there
 --   lane-is            a plain text handed whole to an empty lane
+--   judges-hands       the text that stands at the front of a buffer
 --   small-finished     the number of a tree that is accepted is at most 1,024
 --   Going, going-..    as many texts as the loop has fed, and the rest decides
 use Prim.Native.Nat.{ℕ, suc, _+_, _-_, _≤_, _<_}
@@ -47,7 +48,7 @@ use Rattle.nexus.specs.PartLaws.{part-join}
 use Rattle.nexus.specs.Commands.{LineMoves}
 use Rattle.nexus.specs.BlockLaws.{reads-last, reads-moved}
 use Rattle.nexus.specs.Texts.{TextAs}
-use Rattle.nexus.specs.Verdicts.{laneWith, Judges, LineAt, LinesAt, Feeds, FeedsLines}
+use Rattle.nexus.specs.Verdicts.{laneWith, Judges, Hands, LineAt, LinesAt, Feeds, FeedsLines}
 
 -- ---- behind the TREES block
 
@@ -88,8 +89,7 @@ later-texts [] = (λ x e. absurd (none-some x e), λ x e. absurd (none-some x e)
 later-texts (c ∷ []) = (closes-later (every isBlank c), λ x e. absurd (none-some x e))
 later-texts (c ∷ d ∷ cs) =
     let h = later-texts (d ∷ cs) in
-    let b = begun-later (twoTokens c) in
-    (
+    let b = begun-later (twoTokens c) in (
       λ x e. moves-later (d ∷ cs) (h .1) (b .0) (b .1) x (ap (λ (m : Move). readsOn m (λ p. reads p (d ∷ cs))) (sym (b .2)) ∙ e),
       ends-later (d ∷ cs) (h .0) (h .1) (endsOther c),
     )
@@ -185,6 +185,17 @@ lane-is t n p x = go (less-or-not mostText (length t))
         if-false _ _ (le-ltb mostText n (omega (arith, x .fits h .0))) ∙ ap holding (x .fits h .1)
         ∙ sym (if-false _ _ (le-ltb mostText (length t) h))
 
+-- the text that stands at the front of the buffer
+pub judges-hands : (s x : List ℕ) (n : ℕ) (p : List ℕ) (r : Progress) (t : List ℕ) → TextAs x n p → Judges s p n r t → Hands s x r t
+unfolding onText
+judges-hands s x n p r t h j =
+    let e : verdict (heldAt s) (laneWith n p) ≡ onText (heldAt s) x = ap (verdict (heldAt s)) (lane-is x n p h) in
+    record {
+      answer = j .answer ∙ ap (finished (heldAt s)) e;
+      holds = subst (λ (v : Answer (List ℕ)). Holds (recording (heldAt s) v) s t) e (j .holds);
+      found = λ k q. j .found k (e ∙ q);
+    }
+
 pub small-finished : (s : List ℕ) → wholeAt s ≡ true → (v : Answer (List ℕ)) → Small (finished (heldAt s) v)
 unfolding Small finished
 small-finished s w (refused k) = tt
@@ -268,24 +279,26 @@ module _ (ps : List Pair) (f : List ℕ) (from n : ℕ) (s v t w : List ℕ) (at
     unfolding next later-ones
     next-read = g .read ∙ ap (λ (us : List (List ℕ)). some (only us)) (some-text .2)
 
-    module _ (k : Token) (l : LineAt f at k) (room : n ≤ length v) (m : ℕ) (text : List ℕ)
-        (x : TextAs (replaced ps (uncommented (part (k .from) (k .end) f))) m text)
-        (r : Progress) (u : List ℕ) (j : Judges t text m r u) (y : ℕ) (e : y ≡ verdictNumber (progressGiven r)) where
+    module _ (k : Token) (l : LineAt f at k) (room : n ≤ length v) (r : Progress) (u : List ℕ)
+        (j : Hands t (replaced ps (uncommented (part (k .from) (k .end) f))) r u) (y : ℕ) (e : y ≡ verdictNumber (progressGiven r)) where
       line-is : uncommented (part (k .from) (k .end) f) ≡ next
       line-is = l .gives next later-ones next-read .1
 
-      judged-there : verdict (heldAt t) (laneWith m text) ≡ onText (heldAt t) (replaced ps next)
-      unfolding onText
-      judged-there = ap (verdict (heldAt t)) (lane-is _ m text x ∙ ap (λ (b : List ℕ). longer (holding []) (replaced ps b)) line-is)
+      verdict-there : Answer (List ℕ)
+      verdict-there = onText (heldAt t) (replaced ps next)
 
-      after-held : heldAt u ≡ recording (heldAt t) (onText (heldAt t) (replaced ps next))
+      judged-there : onText (heldAt t) (replaced ps (uncommented (part (k .from) (k .end) f))) ≡ verdict-there
+      unfolding verdict-there
+      judged-there = ap (λ (b : List ℕ). onText (heldAt t) (replaced ps b)) line-is
+
+      after-held : heldAt u ≡ recording (heldAt t) verdict-there
       after-held = j .holds .held ∙ ap (recording (heldAt t)) judged-there
 
-      number-is : y ≡ verdictNumber (finished (heldAt t) (onText (heldAt t) (replaced ps next)))
+      number-is : y ≡ verdictNumber (finished (heldAt t) verdict-there)
       number-is = e ∙ ap verdictNumber (j .answer ∙ ap (finished (heldAt t)) judged-there)
 
       handing-on : handing (heldAt t) (map (replaced ps) (g .rest)) ≡ withVerdict y (handing (heldAt u) (map (replaced ps) later-ones))
-      unfolding handing next later-ones
+      unfolding handing next later-ones verdict-there
       handing-on = ap (λ (us : List (List ℕ)). handing (heldAt t) (map (replaced ps) us)) (some-text .2) ∙ rw (← number-is, ← after-held)
 
       opening-on : heldAt u .opening ≡ heldAt s .opening
@@ -293,14 +306,14 @@ module _ (ps : List Pair) (f : List ℕ) (from n : ℕ) (s v t w : List ℕ) (at
 
       behind-on : (q : ℕ) → sizeAt s ≤ q → getD u q 0 ≡ getD s q 0
       behind-on q b =
-          let z : storeSize (recording (heldAt t) (verdict (heldAt t) (laneWith m text)) .opening .numbers) ≡ sizeAt s =
+          let z : storeSize (recording (heldAt t) (onText (heldAt t) (replaced ps (uncommented (part (k .from) (k .end) f)))) .opening .numbers) ≡ sizeAt s =
           ap (λ (o : Opening). storeSize (o .numbers)) (recording-opening (heldAt t) _ ∙ g .opening) ∙ size-held s in
           j .holds .behind q (omega arith) ∙ g .behind q b
 
       found-on : noneAccepted (take i w ++ y ∷ []) ≡ true → u ≡ s
       found-on q =
           let a : isRefusal y ≡ true = none-last (take i w) y q in
-          let b = refusal-only (heldAt t) (verdict (heldAt t) (laneWith m text)) (rw (e, j .answer) at a) in
+          let b = refusal-only (heldAt t) _ (rw (e, j .answer) at a) in
           j .found (b .0) (b .1) ∙ g .found (none-front (take i w) (y ∷ []) q)
 
       pub going-more : Going ps f from n s v u (set w i y) (k .end + 1) (i + 1)
@@ -368,6 +381,8 @@ module _ (ps : List Pair) (f : List ℕ) (from n : ℕ) (s v t w : List ℕ) (at
     pub gone : n ≤ length v → FeedsLines ps f from n s v t w
     unfolding textsOf
     gone room = record {
+      size = g .size;
+      room = g .room;
       feeds = λ ts c h.
           subst (λ (us : List (List ℕ)). Feeds (handing (heldAt s) (map (replaced ps) us)) s v t w) (ap textsOf (sym (g .begun) ∙ h)) (fed room);
     }

@@ -43,7 +43,7 @@ pub fn feed_file(s: &mut [u8], file: &[u8], verdicts: &mut [u32]) -> Number
     if verdicts.len() < n {
         return Number::Refused(Refusal::TooShort);
     }
-    feed::feed_lines(
+    feed::feed_trees(
         s,
         file,
         x.lines,

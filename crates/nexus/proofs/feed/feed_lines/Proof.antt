@@ -1,105 +1,87 @@
+-- `nexus::feed::feed_lines` meets its contract. The loop's invariant: i trees are fed, and the rest decides. Assumes nothing.
+use mathlib.Core.Path.{refl, sym, subst, _∙_}
+use native.Mathlib.Omega.{arith}
+use borrow.Author.Needs.{needs}
+use Prim.Native.Nat.{_-_}
+use Rattle.answers.specs.Answers.{Small}
+use Rattle.nexus.specs.Commands.{pairsIn}
+use Rattle.nexus.specs.FeedLaws.{small-finished, Going, going-none, going-index, going-more, gone}
 use Rattle.nexus.proofs.feed.feed_lines.Statement.{statement}
 use Rattle.nexus.proofs.feed.feed_lines.Tie as tie
-use Rattle.nexus.proofs.feed.feed_lines.Reads as reads
-use Rattle.nexus.proofs.feed.feed_lines.Lts as lts
 use Rattle.answers.proofs.verdict_number.Reads as verdict-number-reads
-use Rattle.head.proofs.build_index.Reads as build-index-reads
-use Rattle.nexus.proofs.feed.text_at.Reads as text-at-reads
-use Rattle.nexus.proofs.keys.index_keys.Reads as index-keys-reads
-use Rattle.nexus.proofs.plain.write_text.Reads as write-text-reads
-use Rattle.nexus.proofs.verdicts.judge_text.Reads as judge-text-reads
 
 abbrev Inv-loop : tie.InvT-loop
-Inv-loop s₀ f from n list pairs places verdicts₀ starts links key-starts key-links text₀ at₀ i₀ s verdicts text at i =
-    ?
+Inv-loop s₀ starts links f from n list pairs places firsts nexts verdicts₀ at₀ i₀ s verdicts at i =
+    Going (pairsIn list pairs places) f from n s₀ verdicts₀ s verdicts at i
 
 abbrev μ-loop : tie.MeasureT-loop
-μ-loop s₀ f from n list pairs places verdicts₀ starts links key-starts key-links text₀ at₀ i₀ s verdicts text at i =
-    ?
+μ-loop s₀ starts links f from n list pairs places firsts nexts verdicts₀ at₀ i₀ s verdicts at i = n - i
 
--- src/feed.rt:42:5
-build-index-requires : tie.Need-build-index-requires Inv-loop μ-loop
-build-index-requires c κs = ?
-
--- src/feed.rt:45:5
-index-keys-requires : tie.Need-index-keys-requires Inv-loop μ-loop
-index-keys-requires c κs = ?
-
--- src/feed.rt:49:5
 loop-holds : tie.Need-loop-holds Inv-loop μ-loop
-loop-holds c = ?
+loop-holds c = let p = c .before .before .before .before .before .pre in going-none _ _ _ _ _ _ (p .0) (p .1 .1 .0) (p .1 .1 .1 .0)
 
--- src/feed.rt:50:13
 text-at-requires : tie.Need-text-at-requires Inv-loop μ-loop
-text-at-requires c κs = ?
+text-at-requires c κs = c .before .loop .inv .reach
 
--- src/feed.rt:59:13
-sub-write-text : tie.Need-sub-write-text Inv-loop μ-loop
-sub-write-text c = ?
+sub-feed-text : tie.Need-sub-feed-text Inv-loop μ-loop
+sub-feed-text c = c .before .text-at .ensures .order
 
--- src/feed.rt:59:13
-part-write-text-start : tie.Need-part-write-text-start Inv-loop μ-loop
-part-write-text-start c = ?
+part-feed-text-start : tie.Need-part-feed-text-start Inv-loop μ-loop
+part-feed-text-start c = search needs
 
--- src/feed.rt:59:13
-part-write-text-end : tie.Need-part-write-text-end Inv-loop μ-loop
-part-write-text-end c = ?
+part-feed-text-end : tie.Need-part-feed-text-end Inv-loop μ-loop
+part-feed-text-end c = search needs
 
--- src/feed.rt:60:13
-slice-aggregate-write-text : tie.Need-slice-aggregate-write-text Inv-loop μ-loop
-slice-aggregate-write-text c = ?
+feed-text-requires : tie.Need-feed-text-requires Inv-loop μ-loop
+feed-text-requires c κs =
+    let back = c .before .before .before .before .before in
+    let p = back .before .before .before .before .before .pre in (c .before .before .before .before .loop .inv .whole, (going-index _ _ _ _ _ _ _ _ _ _ (c .before .before .before .before .loop .inv) _ _ (p .1 .0), (p .1 .1 .1 .1 .0, p .1 .1 .1 .1 .1 .0)))
 
--- src/feed.rt:53:13
-write-text-requires : tie.Need-write-text-requires Inv-loop μ-loop
-write-text-requires c κs = ?
-
--- src/feed.rt:62:65
-slice-aggregate-judge-text : tie.Need-slice-aggregate-judge-text Inv-loop μ-loop
-slice-aggregate-judge-text c = ?
-
--- src/feed.rt:62:13
-judge-text-requires : tie.Need-judge-text-requires Inv-loop μ-loop
-judge-text-requires c κs = ?
-
--- src/feed.rt:63:23
 verdict-number-requires : tie.Need-verdict-number-requires Inv-loop μ-loop
-verdict-number-requires c κs = ?
+verdict-number-requires c κs =
+    let back = c .before .before .before .before .before in
+    subst Small (sym (c .before .before .feed-text .ensures .answer)) (small-finished _ (back .before .before .loop .inv .whole) _)
 
--- src/feed.rt:63:9
 mul-verdicts : tie.Need-mul-verdicts Inv-loop μ-loop
-mul-verdicts c = ?
+mul-verdicts c =
+    let back = c .before .before .before .before .before in
+    let far = back .before .before .before .before .before in
+    omega (arith, back .before .before .before .loop .inv .room, far .before .before .before .before .pre .1 .1 .1 .1 .1 .1, far .before .before .before .before .good .1 .1 .1 .1 .1 .1 .1 .1 .1 .1 .1 .0)
 
--- src/feed.rt:63:9
 slice-write-verdicts : tie.Need-slice-write-verdicts Inv-loop μ-loop
-slice-write-verdicts c = ?
+slice-write-verdicts c =
+    let back = c .before .before .before .before .before in
+    let far = back .before .before .before .before .before in
+    omega (arith, back .before .before .before .loop .inv .room, far .before .before .before .before .pre .1 .1 .1 .1 .1 .1)
 
--- src/feed.rt:64:14
 add-at : tie.Need-add-at Inv-loop μ-loop
-add-at c = ?
+add-at c =
+    let back = c .before .before .before .before .before in
+    let far = back .before .before .before .before .before in
+    omega (arith, back .before .text-at .ensures .within, far .before .before .before .before .good .1 .1 .1 .0)
 
--- src/feed.rt:65:9
 add-i : tie.Need-add-i Inv-loop μ-loop
-add-i c = ?
+add-i c = omega arith
 
--- src/feed.rt:49:5
 loop-less : tie.Need-loop-less Inv-loop μ-loop
-loop-less c = ?
+loop-less c = omega arith
 
--- src/feed.rt:49:5
 loop-again : tie.Need-loop-again Inv-loop μ-loop
-loop-again c = ?
+loop-again c =
+    let back = c .before .before .before .before .before in
+    let far = back .before .before .before .before .before in
+    let p = far .before .before .before .before .pre in going-more _ _ _ _ _ _ _ _ _ _ (back .before .before .before .loop .inv) (back .before .before .loop-test .taken) _ (back .before .text-at .ensures) (p .1 .1 .1 .1 .1 .1) _ _ (c .before .before .before .feed-text .ensures) _ (c .verdict-number .ensures)
 
--- src/feed.rt:23:1
 same-length : tie.Need-same-length Inv-loop μ-loop
-same-length c = ?
+same-length c = c .before .loop .inv .size
 
--- src/feed.rt:23:1
 same-length-2 : tie.Need-same-length-2 Inv-loop μ-loop
-same-length-2 c = ?
+same-length-2 c = c .before .loop .inv .room
 
--- src/feed.rt:23:1
 returns : tie.Need-returns Inv-loop μ-loop
-returns c = ?
+returns c =
+    let back = c .before .before .before .before .before in
+    gone _ _ _ _ _ _ _ _ _ _ (c .before .loop .inv) (omega (arith, c .before .loop .inv .count, c .loop-test .left)) (back .before .before .pre .1 .1 .1 .1 .1 .1)
 
 pub feed-lines-spec : {M : Type 1} → statement M
 feed-lines-spec =
@@ -107,17 +89,12 @@ feed-lines-spec =
     (tie.spec
     Inv-loop
     μ-loop
-    build-index-requires
-    index-keys-requires
     loop-holds
     text-at-requires
-    sub-write-text
-    part-write-text-start
-    part-write-text-end
-    slice-aggregate-write-text
-    write-text-requires
-    slice-aggregate-judge-text
-    judge-text-requires
+    sub-feed-text
+    part-feed-text-start
+    part-feed-text-end
+    feed-text-requires
     verdict-number-requires
     mul-verdicts
     slice-write-verdicts
