@@ -49,3 +49,8 @@ pub mod UnrootedLaws
 pub mod Longest
 pub mod LongestLaws
 pub mod RunOfLaws
+pub mod TokenLaws
+pub mod CommandLaws
+pub mod NexusLeft
+pub mod NexusSoundLaws
+pub mod NexusLaws
