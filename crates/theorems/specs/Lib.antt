@@ -54,3 +54,6 @@ pub mod CommandLaws
 pub mod NexusLeft
 pub mod NexusSoundLaws
 pub mod NexusLaws
+pub mod NexusTextLaws
+pub mod NexusFedLaws
+pub mod NexusCallLaws

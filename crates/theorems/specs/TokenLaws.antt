@@ -80,7 +80,7 @@ token-some : (w : List ℕ) → isToken w ≡ true → 1 ≤ length w
 unfolding isToken
 token-some w e = leb-true 1 (length w) (and-left (leb 1 (length w)) (every isLabelByte w) e)
 
-token-label : (w : List ℕ) → isToken w ≡ true → every isLabelByte w ≡ true
+pub token-label : (w : List ℕ) → isToken w ≡ true → every isLabelByte w ≡ true
 unfolding isToken
 token-label w e = and-right (leb 1 (length w)) (every isLabelByte w) e
 
