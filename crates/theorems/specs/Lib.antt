@@ -57,3 +57,6 @@ pub mod NexusLaws
 pub mod NexusTextLaws
 pub mod NexusFedLaws
 pub mod NexusCallLaws
+pub mod NexusFile
+pub mod NexusFileLaws
+pub mod NexusWrittenLaws

@@ -27,7 +27,7 @@ use Rattle.theorems.specs.NexusLaws.{read-exactly}
 abbrev Unended : List ℕ → Type 0
 Unended w = Mem 59 w → ⊥
 
-is-unended : (w : List ℕ) → Unended w → unended w ≡ true
+pub is-unended : (w : List ℕ) → Unended w → unended w ≡ true
 is-unended w f = ap not (member-not 59 w f)
 
 unended-is : (w : List ℕ) → unended w ≡ true → Unended w

@@ -26,7 +26,8 @@ pub written-semicolon : (ns : List (List ℕ)) (s : List ℕ) → member 59 (wri
 unfolding written
 written-semicolon ns s = mem-member 59 (shown (treeOf ns s) ++ 59 ∷ []) (mem-right 59 (shown (treeOf ns s)) (59 ∷ []) (inl refl))
 
-written-more : (ns : List (List ℕ)) (s : List ℕ) → length (written ns s) ≡ suc (length (shown (treeOf ns s)))
+-- one byte more than what is shown
+pub written-more : (ns : List (List ℕ)) (s : List ℕ) → length (written ns s) ≡ suc (length (shown (treeOf ns s)))
 unfolding written
 written-more ns s = length-append (shown (treeOf ns s)) (59 ∷ []) ∙ omega arith
 
