@@ -1,7 +1,9 @@
 -- Laws of the commands of a NEXUS file: each is found exactly where it stands. Assumes nothing.
 --
 --   ends-sound, ends-complete, ends-not     the end of another block
+--   PairsOk rs ps     the pairs ps, if they are any, are what rs are
 --   pairs-sound, pairs-complete     the pairs of a TRANSLATE list
+--   LineOk c t        the text t, if it is one, is that of the tree's line c
 --   line-sound, line-complete       a tree's line
 --   end-sound, end-complete         the end of the TREES block
 use Prim.Native.Nat.{ℕ, _≤_}

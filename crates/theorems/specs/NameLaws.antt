@@ -1,5 +1,7 @@
 -- Laws of names that pass the opening's check.
 --
+--   markBytes        the bytes that part labels
+--   label-no-blank   a label byte is no blank
 --   LabelBytes w     every byte of w is a label byte, as a type
 --   Token w          w is a token, as a type: one label byte or more
 --   good-count       there are as many as there are taxa

@@ -2,6 +2,9 @@
 --
 --   uncommented-plain     bytes without `[` have no comment
 --   parts-cut             bytes up to the first semicolon are the first part
+--   Plain w, AllPlain ws     the text w, all texts ws have no semicolon and no comment
+--   withEnd w             the text w and a semicolon
+--   behindBlank ws        a file without pairs, with the texts ws, each behind a blank
 --   around-file           the file around texts is a NEXUS file, and gives them behind a blank
 --   replaced-none         without keys a text stays
 --   around-plain          so these are its plain texts

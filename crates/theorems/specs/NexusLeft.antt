@@ -4,6 +4,8 @@
 --   Lined cs ts       in the TREES block, behind its list of keys: lines with the texts ts, and its end
 --   Listed cs x       from the begin of the TREES block on
 --   Began cs x        from the file's begin on
+--   nothing           a file without pairs and texts
+--   LeftOutside came cs x, LeftOther came cs x, LeftTrees fresh cs x     what is left outside the blocks, in another block, in the TREES block
 --   Left q cs x       the commands cs are what is left of a file, from the place q on, and give x
 --   file-began        a file has begun behind `#NEXUS`
 --   began-file        and what has begun there is a file

@@ -1,5 +1,6 @@
 -- What is read of a NEXUS file from a place on is what is left of a file there. Assumes nothing.
 --
+--   LeftOk q cs o      the file o, if it is one, is what is left from the place q on
 --   other-left         another block before what is left outside
 --   begun-step, other-step, trees-step     one command outside the blocks, in another block, in the TREES block
 --   left-sound         what is read from a place on is left of a file

@@ -1,5 +1,6 @@
 -- The plain texts of a NEXUS file have no semicolon. Assumes nothing.
 --
+--   is-unended           bytes among which there is no semicolon pass the test for that
 --   parts-unended        what stands between semicolons has none
 --   pairs-unended        a name of a TRANSLATE list has none, as it is a token
 --   lines-unended        the text of a tree's line has none if the line has none

@@ -1,6 +1,7 @@
 -- The plain NEXUS file around trees that we write reads back: every tree is judged to exactly the splits that it was written from.
 --
 --   judged-blank               a blank before a text changes no verdict of its own
+--   treeText ns s              the tree with the splits s, without its semicolon
 --   written-file               the file around written trees is a NEXUS file
 --   written-file-reads-back    it gives no pairs, and as texts the written trees without their semicolons, behind a blank
 --   written-file-accepted      handed in, each of its trees is accepted with exactly its splits where there is room
@@ -29,7 +30,7 @@ use Rattle.trees.specs.NexusCall.{keysOf, onText, handing, handedIn, nexus}
 use Rattle.theorems.specs.ListLaws.{if-false, and-left, and-right, every-intro}
 use Rattle.theorems.specs.TextLaws.{byKind, symbols-cons}
 use Rattle.theorems.specs.GrammarLaws.{reading-symbols}
-use Rattle.theorems.specs.WrittenLaws.{written-tree-reads-back, no-semicolon, no-comment, written-length}
+use Rattle.theorems.specs.WrittenLaws.{written-tree-reads-back, written-no-semicolon, written-no-comment, written-length}
 use Rattle.theorems.specs.WrittenFedLaws.{written-more}
 use Rattle.theorems.specs.PieceLaws.{unended, text-held}
 use Rattle.theorems.specs.OwnLaneLaws.{recording-opening}
@@ -69,7 +70,7 @@ module _ (n : ℕ) (ns : List (List ℕ)) (names : goodNames n ns ≡ true) (lea
   unfolding every
   written-plain (s ∷ ss) e w (inl q) =
       let good = and-left (goodTree n s) (every (goodTree n) ss) e in
-      subst Plain (sym q) (no-semicolon n ns s names good (omega arith), no-comment n ns s names good (omega arith))
+      subst Plain (sym q) (written-no-semicolon n ns s names good (omega arith), written-no-comment n ns s names good (omega arith))
   written-plain (s ∷ ss) e w (inr m) = written-plain ss (and-right (goodTree n s) (every (goodTree n) ss) e) w m
 
   pub written-file : (ss : List (List ℕ)) → every (goodTree n) ss ≡ true → IsNexus (fileAround (map (written ns) ss)) (behindBlank (map (treeText ns) ss))

@@ -4,8 +4,11 @@
 --   word-some          a keyword has a byte
 --   word-label         it has label bytes alone
 --   word-other         it is no other keyword
---   first-stands       the first token, and what stands behind it, as the function finds them
---   first-found        so they are found
+--   token-label        a token has label bytes alone
+--   first-stands       what the function finds is the first token, and what stands behind it
+--   Found s w r        the function finds the token w at the front of s, and r behind it
+--   first-found        the first token is found
+--   TwoOk s p          the two tokens p, if they are any, are what s is
 --   two-sound, two-complete     two tokens are found exactly where they stand
 use Prim.Native.Nat.{ℕ, _-_, _≤_}
 use Prim.Native.String.{String}

@@ -163,12 +163,12 @@ answered (gives b) = gives (b .verdicts, b .after .trees)
 unfoldable pub judgedFiles : List (List ℕ × Answer (List ℕ × List (List ℕ)))
 unfolding bytes
 judgedFiles =
-    (block "TREE t = (A,B,C,D,E); TREE t = ((A,B),C,D,E)x:1", gives (256 ∷ 257 ∷ [], [] ∷ (28 ∷ []) ∷ []))
-    ∷ (block "TRANSLATE 1 A, 2 B; TREE t = [&R] ((1:1,2)1:2,C,D,E)", gives (256 ∷ [], (28 ∷ []) ∷ []))
-    ∷ (block "TREE t =; TREE t = ]; TREE t = (A,B,C,D,F); TREE t = (A,A,C,D,E); TREE t = (A,B)", gives (7 ∷ 7 ∷ 8 ∷ 9 ∷ 10 ∷ [], []))
-    ∷ (block "TRANSLATE 1 F, 2 A B; TREE t = (A,B,C,D,E)", refused 15)
-    ∷ (block "TRANSLATE 1 F, 2 A; TREE t = (1,B,C,D,E); TREE t = (2,A,C,D,E)", gives (8 ∷ 9 ∷ [], []))
-    ∷ (block "TREE a = ((A,B),C,(D,E)); TREE b = ((A,C),B,D,E); TREE c = (A,B,C,D,E); TREE d = (A,B,C,D,E)", gives (256 ∷ 12 ∷ 257 ∷ 11 ∷ [], (24 ∷ 28 ∷ []) ∷ [] ∷ []))
+    (block "TREE t =(A,B,C,D,E); TREE t =((A,B),C,D,E)", gives (256 ∷ 257 ∷ [], [] ∷ (28 ∷ []) ∷ []))
+    ∷ (block "TRANSLATE 1 A, 2 B; TREE t =((1,2)1,C,D,E)", gives (256 ∷ [], (28 ∷ []) ∷ []))
+    ∷ (block "TREE t =; TREE t = ]; TREE t =(A,F,A); TREE t =(A,A,F); TREE t =(A,B)", gives (7 ∷ 7 ∷ 8 ∷ 9 ∷ 10 ∷ [], []))
+    ∷ (block "TRANSLATE 1 F, 2 A B; TREE t =A", refused 15)
+    ∷ (block "TRANSLATE 1 F, 2 A; TREE t =(1,B); TREE t =(2,A)", gives (8 ∷ 9 ∷ [], []))
+    ∷ (block "TREE a =((A,B),C,D,E); TREE b =((A,C),B,D,E); TREE c =((A,D),B,C,E); TREE d =A", gives (256 ∷ 257 ∷ 11 ∷ 10 ∷ [], (28 ∷ []) ∷ (26 ∷ []) ∷ []))
     ∷ (whole "#NEXUS BEGIN TREES; END;", gives ([], []))
     ∷ []
 
