@@ -43,8 +43,7 @@ heardTaken (fed n a) = n
 heardTaken (closedLane a) = 0
 
 abbrev pub fedTo : ℕ → List (List ℕ) → List Call
-fedTo l [] = []
-fedTo l (t ∷ ts) = feed l (t ++ semicolon ∷ []) ∷ fedTo l ts
+fedTo l ts = map (λ t. feed l (t ++ semicolon ∷ [])) ts
 
 -- ---- neither the opening nor a lane changes
 

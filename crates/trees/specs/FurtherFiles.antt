@@ -6,19 +6,20 @@
 --   files                files that are malformed or list a key twice, and the plain texts of others
 --   judgedFiles          files with the verdicts on their trees, and the trees held afterwards
 --   rooms                files with more trees than there is room for verdicts, and other reasons to refuse them
+--   longTexts            plain texts of 4,096 and 4,097 bytes
 use Prim.Native.Nat.{ℕ}
 use Prim.Native.String.{String}
 use mathlib.Core.List.{List, [], _∷_, _++_, map}
 use mathlib.Core.Option.{Option, none, some}
 use mathlib.Core.Path.{_≡_, refl}
 use lib.ListN.{replicate}
-use Rattle.trees.specs.Plain.{bytes, Answer, refused, gives}
+use Rattle.trees.specs.Plain.{bytes, byte, Answer, refused, gives}
 use Rattle.trees.specs.Names.{namesIn}
 use Rattle.trees.specs.Held.{Held, opened}
 use Rattle.trees.specs.Batch.{Batched}
 use Rattle.trees.specs.Nexus.{File}
 use Rattle.trees.specs.NexusReading.{readFile}
-use Rattle.trees.specs.NexusCall.{plainTexts, nexus}
+use Rattle.trees.specs.NexusCall.{plainTexts, onText, nexus}
 
 -- one lane, room for two trees and two splits
 abbrev shop : Held
@@ -190,3 +191,22 @@ rooms =
 pub rooms-hold : map (λ r. answered (nexus shop (r .0) (r .1))) rooms ≡ map (λ r. r .2) rooms
 unfolding rooms answered nexus opened namesIn bytes
 rooms-hold = refl
+
+-- ---- texts that are too long
+
+abbrev blanks : ℕ → List ℕ
+blanks n = replicate n (byte " ")
+
+-- "judged as its plain text handed whole to an empty lane": at most 4,096 bytes, the blanks at its ends too
+unfoldable pub longTexts : List (List ℕ × Answer (List ℕ))
+unfolding bytes
+longTexts =
+    (blanks 4096, refused 7)
+    ∷ (blanks 4097, refused 6)
+    ∷ (blanks 4080 ++ bytes "(A,B,C,D,E)\t\t\t\t\t", gives [])
+    ∷ (blanks 4080 ++ bytes "(A,B,C,D,E)\t\t\t\t\t\t", refused 6)
+    ∷ []
+
+pub long-texts-hold : map (λ r. onText shop (r .0)) longTexts ≡ map (λ r. r .1) longTexts
+unfolding longTexts onText opened namesIn bytes
+long-texts-hold = refl
