@@ -8,13 +8,18 @@
 --   run-of, behind-of     a run of bytes that pass, before bytes that begin with none
 --   every-behind      whether every byte passes, by what stands behind the run
 --   blank-all, blank-not     every byte passes exactly where nothing stands behind the run
-use Prim.Native.Nat.{ℕ}
+--   run-begins        a run is not empty exactly where the first byte passes
+--   begins-of         bytes that pass begin with one
+--   begins-apart, begins-other     bytes that pass a test do not begin with one that passes a test apart from it
+use Prim.Native.Nat.{ℕ, _≤_}
+use native.Mathlib.Omega.{arith}
 use mathlib.Core.Path.{_≡_, refl, sym, ap, _∙_}
 use mathlib.Core.Bool.{Bool, true, false, _&&_, true≢false}
 use mathlib.Core.List.{List, [], _∷_, _++_}
+use lib.ListN.{length}
 use Rattle.trees.specs.Plain.{if_then_else_, every}
 use Rattle.trees.specs.Nexus.{runOf, behindRun, begins}
-use Rattle.theorems.specs.ListLaws.{if-true, if-false}
+use Rattle.theorems.specs.ListLaws.{if-true, if-false, and-left}
 
 module _ (p : ℕ → Bool) where
   pub run-here : (b : ℕ) (s : List ℕ) → p b ≡ true → runOf p (b ∷ s) ≡ b ∷ runOf p s
@@ -103,3 +108,27 @@ module _ (p : ℕ → Bool) where
   blank-not s r b e =
       every-behind s ∙ ap (every p) e
       ∙ ap (λ (t : Bool). t && every p r) (sym (ap (begins p) e) ∙ behind-stops s)
+
+  -- ---- the first byte
+
+  pub run-begins : (s : List ℕ) → begins p s ≡ true → 1 ≤ length (runOf p s)
+  unfolding begins
+  run-begins [] e = absurd (true≢false (sym e))
+  run-begins (b ∷ s) e = omega (arith, ap length (run-here b s e))
+
+  pub begins-of : (w r : List ℕ) → 1 ≤ length w → every p w ≡ true → begins p (w ++ r) ≡ true
+  unfolding begins every
+  begins-of [] r h e = absurd (omega arith)
+  begins-of (b ∷ w) r h e = and-left (p b) (every p w) e
+
+-- a byte that passes p does not pass q
+module _ (p q : ℕ → Bool) (apart : (b : ℕ) → p b ≡ true → q b ≡ false) where
+  pub begins-apart : (w r : List ℕ) → 1 ≤ length w → every p w ≡ true → begins q (w ++ r) ≡ false
+  unfolding begins every
+  begins-apart [] r h e = absurd (omega arith)
+  begins-apart (b ∷ w) r h e = apart b (and-left (p b) (every p w) e)
+
+  pub begins-other : (w r : List ℕ) → every p w ≡ true → begins q r ≡ false → begins q (w ++ r) ≡ false
+  unfolding begins every
+  begins-other [] r e n = n
+  begins-other (b ∷ w) r e n = apart b (and-left (p b) (every p w) e)

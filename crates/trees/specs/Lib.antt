@@ -25,4 +25,5 @@ pub mod Samples
 pub mod FurtherTexts
 pub mod FurtherOpenings
 pub mod FurtherCalls
+pub mod FurtherFiles
 pub mod FurtherQuestions
