@@ -8,23 +8,23 @@
 --   SameNexus a b       two answers to a file: the same refusal, or the same verdicts and collections that are alike
 --   nexus-alike         alike collections answer a file the same and stay alike
 use Prim.Native.Nat.{ℕ, _≤_, _<_}
-use mathlib.Core.Path.{_≡_, refl, ap, ap₂, _∙_, subst}
+use mathlib.Core.Path.{_≡_, refl, ap, ap₂}
 use mathlib.Core.Bool.{Bool, true, false}
-use mathlib.Core.List.{List, [], _∷_, _++_}
+use mathlib.Core.List.{List, [], _∷_}
 use mathlib.Core.Option.{Option, none, some}
 use lib.Dec.{ltb}
 use lib.ListN.{length}
 use borrow.Author.Tests.{ltb-true, ltb-false}
 use Rattle.trees.specs.Plain.{if_then_else_, Answer, refused, gives}
 use Rattle.trees.specs.Names.{different}
-use Rattle.trees.specs.Held.{Held, holding, withTree, longer, accepted, finished, recording}
+use Rattle.trees.specs.Held.{Held, recording}
 use Rattle.trees.specs.Batch.{verdictNumber, Batched, withVerdict}
 use Rattle.trees.specs.Nexus.{File, IsNexus}
 use Rattle.trees.specs.NexusReading.{readFile}
 use Rattle.trees.specs.NexusCall.{keysOf, plainTexts, onText, handing, handedIn, nexus}
 use Rattle.theorems.specs.ListLaws.{by-test}
 use Rattle.theorems.specs.Alike.{Alike}
-use Rattle.theorems.specs.AlikeLaws.{verdict-alike}
+use Rattle.theorems.specs.AlikeLaws.{judged-alike, recorded-alike}
 use Rattle.theorems.specs.NexusLaws.{read-exactly, malformed-exactly}
 
 -- ---- what is answered
@@ -56,27 +56,6 @@ module _ (h : Held) (f : List ℕ) (room : ℕ) where
 pub record SameHanded (b c : Batched) : Type 0 where
   pub verdicts : b .verdicts ≡ c .verdicts
   pub after : Alike (b .after) (c .after)
-
-module _ (h k : Held) (a : Alike h k) where
-  recording-alike : (v : Answer (List ℕ)) → Alike (recording h v) (recording k v)
-  unfolding recording withTree
-  recording-alike (refused n) = a
-  recording-alike (gives t) = record { names = a .names; lanes = a .lanes; treeRoom = a .treeRoom; splitRoom = a .splitRoom; trees = λ i. a .trees i ++ t ∷ [] }
-
-  finished-alike : (v : Answer (List ℕ)) → finished h v ≡ finished k v
-  unfolding finished
-  finished-alike (refused n) = refl
-  finished-alike (gives t) = λ i. gives (accepted (length (a .trees i)))
-
-  text-alike : (t : List ℕ) → onText h t ≡ onText k t
-  unfolding onText
-  text-alike t = verdict-alike h k a (longer (holding []) t)
-
-  judged-alike : (t : List ℕ) → finished h (onText h t) ≡ finished k (onText k t)
-  judged-alike t = finished-alike (onText h t) ∙ ap (finished k) (text-alike t)
-
-  recorded-alike : (t : List ℕ) → Alike (recording h (onText h t)) (recording k (onText k t))
-  recorded-alike t = subst (λ (v : Answer (List ℕ)). Alike (recording h (onText h t)) (recording k v)) (text-alike t) (recording-alike (onText h t))
 
 pub handing-alike : (h k : Held) → Alike h k → (ts : List (List ℕ)) → SameHanded (handing h ts) (handing k ts)
 unfolding handing withVerdict
