@@ -219,7 +219,9 @@ fn largest_tree_room(random: Random) -> Vec<u8> {
     let text = written(&maker.names, &pool[0]);
     maker.feed(0, &text);
     maker.peek();
-    for line in ["trees", "count", "splits", "matrix", "strict", "majority", "both", "collisions", "tree 1023", "write 1023"] {
+    for line in
+        ["trees", "count", "splits", "matrix", "strict", "majority", "both", "collisions", "tree 1023", "write 1023"]
+    {
         maker.ask(line);
     }
     maker.script()

@@ -18,6 +18,7 @@ mod limits;
 mod maker;
 mod memory;
 mod mixed;
+mod nexus;
 mod oddities;
 mod opening;
 mod parts;

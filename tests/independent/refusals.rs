@@ -63,7 +63,9 @@ fn no_trees(maker: &mut Maker) {
     maker.peek();
     for room in ["room 0", "room -"] {
         maker.ask(room);
-        for line in ["strict", "majority", "both", "tree 0", "write 0", "split 0", "one 0 0", "two 0 0", "matrix", "splits"] {
+        for line in
+            ["strict", "majority", "both", "tree 0", "write 0", "split 0", "one 0 0", "two 0 0", "matrix", "splits"]
+        {
             maker.watched(line);
         }
         maker.watched("batch 0 -");
