@@ -3,6 +3,7 @@
 use crate::calls::treecalls;
 use crate::collection::Collection;
 use crate::consensus::{majority, strict, written, Counts};
+use crate::filecheck::file_checks;
 use crate::grow;
 use crate::opening::{open, Numbers};
 use crate::random::Random;
@@ -20,7 +21,9 @@ const S5: &str = "((A,B),C,D,E)";
 
 /// Prints a line for each check, and answers whether all are right.
 pub fn selfcheck() -> bool {
-    let checks = [samples(), sheets(), lengths(), forms(), limits(), properties(), calls(), store_checks()].concat();
+    let checks =
+        [samples(), sheets(), lengths(), forms(), limits(), properties(), calls(), store_checks(), file_checks()]
+            .concat();
     for (name, right) in &checks {
         println!("{} {name}", if *right { "ok" } else { "not ok" });
     }
