@@ -11,8 +11,11 @@ mod damage;
 mod damaging;
 mod edges;
 mod filecheck;
+mod filelimits;
+mod filerefusals;
 mod files;
 mod filesamples;
+mod filescript;
 mod generator;
 mod grow;
 mod hash;
@@ -72,6 +75,7 @@ fn maker(word: &str) -> Option<Make> {
         "refusals" => refusals::refusals,
         "stores" => stores::stores,
         "made" => stores::made,
+        "nexus" => filescript::nexus,
         "limits" => limits::limits,
         "largest" => limits::largest,
         "oddities" => oddities::oddities,

@@ -43,7 +43,7 @@ fn small_collection(mut random: Random) -> Maker {
     maker
 }
 
-fn fill_lanes(maker: &mut Maker) {
+pub fn fill_lanes(maker: &mut Maker) {
     for lane in 0..maker.numbers.lanes {
         match maker.random.below(5) {
             0 => drop(maker.feed(lane, &vec![b' '; MOST_BYTES + 1])),
