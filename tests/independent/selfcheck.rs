@@ -1,4 +1,5 @@
-//! `selfcheck`: the samples of document 01, the sheet of the summary program, the limits, and the settled points.
+//! `selfcheck`: the samples of document 01, the sheet of the summary program, the limits, and the settled points; then
+//! the checks of stores and of NEXUS files.
 
 use crate::calls::treecalls;
 use crate::collection::Collection;
