@@ -1,5 +1,5 @@
-//! Checks of NEXUS files: the reader on files by hand, the calls, what the checker wants of the lent bytes, and the files
-//! that are generated.
+//! Checks of NEXUS files: the reader on files by hand, the calls, what the checker wants of the lent bytes, and
+//! generated files.
 
 use crate::calls::treecalls;
 use crate::check::Report;

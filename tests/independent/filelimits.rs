@@ -86,7 +86,7 @@ pub fn long_keys_and_names(random: Random) -> Vec<u8> {
 
 // Texts
 
-/// Plain texts of 4,095 to 4,098 bytes: as they stand, written longer with long keys, shorter with short ones, and with
+/// Plain texts of 4,095 to 4,098 bytes: as they stand, written longer with long keys, shorter with short ones, with
 /// comments that are one byte each; good ones, and such with a fault of form or an unknown leaf beside.
 pub fn file_texts(random: Random) -> Vec<u8> {
     let mut maker = opened(random, 20, 2, 200, 400);
@@ -130,6 +130,31 @@ fn with_comments(text: &[u8]) -> Vec<u8> {
         _ => vec![*b],
     };
     text.iter().enumerate().flat_map(byte).collect()
+}
+
+/// What stands before a token that is a key.
+const BEFORE: [&[u8]; 20] = [
+    b"", b" ", b"[x]", b"(", b",", b")", b") ", b")\r\n", b")[x]", b":", b": ", b":\t[x]", b"x ", b")x ", b":x ",
+    b")k ", b"]", b"'", b"=", b"\0",
+];
+
+/// Whether a token is replaced that is an inner label, or stands in a faulty text, only 6 can tell: such tokens, in
+/// texts about as long as the limit, with names one byte longer and one byte shorter than their keys.
+pub fn keys_at_the_limit(random: Random) -> Vec<u8> {
+    let mut maker = opened(random, 5, 1, 60, 100);
+    let star = maker.star(&maker.names);
+    for (key, name) in [(&b"k"[..], &b"kk"[..]), (b"kk", b"k")] {
+        for before in BEFORE {
+            let token = [before, key].concat();
+            let counted = if before.ends_with(b"[x]") { token.len() - 2 } else { token.len() };
+            let alone = |long: usize| [&token[..], &vec![b' '; long - counted]].concat();
+            let label = |long: usize| [&vec![b' '; long - counted - star.len()], &star[..], &token].concat();
+            let texts: Vec<Vec<u8>> = (4094..4100).flat_map(|long| [alone(long), label(long)]).collect();
+            maker.nexus(&file(&[(key.to_vec(), name.to_vec())], &texts));
+        }
+    }
+    maker.ask("trees");
+    maker.script()
 }
 
 // Files

@@ -1,5 +1,5 @@
-//! The refusals of NEXUS files and of the trees in them, while lanes are in mid-text; all lent bytes are peeked before and
-//! after.
+//! The refusals of NEXUS files and of the trees in them, while lanes are in mid-text; all lent bytes are peeked before
+//! and after.
 
 use crate::files::file_of;
 use crate::maker::Maker;

@@ -2,7 +2,7 @@
 
 use crate::generator::one_text;
 use crate::grow::{any_label_byte, blanks, Name, Shape};
-use crate::nexus::with_labels;
+use crate::nexus::{with_labels, MOST_KEYS};
 use crate::random::Random;
 use crate::text::{is_blank, is_label_byte};
 
@@ -10,8 +10,6 @@ use crate::text::{is_blank, is_label_byte};
 pub type Pairs = Vec<(Name, Name)>;
 /// What stands in a file, between any two of which blanks and comments may stand.
 pub type FileParts = Vec<Vec<u8>>;
-
-const MOST_KEYS: usize = 64;
 
 const COMMENTS: [&[u8]; 12] = [
     b"[]",

@@ -25,13 +25,22 @@ pub const GOOD_FILES: [(&str, &[&str]); 29] = [
     ("#NEXUS BEGIN END; END; BEGIN TREE; END; BEGIN TREES2; END; BEGIN #NEXUS; END; BEGIN TREES; END;", &[]),
     // Trees
     ("#NEXUS BEGIN TREES; TREE t1=(A,B);TREE t1=;TREE TREE= \t;TREE END=END;END;", &["(A,B)", "", " \t", "END"]),
-    ("#NEXUS BEGIN TREES; TREE *=A; TREE *t=B; TREE t==C; TREE t=u=D; TREE t = = E; END;", &["A", "B", "=C", "u=D", " = E"]),
-    ("#NEXUS BEGIN TREES; TREE t=(A],B]; TREE u=('A,#NEXUS BEGIN\0; TREE v=A[x]B; END;", &["(A],B]", "('A,#NEXUS BEGIN\0", "A B"]),
+    (
+        "#NEXUS BEGIN TREES; TREE *=A; TREE *t=B; TREE t==C; TREE t=u=D; TREE t = = E; END;",
+        &["A", "B", "=C", "u=D", " = E"],
+    ),
+    (
+        "#NEXUS BEGIN TREES; TREE t=(A],B]; TREE u=('A,#NEXUS BEGIN\0; TREE v=A[x]B; END;",
+        &["(A],B]", "('A,#NEXUS BEGIN\0", "A B"],
+    ),
     // Keys
     ("#NEXUS BEGIN TREES; TRANSLATE A B , B A; TREE t=(A,B); END;", &["(B,A)"]),
     ("#NEXUS BEGIN TREES; TRANSLATE 1 2,2 3,3 A; TREE t=(1,2,3,4); END;", &["(2,3,A,4)"]),
     ("#NEXUS BEGIN TREES; TRANSLATE 1 A; TREE t=(1:1,(1,1)1:1) \t1; TREE u=1; END;", &["(A:1,(A,A)1:1) \t1", "A"]),
-    ("#NEXUS BEGIN TREES; TRANSLATE 1 A; TREE t=(1: [x] 1,(1 1)[x]1 1)\r\n:\r\n1 1; END;", &["(A:   1,(A A) 1 A)\r\n:\r\n1 A"]),
+    (
+        "#NEXUS BEGIN TREES; TRANSLATE 1 A; TREE t=(1: [x] 1,(1 1)[x]1 1)\r\n:\r\n1 1; END;",
+        &["(A:   1,(A A) 1 A)\r\n:\r\n1 A"],
+    ),
     ("#NEXUS BEGIN TREES; TRANSLATE a A, A a, =b= B; TREE t=(a,A,=b=,=b); END;", &["(A,a,B,=b)"]),
     (
         "#NEXUS BEGIN TREES; TRANSLATE END TREE, TREE END, TRANSLATE #NEXUS, BEGIN =; TREE t=(END,TREE,end,BEGIN); END;",
@@ -41,7 +50,7 @@ pub const GOOD_FILES: [(&str, &[&str]); 29] = [
 ];
 
 /// Malformed files.
-pub const BAD_FILES: [&str; 52] = [
+pub const BAD_FILES: [&str; 56] = [
     // No file at all
     "",
     " \r\n",
@@ -92,6 +101,10 @@ pub const BAD_FILES: [&str; 52] = [
     "#NEXUS BEGIN TREES; END; BEGIN X; E[]ND;",
     "#NEXUS BEGIN TREES;",
     "#NEXUS BEGIN TREES; END",
+    "#NEXUS BEGIN TREES; END x;",
+    "#NEXUS BEGIN TREES; ENDBLOCK;",
+    "#NEXUS BEGIN TREES; FRIEND;",
+    "#NEXUS BEGIN TREES; END, END",
     "#NEXUS BEGIN TREES; TREE t=(A,B)END;",
     // Behind the last block
     "#NEXUS BEGIN TREES; END; x",

@@ -1,5 +1,5 @@
-//! NEXUS files one after another, with all lent bytes peeked after each: files by hand, each odd sign at each place, a file
-//! cut at each byte; then files by chance.
+//! NEXUS files one after another, with all lent bytes peeked after each or a few: files by hand, each odd sign at each
+//! place, a file cut at each byte; then files by chance.
 
 use crate::files::any_file;
 use crate::filesamples::{file_with, BAD_BLOCKS, BAD_FILES, GOOD_FILES, TWICE};
@@ -17,8 +17,11 @@ const MOST_OVER_LETTERS: usize = 50;
 pub fn nexus(seed: u64, count: usize) -> Vec<u8> {
     let mut random = Random::new(seed);
     let mut out = Vec::new();
-    for files in [by_hand(), odd_signs(), cuts()].concat().chunks(MOST_OVER_LETTERS) {
-        out.extend(over_letters(Random::new(random.next()), files));
+    for files in by_hand().chunks(MOST_OVER_LETTERS) {
+        out.extend(over_letters(Random::new(random.next()), files, 1));
+    }
+    for files in [odd_signs(), cuts()].concat().chunks(MOST_OVER_LETTERS) {
+        out.extend(over_letters(Random::new(random.next()), files, 5));
     }
     let mut left = count;
     while left > 0 {
@@ -29,15 +32,15 @@ pub fn nexus(seed: u64, count: usize) -> Vec<u8> {
     out
 }
 
-/// Files over the names A to E, while a lane is in mid-text.
-fn over_letters(random: Random, files: &[Vec<u8>]) -> Vec<u8> {
+/// Files over the names A to E, while a lane is in mid-text; all lent bytes are peeked after each so many.
+fn over_letters(random: Random, files: &[Vec<u8>], often: usize) -> Vec<u8> {
     let names: Vec<Name> = (b'A'..=b'E').map(|letter| vec![letter]).collect();
     let numbers = Numbers { taxa: 5, lanes: 2, tree_room: 20, split_room: 8, places: 5 };
     let mut maker = Maker::open(random, names, numbers, 1);
     maker.feed(1, b"((A,B),");
     maker.peek();
-    for file in files {
-        maker.nexus(file);
+    for some in files.chunks(often) {
+        some.iter().for_each(|file| maker.nexus(file));
         maker.peek();
     }
     maker.feed(1, b"C,(D,E));");
@@ -78,7 +81,7 @@ const PARTS: [&str; 35] = [
     "TREE",
     "t2",
     "=",
-    "((1,C):1,2,(D,E)1)",
+    "((1,C): 1,2:\t1,(D,E) 1)2",
     ";",
     "END",
     ";",

@@ -1,7 +1,9 @@
 //! The limits: bytes of a text, taxa, nesting, tree room and split room, batches, NEXUS files, and long collections.
 
 use crate::consensus::written;
-use crate::filelimits::{file_texts, long_files, long_keys_and_names, numbers_of_keys, numbers_of_trees};
+use crate::filelimits::{
+    file_texts, keys_at_the_limit, long_files, long_keys_and_names, numbers_of_keys, numbers_of_trees,
+};
 use crate::grow::{ladder, names, shape, text_of, tokens, Dress, Name};
 use crate::maker::{joined, open_line, Maker};
 use crate::opening::Numbers;
@@ -20,7 +22,8 @@ pub fn limits(seed: u64, count: usize) -> Vec<u8> {
         for part in [lengths, nesting, small_tree_rooms, small_split_rooms, batches] {
             out.extend(part(Random::new(random.next())));
         }
-        for part in [numbers_of_keys, long_keys_and_names, file_texts, numbers_of_trees, long_files] {
+        for part in [numbers_of_keys, long_keys_and_names, file_texts, keys_at_the_limit, numbers_of_trees, long_files]
+        {
             out.extend(part(Random::new(random.next())));
         }
     }

@@ -3,7 +3,7 @@
 use crate::text::{is_blank, is_label_byte};
 use std::collections::BTreeSet;
 
-const MOST_KEYS: usize = 64;
+pub const MOST_KEYS: usize = 64;
 
 /// "15 block malformed, 16 key listed twice; in that order"; the file is "judged whole first".
 pub fn plain_texts(file: &[u8]) -> Result<Vec<Vec<u8>>, u32> {
