@@ -43,7 +43,7 @@ pub const GOOD_FILES: [(&str, &[&str]); 29] = [
     ),
     ("#NEXUS BEGIN TREES; TRANSLATE a A, A a, =b= B; TREE t=(a,A,=b=,=b); END;", &["(A,a,B,=b)"]),
     (
-        "#NEXUS BEGIN TREES; TRANSLATE END TREE, TREE END, TRANSLATE #NEXUS, BEGIN =; TREE t=(END,TREE,end,BEGIN); END;",
+        "#NEXUS BEGIN TREES; TRANSLATE END TREE,TREE END,TRANSLATE #NEXUS,BEGIN =; TREE t=(END,TREE,end,BEGIN); END;",
         &["(TREE,END,end,=)"],
     ),
     ("#NEXUS BEGIN TREES; TRANSLATE 1 A; TREE t=11 1]1'1;TREE u=1[]1,[1]1; END;", &["11 A]A'A", "A A, A"]),

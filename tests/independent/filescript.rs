@@ -93,9 +93,9 @@ const PARTS: [&str; 35] = [
     "",
 ];
 
-const SIGNS: [&[u8]; 20] = [
+const SIGNS: [&[u8]; 23] = [
     b"[", b"]", b"[]", b";", b",", b"=", b":", b"(", b")", b"'", b"*", b"x", b"END", b"END;", b"TREE", b"BEGIN", b"\0",
-    b"\x7f", b"\x80", b"\xff",
+    b"\x0b", b"\x0c", b"\x7f", b"\x80", b"\xa0", b"\xff",
 ];
 
 /// The file with a sign before each of its parts, by itself and at the part's front; and with each part left out.
