@@ -182,32 +182,42 @@ pub fn numbers_of_trees(random: Random) -> Vec<u8> {
     maker.script()
 }
 
-/// Long comments, blanks, blocks, names and commands that are not allowed.
+/// Long comments, blanks, blocks, names and texts, before keys, behind them and inside; and what is malformed behind.
 pub fn long_files(random: Random) -> Vec<u8> {
-    let mut maker = opened(random, 5, 1, 60, 100);
+    let mut maker = opened(random, 5, 1, 200, 100);
+    let pairs = numbered(&maker.names);
     for long in [MOST_BYTES, 70_000] {
-        let text = bare_text(&mut maker.random, &maker.names, 3);
         let many = |byte: u8| vec![byte; long];
-        let files: [[&[u8]; 4]; 8] = [
-            [b"[", &many(b'['), b"]", b""],
-            [b"", &many(b'\n'), b"", b""],
-            [b"", b"", b" BEGIN X;", &many(b'x')],
-            [b"", b"", b" BEGIN X;", &many(b';')],
-            [b"", b"", b" BEGIN X;", &b"END ".repeat(long / 4)],
-            [b"", b"", b" BEGIN ", &many(b'x')],
-            [b"", b"", b" ", &many(b']')],
-            [b"", b"", b" [", &many(b'x')],
-        ];
-        for [before, more, front, behind] in files {
+        let text = bare_text(&mut maker.random, &maker.names, 3);
+        let good = file(&pairs, &[keyed(&pairs, &text), text.clone()]);
+        for (before, behind) in long_parts(long) {
             for end in [&b""[..], b" END;", b"; END;", b"]"] {
-                let good = file(&[], std::slice::from_ref(&text));
-                maker.nexus(&[before, more, &good, front, behind, end].concat());
+                maker.nexus(&[&before, &good, &behind, end].concat());
             }
         }
-        let name = [&b"#NEXUS BEGIN TREES; TREE "[..], &many(b'n'), b"=", &text, b"; END;"].concat();
-        maker.nexus(&name);
+        let comment = [&b"["[..], &many(b'['), b"]"].concat();
+        let inside: Vec<u8> =
+            keyed(&pairs, &text).split_inclusive(|b| *b == b',').collect::<Vec<&[u8]>>().join(&comment[..]);
+        maker.nexus(&file(&pairs, &[inside, many(b'1'), many(b' ')]));
+        maker.nexus(&[&b"#NEXUS BEGIN TREES; TREE "[..], &many(b'n'), b"=", &text, b"; END;"].concat());
         maker.nexus(&many(b'#'));
     }
     maker.peek();
     maker.script()
+}
+
+/// So many bytes of one kind, each where it stands before a file or behind one.
+fn long_parts(long: usize) -> Vec<(Vec<u8>, Vec<u8>)> {
+    let many = |byte: u8| vec![byte; long];
+    let behind = |front: &[u8], bytes: Vec<u8>| (Vec::new(), [front, &bytes].concat());
+    vec![
+        ([&b"["[..], &many(b'['), b"]"].concat(), Vec::new()),
+        (many(b'\n'), Vec::new()),
+        behind(b" BEGIN X;", many(b'x')),
+        behind(b" BEGIN X;", many(b';')),
+        behind(b" BEGIN X;", b"END ".repeat(long / 4)),
+        behind(b" BEGIN ", many(b'x')),
+        behind(b" ", many(b']')),
+        behind(b" [", many(b'x')),
+    ]
 }
