@@ -4,7 +4,7 @@
 --   file-after            a file holds what the texts hold that it hands in
 --   file-verdicts         its verdicts are theirs
 --   file-same             collections that answer these texts alike answer the file alike
-use Prim.Native.Nat.{ℕ}
+use Prim.Native.Nat.{ℕ, suc}
 use mathlib.Core.Path.{_≡_, refl, sym, ap, _∙_}
 use mathlib.Core.Bool.{Bool, true, false}
 use mathlib.Core.List.{List, [], _∷_, _++_, map}
@@ -43,7 +43,7 @@ handing-judges h [] = refl
 handing-judges h (t ∷ ts) =
     let s = finished-settled h (onText h t) (verdict-small h (longer (holding []) t)) in
     ap (λ (vs : List Final). verdictOf (verdictNumber (finished h (onText h t))) ∷ vs) (handing-judges (recording h (onText h t)) ts)
-    ∙ sym (settled-read _ (finished h (onText h t)) s (answers (recording h (onText h t)) (map hand ts)))
+    ∙ sym (settled-read (suc (length t)) (finished h (onText h t)) s (answers (recording h (onText h t)) (map hand ts)))
 
 -- ---- a file
 
