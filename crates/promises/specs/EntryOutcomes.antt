@@ -165,7 +165,7 @@ close-once k x q r y z a b = closed-both _ _ q r _ _ a b
 -- ---- two lent bytes that are the same as stores
 
 module _ (t u : List ℕ) (e : SameStore t u) where
-  -- every question asks of what is held, and a batch does
+  -- every question asks of what is held, and a batch and a NEXUS file do
   pub asked-same : {A : Type 0} (f : Held → Answer A) → ifWhole t f ≡ ifWhole u f
   unfolding ifWhole
   asked-same {A} f = ap₂ {C = Answer A} (λ (b : Bool) (h : Held). if b then f h else refused 1) (e .whole) (e .holding)
