@@ -23,7 +23,7 @@ use Rattle.nexus.specs.Places.{part, plain, PlainRun, PlainEnd}
 
 -- ---- a block
 
--- t says whether all bytes so far are plain, and u whether the byte b is, too, as far as x is concerned
+-- t says whether no byte so far is x, and u whether the byte b is not, too
 module _ (t u : Bool) (b x : ℕ) where
   pub plain-dropped : b ≡ x → u ≡ false → u ≡ (t && not (eqb b x))
   plain-dropped e f = f ∙ sym (ap (λ (y : Bool). t && not y) (eq-eqb b x e) ∙ and-false t)
@@ -40,26 +40,30 @@ module _ (t u : Bool) (b x : ℕ) where
       and-yes false = refl
 
 module _ (p : List ℕ) (i : ℕ) where
-  pub all-turn : (t u v : Bool) → (t && every plain (drop i p)) ≡ every plain p → i < length p
+  -- t and v say whether no byte so far is a semicolon or a bracket, and u and w whether the byte at i is none, too
+  pub all-turn : (t v u w : Bool) → ((t && v) && every plain (drop i p)) ≡ every plain p → i < length p
       → u ≡ (t && not (eqb (getD p i 0) 59))
-      → v ≡ (u && not (eqb (getD p i 0) 91))
-      → (v && every plain (drop (i + 1) p)) ≡ every plain p
+      → w ≡ (v && not (eqb (getD p i 0) 91))
+      → ((u && w) && every plain (drop (i + 1) p)) ≡ every plain p
   unfolding every
-  all-turn t u v f h q r =
+  all-turn t v u w f h q r =
       let d : drop i p ≡ getD p i 0 ∷ drop (i + 1) p = rw (add-one i) (drop-cons p i 0 h) in
-      ap (λ (y : Bool). y && every plain (drop (i + 1) p)) (r ∙ ap (λ (y : Bool). y && not (eqb (getD p i 0) 91)) q)
-      ∙ regroup t (not (eqb (getD p i 0) 59)) (not (eqb (getD p i 0) 91)) (every plain (drop (i + 1) p))
-      ∙ sym (ap (λ (l : List ℕ). t && every plain l) d)
-      ∙ f
+      rw (q, r)
+      (regroup t v (not (eqb (getD p i 0) 59)) (not (eqb (getD p i 0) 91)) (every plain (drop (i + 1) p))
+      ∙ sym (ap (λ (l : List ℕ). (t && v) && every plain l) d)
+      ∙ f)
     where
-      regroup : (a b c d : Bool) → (((a && b) && c) && d) ≡ (a && ((b && c) && d))
-      regroup true b c d = refl
-      regroup false b c d = refl
+      regroup : (a b c d e : Bool) → (((a && c) && (b && d)) && e) ≡ ((a && b) && ((c && d) && e))
+      regroup true true c d e = refl
+      regroup true false true d e = refl
+      regroup true false false d e = refl
+      regroup false b c d e = refl
 
-  pub all-done : (t : Bool) → (t && every plain (drop i p)) ≡ every plain p → length p ≤ i → t ≡ every plain p
+  pub all-done : (t v : Bool) → ((t && v) && every plain (drop i p)) ≡ every plain p → length p ≤ i → (t && v) ≡ every plain p
   unfolding every
-  all-done true f h = rw (drop-of-length-le p h) at f
-  all-done false f h = f
+  all-done true true f h = rw (drop-of-length-le p h) at f
+  all-done true false f h = f
+  all-done false v f h = f
 
 -- ---- a run
 

@@ -56,22 +56,27 @@ fn past_blocks(s: &[u8], from: usize) -> usize
     at
 }
 
-// Whether all bytes of a block are such. All are looked at, without a branch, so that many are compared at once.
+// Whether all bytes of a block are such. All are looked at, without a branch, and each kind has a mark of its own, so that many are
+// compared at once.
 fn all_plain(block: &[u8]) -> bool
     ensures { λ r. ⌜ r ≡ every plain (now (block .entry)) ⌝ }
 {
-    let mut all = true;
+    let mut no_end = true;
+    let mut no_comment = true;
     let mut i = 0;
     while i < block.len() {
         if block[i] == b';' {
-            all = false;
+            no_end = false;
         }
         if block[i] == b'[' {
-            all = false;
+            no_comment = false;
         }
         i += 1;
     }
-    all
+    if no_end {
+        return no_comment;
+    }
+    false
 }
 
 // Whether b neither ends a command nor begins a comment.
