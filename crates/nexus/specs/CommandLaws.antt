@@ -35,14 +35,14 @@ every-join p [] b e f = f
 every-join p (x ∷ a) b e f = and-true (and-left (p x) (every p a) e) (every-join p a b (and-right (p x) (every p a) e) f)
 
 module _ (x : ℕ) where
-  pub parts-one : (a : List ℕ) → every (other x) a ≡ true → parts x a ≡ a ∷ []
+  parts-one : (a : List ℕ) → every (other x) a ≡ true → parts x a ≡ a ∷ []
   unfolding parts withByte every
   parts-one [] e = refl
   parts-one (b ∷ a) e =
       if-false _ _ (not-true (eqb b x) (and-left (other x b) (every (other x) a) e))
       ∙ ap (withByte b) (parts-one a (and-right (other x b) (every (other x) a) e))
 
-  pub parts-first : (a t : List ℕ) → every (other x) a ≡ true → parts x (a ++ (x ∷ t)) ≡ a ∷ parts x t
+  parts-first : (a t : List ℕ) → every (other x) a ≡ true → parts x (a ++ (x ∷ t)) ≡ a ∷ parts x t
   unfolding parts withByte every
   parts-first [] t e = if-true _ _ (eq-eqb x x refl)
   parts-first (b ∷ a) t e =

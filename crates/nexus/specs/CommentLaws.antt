@@ -31,7 +31,7 @@ pub record Inside (s : List ℕ) (i r : ℕ) : Type 0 where
   pub same : (t : List ℕ) → behindComment (part i r s ++ t) ≡ behindComment t
 
 pub inside-none : (s : List ℕ) (i : ℕ) → i ≤ length s → Inside s i i
-inside-none s i h = record { past = omega arith; within = h; same = λ t. ap (λ (l : List ℕ). behindComment (l ++ t)) (part-none s i) }
+inside-none s i h = record { past = omega arith; within = h; same = λ t. ap (λ (l : List ℕ). behindComment (l ++ t)) (part-none s i i refl) }
 
 module _ (s : List ℕ) (i r : ℕ) (d : Inside s i r) where
   -- the byte at r, and then t

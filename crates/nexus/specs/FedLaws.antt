@@ -6,17 +6,16 @@
 --   handing-length    a verdict for each text
 use Prim.Native.Nat.{ℕ, suc, _≤_, _<_}
 use mathlib.Core.Path.{_≡_, refl, sym, ap, subst, _∙_}
-use mathlib.Core.Bool.{Bool, true, false, not}
-use mathlib.Core.List.{List, [], _∷_, _++_, map}
-use mathlib.Core.Option.{Option, none, some}
-use lib.Dec.{ltb}
-use lib.ListN.{length, drop, length-map}
+use mathlib.Core.Bool.{true, false}
+use mathlib.Core.List.{List, [], _∷_, map}
+use mathlib.Core.Option.{none, some}
+use lib.ListN.{length, length-map}
 use borrow.Author.Tests.{lt-ltb, le-ltb}
-use Rattle.trees.specs.Plain.{if_then_else_, Answer, refused, gives}
+use Rattle.trees.specs.Plain.{Answer, gives}
 use Rattle.trees.specs.Names.{different}
 use Rattle.trees.specs.Held.{Held}
 use Rattle.trees.specs.Batch.{Batched, withVerdict}
-use Rattle.trees.specs.Nexus.{Pair, File}
+use Rattle.trees.specs.Nexus.{File}
 use Rattle.trees.specs.NexusReading.{readFile}
 use Rattle.trees.specs.NexusCall.{keysOf, replaced, plainTexts, handing, handedIn, nexus}
 use Rattle.theorems.specs.ListLaws.{if-true, if-false}
@@ -26,7 +25,6 @@ use Rattle.answers.specs.declared.Number.the-variants as number
 use Rattle.answers.specs.Answers.{refusalNumber, refusing, numberGiven}
 use Rattle.layout.specs.Store.{heldAt}
 use Rattle.layout.specs.WholeStore.{wholeAt}
-use Rattle.store.specs.Lent.{Holds}
 use Rattle.store.specs.LentLaws.{when-whole}
 use Rattle.nexus.specs.Verdicts.{Feeds}
 use Rattle.nexus.specs.Fed.{nexusOf, NexusAs}
@@ -35,7 +33,7 @@ pub nexus-refused : (x : Answer Batched) (s v : List ℕ) (r : Refusal) → x �
 unfolding NexusAs numberGiven
 nexus-refused x s v r e = rw e (refl, refl, refl)
 
-pub handing-length : (h : Held) (ts : List (List ℕ)) → length (handing h ts .verdicts) ≡ length ts
+handing-length : (h : Held) (ts : List (List ℕ)) → length (handing h ts .verdicts) ≡ length ts
 unfolding handing withVerdict
 handing-length h [] = refl
 handing-length h (t ∷ ts) = ap suc (handing-length _ ts)

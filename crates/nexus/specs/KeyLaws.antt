@@ -1,7 +1,6 @@
 -- Laws of the keys of a list, by their places. Assumes nothing.
 --
 --   part-slice                           the bytes of a text between two places, as crate head says it
---   part-length                          how many they are
 --   key-slice, key-same, key-unlike      the key of a pair, and other bytes that are as many, or not
 --   keys-compared                        two keys, compared
 --   keys-length, keys-at                 the keys, and the key of pair j
@@ -16,8 +15,8 @@ use mathlib.Core.Path.{_≡_, refl, sym, ap, _∙_}
 use mathlib.Core.Bool.{Bool, true, false, _&&_, _||_, not}
 use mathlib.Core.List.{List, [], _∷_}
 use mathlib.Core.Option.{none, some}
-use lib.ListN.{length, getD, drop, length-drop, drop-of-length-le}
-use lib.Seq.{slice, length-take-le, drop-cons}
+use lib.ListN.{length, getD, drop, drop-of-length-le}
+use lib.Seq.{slice, drop-cons}
 use Rattle.trees.specs.Plain.{if_then_else_, sameBytes, inNames}
 use Rattle.trees.specs.Names.{taxonFrom, taxonOf, different}
 use Rattle.trees.specs.Nexus.{Pair}
@@ -27,6 +26,7 @@ use Rattle.head.specs.HeadLaws.{run-slice, upTo-length, upTo-at}
 use Rattle.head.specs.Index.{Sought}
 use Rattle.head.specs.FindLaws.{run-unlike, sought-here, sought-out, found-at, found-nothing}
 use Rattle.nexus.specs.Places.{part}
+pub use Rattle.nexus.specs.PartLaws.{part-length}
 use Rattle.nexus.specs.Commands.{pairsFrom, pairsIn, pairAt}
 use Rattle.nexus.specs.Keys.{keyIn, FoundAs}
 
@@ -35,9 +35,6 @@ use Rattle.nexus.specs.Keys.{keyIn, FoundAs}
 module _ (s : List ℕ) (b e : ℕ) (h : b ≤ e) where
   pub part-slice : part b e s ≡ slice b e s
   part-slice = let p : b + (e - b) ≡ e = omega arith in run-slice b (e - b) s ∙ rw p
-
-  pub part-length : e ≤ length s → length (part b e s) ≡ e - b
-  part-length f = let d = length-drop b s in length-take-le (e - b) (drop b s) (omega arith)
 
 -- the key of pair i, from a up to z, and other bytes
 module _ (s ps : List ℕ) (i a z : ℕ) (p : a ≡ getD ps (4 * i) 0) (q : z ≡ getD ps (4 * i + 1) 0) (h : a ≤ z) where

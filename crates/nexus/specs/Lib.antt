@@ -1,7 +1,7 @@
 -- What the call promises, what places in a file stand for, and their laws.
 pub mod Places
-pub mod PlaceLaws
 pub mod PartLaws
+pub mod PlaceLaws
 pub mod CommentLaws
 pub mod PlainLaws
 pub mod CommandLaws
@@ -10,14 +10,22 @@ pub mod Commands
 pub mod LineLaws
 pub mod OtherLaws
 pub mod Blocks
-pub mod BlockLaws
+pub mod PartsLaws
 pub mod PairLaws
+pub mod PlacedLaws
+pub mod ReadPairsLaws
+pub mod ReadsLaws
+pub mod TranslateLaws
+pub mod BlockLaws
+pub mod CountLaws
+pub mod FileLaws
 pub mod Keys
 pub mod KeyLaws
 pub mod Texts
 pub mod TextLaws
 pub mod Verdicts
 pub mod VerdictLaws
+pub mod LineTextLaws
 pub mod FeedLaws
 pub mod Fed
 pub mod FedLaws

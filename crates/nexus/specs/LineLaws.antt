@@ -1,6 +1,5 @@
 -- Laws of commands at places: a block's beginning, the lines of the TREES block and its end. Assumes nothing.
 --
---   blanks-only           nothing but blanks stands from a place on exactly where skipping them leads to the end
 --   end-not, end-is       a command that does not begin with END; one that does ends the block where nothing stands behind it
 --   not-begin, no-name, more-behind     a command that is wrong outside the blocks: not BEGIN, no name, more than a name
 --   trees-begun, other-begun            one that begins the TREES block, or another
@@ -10,59 +9,27 @@
 use Prim.Native.Nat.{ℕ, _+_, _≤_, _<_}
 use native.Mathlib.Omega.{arith}
 use mathlib.Core.Path.{_≡_, refl, sym, ap, _∙_}
-use mathlib.Core.Logic.{_⊎_, inl, inr}
+use mathlib.Core.Logic.{⊎-elim}
 use mathlib.Core.Bool.{Bool, true, false, _&&_, true≢false}
 use mathlib.Core.List.{List, [], _∷_, map}
 use mathlib.Core.Option.{none, some}
 use lib.Dec.{eqb, leb, ltb}
-use lib.ListN.{length, getD, drop}
+use lib.ListN.{length, getD}
 use borrow.Author.Tests.{eq-eqb, ne-eqb, eqb-true, lt-ltb, le-ltb, ltb-true, le-leb}
 use Rattle.trees.specs.Plain.{if_then_else_, every, sameBytes, bytes}
 use Rattle.trees.specs.Text.{isBlank}
-use Rattle.trees.specs.Nexus.{begins, uncommented, behindComment, capital, isWord}
+use Rattle.trees.specs.Nexus.{uncommented, capital, isWord}
 use Rattle.trees.specs.NexusReading.{firstToken, behindFirst, twoTokens, textBehind, nameAndText, readLine, isEnd, wrong, blockBegun, moved, lineGiven}
-use Rattle.theorems.specs.ListLaws.{if-true, if-false, less-or-not, equal-or-not}
-use Rattle.theorems.specs.RunOfLaws.{every-behind}
+use Rattle.theorems.specs.ListLaws.{if-true, if-false, less-or-not}
 use Rattle.text.specs.Read.{hasByte}
 use Rattle.nexus.specs.declared.lines.Begun.the-variants.{Other, Trees, Wrong}
 use Rattle.nexus.specs.declared.lines.Line.the-variants.{End, Text}
 use Rattle.nexus.specs.declared.lines.Line.the-variants as line
 use Rattle.nexus.specs.declared.tokens.Token.{Token}
 use Rattle.nexus.specs.Places.{part, plainAt, Skipped, TokenAt, NameEnd}
+use Rattle.nexus.specs.PartLaws.{part-length}
+use Rattle.nexus.specs.PlaceLaws.{plain-none, plain-byte, plain-as, blanks-only}
 use Rattle.nexus.specs.Commands.{BegunAs, LineAs, LineMoves}
-use Rattle.nexus.specs.PlaceLaws.{plain-none, plain-byte, plain-comment}
-use Rattle.nexus.specs.TokenLaws.{part-length}
-
--- ---- blanks up to the end
-
-comment-there : (l : List ℕ) → 1 ≤ length (behindComment l)
-unfolding behindComment
-comment-there [] = omega arith
-comment-there (b ∷ l) = go (eqb b 93) (comment-there l)
-  where
-    go : (t : Bool) → 1 ≤ length (behindComment l) → 1 ≤ length (if t then 32 ∷ uncommented l else behindComment l)
-    go true h = omega arith
-    go false h = h
-
-plain-there : (c : List ℕ) (i : ℕ) → i < length c → 1 ≤ length (plainAt c i)
-plain-there c i h = go (equal-or-not (getD c i 0) 91)
-  where
-    go : (getD c i 0 ≡ 91) ⊎ (getD c i 0 ≡ 91 → ⊥) → 1 ≤ length (plainAt c i)
-    go (inl e) = rw (plain-comment c i h e) (comment-there (drop (i + 1) c))
-    go (inr n) = rw (plain-byte c i h n) (omega arith)
-
-not-every : (p : ℕ → Bool) (s : List ℕ) → 1 ≤ length s → begins p s ≡ false → every p s ≡ false
-unfolding every begins
-not-every p [] h e = absurd (omega arith)
-not-every p (b ∷ s) h e = ap (λ (t : Bool). t && every p s) e
-
-pub blanks-only : (c : List ℕ) (i r : ℕ) → Skipped c i r → every isBlank (plainAt c i) ≡ eqb r (length c)
-unfolding every
-blanks-only c i r k = every-behind isBlank (plainAt c i) ∙ ap (every isBlank) (k .plain) ∙ go (less-or-not r (length c))
-  where
-    go : (r < length c) ⊎ (length c ≤ r) → every isBlank (plainAt c r) ≡ eqb r (length c)
-    go (inl h) = not-every isBlank (plainAt c r) (plain-there c r h) (k .stop) ∙ sym (ne-eqb r (length c) (λ e. omega arith))
-    go (inr h) = let w = k .within in ap (every isBlank) (plain-none c r h) ∙ sym (eq-eqb r (length c) (omega arith))
 
 -- ---- a command's first token
 
@@ -146,23 +113,13 @@ has-there s i b = go (ltb i (length s)) refl
     go true l e = ltb-true i (length s) l
     go false l e = absurd (true≢false (sym e))
 
-comment-lacks : (l : List ℕ) → textBehind (behindComment l) ≡ none
-unfolding textBehind behindComment
-comment-lacks [] = refl
-comment-lacks (b ∷ l) = go (eqb b 93) (comment-lacks l)
-  where
-    go : (t : Bool) → textBehind (behindComment l) ≡ none → textBehind (if t then 32 ∷ uncommented l else behindComment l) ≡ none
-    go true f = refl
-    go false f = f
-
 text-lacks : (c : List ℕ) (i : ℕ) → hasByte c i 61 ≡ false → textBehind (plainAt c i) ≡ none
 unfolding textBehind
-text-lacks c i e = go (less-or-not i (length c)) (equal-or-not (getD c i 0) 91)
-  where
-    go : (i < length c) ⊎ (length c ≤ i) → (getD c i 0 ≡ 91) ⊎ (getD c i 0 ≡ 91 → ⊥) → textBehind (plainAt c i) ≡ none
-    go (inr h) b = ap textBehind (plain-none c i h)
-    go (inl h) (inl b) = ap textBehind (plain-comment c i h b) ∙ comment-lacks (drop (i + 1) c)
-    go (inl h) (inr b) = ap textBehind (plain-byte c i h b) ∙ if-false _ _ (sym (has-at c i 61 h) ∙ e)
+text-lacks c i e =
+    ⊎-elim
+    (λ h. plain-as (λ l. textBehind l ≡ none) c i h refl (λ t. refl) (if-false _ _ (sym (has-at c i 61 h) ∙ e)))
+    (λ h. ap textBehind (plain-none c i h))
+    (less-or-not i (length c))
 
 text-there : (c : List ℕ) (i : ℕ) → hasByte c i 61 ≡ true → textBehind (plainAt c i) ≡ some (plainAt c (i + 1))
 unfolding textBehind

@@ -13,7 +13,6 @@ use mathlib.Core.Path.{_≡_, refl, sym, ap, _∙_}
 use mathlib.Core.Logic.{inl, inr}
 use mathlib.Core.Bool.{Bool, true, false, _&&_, _||_, not, true≢false}
 use mathlib.Core.List.{List, [], _∷_, _++_, map}
-use lib.Dec.{eqb}
 use lib.ListN.{length, getD, drop}
 use borrow.Author.Tests.{eq-eqb, ne-eqb}
 use Rattle.trees.specs.Plain.{if_then_else_, every, sameBytes, bytes}
@@ -24,10 +23,10 @@ use Rattle.theorems.specs.ListLaws.{and-left, and-right, Mem, member-mem}
 use Rattle.theorems.specs.RunOfLaws.{run-over}
 use Rattle.text.specs.Read.{RunEnd}
 use Rattle.nexus.specs.Places.{part, plainAt, Skipped}
+use Rattle.nexus.specs.PartLaws.{part-length}
+use Rattle.nexus.specs.PlaceLaws.{plain-none, plain-byte, plain-comment, comment-as, blanks-only}
+use Rattle.nexus.specs.TokenLaws.{Run, run-every, run-plain, run-stop, label-at, label-behind}
 use Rattle.nexus.specs.Commands.{WordAt, WordEnd}
-use Rattle.nexus.specs.PlaceLaws.{plain-none, plain-byte, plain-comment}
-use Rattle.nexus.specs.TokenLaws.{Run, run-every, run-plain, run-stop, run-at, behind-at, part-length}
-use Rattle.nexus.specs.LineLaws.{blanks-only}
 
 -- ---- bytes at the front
 
@@ -84,14 +83,8 @@ ends-blanks (b ∷ s) = go (isBlank b) refl (ends-blanks s)
 
 -- a bracket that does not read as a blank
 never-ends : (l : List ℕ) → begins isBlank (behindComment l) ≡ false → behindComment l ≡ 91 ∷ []
-unfolding behindComment begins isBlank
-never-ends [] e = refl
-never-ends (b ∷ l) e = go (eqb b 93) (never-ends l) e
-  where
-    go : (t : Bool) → (begins isBlank (behindComment l) ≡ false → behindComment l ≡ 91 ∷ []) → begins isBlank (if t then 32 ∷ uncommented l else behindComment l) ≡ false
-        → (if t then 32 ∷ uncommented l else behindComment l) ≡ 91 ∷ []
-    go true f e = absurd (true≢false e)
-    go false f e = f e
+unfolding begins isBlank
+never-ends = comment-as (λ s. begins isBlank s ≡ false → s ≡ 91 ∷ []) (λ e. refl) (λ t e. absurd (true≢false e))
 
 module _ (c : List ℕ) (i e : ℕ) (w : WordAt c i e) where
   pub word-past : i < e → WordEnd c i e
@@ -100,7 +93,7 @@ module _ (c : List ℕ) (i e : ℕ) (w : WordAt c i e) where
       let u : Run isLabelByte c i e = record { past = w .past; within = w .within; each = w .each } in
       let q = run-plain isLabelByte refl refl c i e u in
       let a = run-every isLabelByte refl refl c i e u in
-      let z = run-stop isLabelByte refl refl c i e u (w .stop) in
+      let z = run-stop isLabelByte refl refl c e (w .stop) in
       let l = part-length c i e (w .past) (w .within) in
       record { past = h; within = w .within; same = λ n. ap (endsAfter true) q ∙ ends-token (part i e c) (plainAt c e) a z (omega arith) (sym (ap lastEnd q) ∙ n) }
 
@@ -151,10 +144,8 @@ module _ (c : List ℕ) (i : ℕ) (p : Passed c i) where
     word-at h = record { there = h; bare = p .bare; past = w .past; within = w .within; each = w .each; stop = w .stop }
 
     last-is : lastEnd (plainAt c i) ≡ (sameBytes (map capital (part i e c)) (bytes "END") && every isBlank (plainAt c e))
-    unfolding lastEnd isWord isLabelByte
-    last-is =
-        let u : Run isLabelByte c i e = record { past = w .past; within = w .within; each = w .each } in
-        rw (run-at isLabelByte refl refl c i e u (w .stop), behind-at isLabelByte refl refl c i e u (w .stop))
+    unfolding lastEnd isWord
+    last-is = rw (label-at c i e w, label-behind c i e w)
 
     pub not-word : sameBytes (map capital (part i e c)) (bytes "END") ≡ false → lastEnd (plainAt c i) ≡ false
     not-word k = last-is ∙ rw k

@@ -1,25 +1,24 @@
 -- Laws of places in a file, a byte at a time. Assumes nothing.
 --
 --   plain-none, plain-byte, plain-comment     what is read from a place on: nothing, a byte, a comment
---   plain-some                                something stands before the end
---   more-than-blanks                          something stands behind the blanks
---   comment-none, comment-here, comment-more  the bytes of a comment
+--   comment-none                              a comment of no byte
+--   comment-as, plain-as                      what holds of a blank, a bracket and a byte that stand there holds of a comment and of a place
+--   blanks-only                               nothing but blanks stands from a place on exactly where skipping them leads to the end
 use Prim.Native.Nat.{ℕ, _+_, _≤_, _<_}
 use native.Mathlib.Numerals.{add-one}
 use native.Mathlib.Omega.{arith}
-use mathlib.Core.Path.{_≡_, refl, sym, ap, _∙_}
-use mathlib.Core.Logic.{_⊎_, inl, inr}
-use mathlib.Core.Bool.{Bool, true, false}
+use mathlib.Core.Path.{_≡_, refl, sym, ap, subst, _∙_}
+use mathlib.Core.Logic.{⊎-elim}
 use mathlib.Core.List.{List, [], _∷_}
 use lib.Dec.{eqb}
 use lib.ListN.{length, getD, drop, drop-of-length-le}
 use lib.Seq.{drop-cons}
 use borrow.Author.Tests.{eq-eqb, ne-eqb}
-use Rattle.trees.specs.Plain.{if_then_else_, every}
+use Rattle.trees.specs.Plain.{every}
 use Rattle.trees.specs.Text.{isBlank}
 use Rattle.trees.specs.Nexus.{uncommented, behindComment}
-use Rattle.theorems.specs.ListLaws.{equal-or-not, if-true, if-false}
-use Rattle.theorems.specs.RunOfLaws.{blank-not}
+use Rattle.theorems.specs.ListLaws.{less-or-not, equal-or-not, by-test, if-true, if-false}
+use Rattle.theorems.specs.RunOfLaws.{blank-all, blank-not}
 use Rattle.nexus.specs.Places.{plainAt, Skipped}
 
 module _ (s : List ℕ) (i : ℕ) where
@@ -46,33 +45,33 @@ module _ (s : List ℕ) (i : ℕ) where
   unfolding behindComment
   comment-none h = ap behindComment (drop-of-length-le s h)
 
-  pub comment-here : i < length s → getD s i 0 ≡ 93 → behindComment (drop i s) ≡ 32 ∷ plainAt s (i + 1)
-  unfolding behindComment
-  comment-here h e = ap behindComment (at-cons h) ∙ if-true _ _ (eq-eqb _ _ e)
+-- ---- what stands there
 
-  pub comment-more : i < length s → (getD s i 0 ≡ 93 → ⊥) → behindComment (drop i s) ≡ behindComment (drop (i + 1) s)
-  unfolding behindComment
-  comment-more h n = ap behindComment (at-cons h) ∙ if-false _ _ (ne-eqb _ _ n)
+-- a comment reads as a blank, or as its bracket where it never ends
+pub comment-as : (P : List ℕ → Type 0) → P (91 ∷ []) → ((t : List ℕ) → P (32 ∷ t)) → (s : List ℕ) → P (behindComment s)
+unfolding behindComment
+comment-as P a f [] = a
+comment-as P a f (b ∷ s) = by-test P (eqb b 93) (λ e. f (uncommented s)) (λ e. comment-as P a f s)
+
+pub plain-as : (P : List ℕ → Type 0) (s : List ℕ) (i : ℕ) → i < length s → P (91 ∷ []) → ((t : List ℕ) → P (32 ∷ t))
+    → P (getD s i 0 ∷ plainAt s (i + 1)) → P (plainAt s i)
+plain-as P s i h a f g =
+    ⊎-elim
+    (λ e. subst P (sym (plain-comment s i h e)) (comment-as P a f (drop (i + 1) s)))
+    (λ n. subst P (sym (plain-byte s i h n)) g)
+    (equal-or-not (getD s i 0) 91)
 
 -- ---- behind blanks
 
--- a comment reads as one byte at least
-comment-some : (s : List ℕ) → (b : ℕ) × (q : List ℕ) × (behindComment s ≡ b ∷ q)
-unfolding behindComment
-comment-some [] = (91, [], refl)
-comment-some (b ∷ s) = go (eqb b 93) (comment-some s)
+pub blanks-only : (s : List ℕ) (i r : ℕ) → Skipped s i r → every isBlank (plainAt s i) ≡ eqb r (length s)
+blanks-only s i r k = ⊎-elim some-there none-there (less-or-not r (length s))
   where
-    go : (t : Bool) → (c : ℕ) × (q : List ℕ) × (behindComment s ≡ c ∷ q)
-        → (c : ℕ) × (q : List ℕ) × ((if t then 32 ∷ uncommented s else behindComment s) ≡ c ∷ q)
-    go true f = (32, uncommented s, refl)
-    go false f = f
+    some-there : r < length s → every isBlank (plainAt s i) ≡ eqb r (length s)
+    some-there h =
+        let p = plain-as (λ l. (b : ℕ) × (q : List ℕ) × (l ≡ b ∷ q)) s r h (91, [], refl) (λ t. (32, t, refl)) (_, _, refl) in
+        blank-not isBlank (plainAt s i) (p .1) (p .0) (k .plain ∙ p .2) ∙ sym (ne-eqb r (length s) (λ e. omega arith))
 
-pub plain-some : (s : List ℕ) (i : ℕ) → i < length s → (b : ℕ) × (q : List ℕ) × (plainAt s i ≡ b ∷ q)
-plain-some s i h = go (equal-or-not (getD s i 0) 91)
-  where
-    go : (getD s i 0 ≡ 91) ⊎ (getD s i 0 ≡ 91 → ⊥) → (b : ℕ) × (q : List ℕ) × (plainAt s i ≡ b ∷ q)
-    go (inl e) = let c = comment-some (drop (i + 1) s) in (c .0, c .1, plain-comment s i h e ∙ c .2)
-    go (inr n) = (getD s i 0, plainAt s (i + 1), plain-byte s i h n)
-
-pub more-than-blanks : (s : List ℕ) (i r : ℕ) → Skipped s i r → r < length s → every isBlank (plainAt s i) ≡ false
-more-than-blanks s i r k h = let p = plain-some s r h in blank-not isBlank (plainAt s i) (p .1) (p .0) (k .plain ∙ p .2)
+    none-there : length s ≤ r → every isBlank (plainAt s i) ≡ eqb r (length s)
+    none-there h =
+        let w = k .within in
+        blank-all isBlank (plainAt s i) (k .plain ∙ plain-none s r h) ∙ sym (eq-eqb r (length s) (omega arith))

@@ -8,30 +8,31 @@
 --   token-step, byte-step                        a token of the text, or a byte, written
 --   written-none, written-more                   the text as the loop writes it
 --   text-over, text-all                          it runs over, or is whole
-use Prim.Native.Nat.{ℕ, zero, suc, _+_, _-_, _≤_, _<_}
+use Prim.Native.Nat.{ℕ, _+_, _-_, _≤_, _<_}
 use native.Mathlib.Numerals.{add-one}
 use native.Mathlib.Omega.{arith}
 use mathlib.Core.Path.{_≡_, refl, sym, ap, _∙_}
 use mathlib.Core.Logic.{⊎-elim}
-use mathlib.Core.Bool.{Bool, true, false, not, _||_, true≢false}
+use mathlib.Core.Bool.{Bool, true, false, not, _||_}
 use mathlib.Core.List.{List, [], _∷_, _++_, append-assoc, append-nil}
 use lib.Dec.{eqb}
-use lib.ListN.{length, getD, set, take, drop, length-set, length-append}
-use lib.Seq.{sets-eq, take-at, take-suc-set, length-take-le, drop-cons}
+use lib.ListN.{length, getD, set, take, length-set, length-append}
+use lib.Seq.{sets-eq, take-at, take-suc-set, length-take-le}
 use borrow.Author.Tests.{eq-eqb, ne-eqb}
-use Rattle.trees.specs.Plain.{member, bytes}
+use Rattle.trees.specs.Plain.{every, member, bytes}
 use Rattle.trees.specs.Text.{isBlank, isLabelByte}
 use Rattle.trees.specs.Held.{mostText}
-use Rattle.trees.specs.Nexus.{Pair, begins, uncommented, behindComment}
+use Rattle.trees.specs.Nexus.{Pair, begins, uncommented}
 use Rattle.trees.specs.NexusCall.{nameOf, shown, freeBehind, replaced, replacedAfter}
-use Rattle.theorems.specs.ListLaws.{less-or-not, equal-or-not, if-true, if-false, by-test}
+use Rattle.theorems.specs.ListLaws.{less-or-not, if-true, if-false, and-left, and-right}
 use Rattle.fields.specs.Run.{copied}
 use Rattle.fields.specs.RunLaws.{copied-length}
-use Rattle.layout.specs.Store.{ranOver}
 use Rattle.text.specs.Read.{RunEnd}
+use Rattle.layout.specs.Store.{ranOver}
 use Rattle.nexus.specs.Places.{part, plainAt, CommentEnd}
+use Rattle.nexus.specs.PartLaws.{part-length}
 use Rattle.nexus.specs.PlaceLaws.{plain-none, plain-byte, plain-comment}
-use Rattle.nexus.specs.KeyLaws.{part-length}
+use Rattle.nexus.specs.TokenLaws.{label-every, label-plain, label-stop}
 use Rattle.nexus.specs.Texts.{behindOne, ShownAt, PassedAt, PutAs, TextAs, Written, Stepped}
 
 -- ---- whether a token may be replaced
@@ -132,31 +133,6 @@ module _ (ps : List Pair) (free : Bool) (w : List ℕ) (to r : ℕ) (o p : List 
   pub put-named : (v : List ℕ) → free ≡ true → 0 < length w → nameOf ps w ≡ v → PutAs v to r o p → PutAs (shown ps free w) to r o p
   put-named v e h n q = rw (e, shown-name ps w h, n) q
 
--- ---- no label byte is read where none stands
-
-comment-stops : (s : List ℕ) → begins isLabelByte (behindComment s) ≡ false
-unfolding behindComment begins isLabelByte member bytes
-comment-stops [] = refl
-comment-stops (b ∷ s) =
-    by-test (λ (l : List ℕ). begins isLabelByte l ≡ false) (eqb b 93) (λ e. refl) (λ e. comment-stops s)
-
-module _ (s : List ℕ) (i : ℕ) where
-  none-stops : length s ≤ i → begins isLabelByte (plainAt s i) ≡ false
-  unfolding begins
-  none-stops h = ap (begins isLabelByte) (plain-none s i h)
-
-  byte-stops : i < length s → isLabelByte (getD s i 0) ≡ false → begins isLabelByte (plainAt s i) ≡ false
-  unfolding begins
-  byte-stops h e =
-      ⊎-elim
-      (λ (q : getD s i 0 ≡ 91). ap (begins isLabelByte) (plain-comment s i h q) ∙ comment-stops (drop (i + 1) s))
-      (λ (q : getD s i 0 ≡ 91 → ⊥). ap (begins isLabelByte) (plain-byte s i h q) ∙ e)
-      (equal-or-not (getD s i 0) 91)
-
-  plain-stops : (i < length s → isLabelByte (getD s i 0) ≡ false) → begins isLabelByte (plainAt s i) ≡ false
-  plain-stops f =
-      ⊎-elim (λ (h : i < length s). byte-stops h (f h)) (λ (h : length s ≤ i). none-stops h) (less-or-not i (length s))
-
 -- ---- a token of the text
 
 module _ (ps : List Pair) (free : Bool) where
@@ -177,32 +153,16 @@ module _ (ps : List Pair) (free : Bool) where
   token-end (x ∷ w) [] h n = sym (append-nil _)
   token-end (x ∷ w) (b ∷ r) h n = if-false _ _ n ∙ ap (λ (l : List ℕ). shown ps free (x ∷ w) ++ l) (sym (if-false _ _ n))
 
-bracket-no-label : (b : ℕ) → isLabelByte b ≡ true → b ≡ 91 → ⊥
-unfolding isLabelByte member bytes
-bracket-no-label b e q = true≢false (sym e ∙ ap isLabelByte q)
-
-part-cons : (s : List ℕ) (i r : ℕ) → i < r → r ≤ length s → part i r s ≡ getD s i 0 ∷ part (i + 1) r s
-part-cons s i r h f =
-    let p : r - i ≡ suc (r - (i + 1)) = omega arith in
-    let l : i < length s = omega arith in
-    rw (p, drop-cons s i 0 l, add-one i)
+  -- the bytes u of a token, behind its bytes w
+  label-run : (w u r : List ℕ) → every isLabelByte u ≡ true → replacedAfter ps free w (u ++ r) ≡ replacedAfter ps free (w ++ u) r
+  unfolding every
+  label-run w [] r e = ap (λ (v : List ℕ). replacedAfter ps free v r) (sym (append-nil w))
+  label-run w (b ∷ u) r e =
+      label-more w b (u ++ r) (and-left (isLabelByte b) (every isLabelByte u) e)
+      ∙ label-run (w ++ b ∷ []) u r (and-right (isLabelByte b) (every isLabelByte u) e)
+      ∙ ap (λ (v : List ℕ). replacedAfter ps free v r) (append-assoc w (b ∷ []) u)
 
 module _ (ps : List Pair) (free : Bool) (s : List ℕ) where
-  label-run : (k i r : ℕ) (w : List ℕ) → i + k ≡ r → r ≤ length s → ((j : ℕ) → i ≤ j → j < r → isLabelByte (getD s j 0) ≡ true)
-      → replacedAfter ps free w (plainAt s i) ≡ replacedAfter ps free (w ++ part i r s) (plainAt s r)
-  label-run zero i r w e f each =
-      let p : r ≡ i = omega arith in
-      let q : i - i ≡ 0 = omega arith in
-      rw (p, q, append-nil w)
-  label-run (suc k) i r w e f each =
-      let l = each i (omega arith) (omega arith) in
-      let b = getD s i 0 in
-      let c : part i r s ≡ b ∷ part (i + 1) r s = part-cons s i r (omega arith) f in
-      ap (replacedAfter ps free w) (plain-byte s i (omega arith) (bracket-no-label b l))
-      ∙ label-more ps free w b _ l
-      ∙ label-run k (i + 1) r (w ++ b ∷ []) (omega arith) f (λ j m. each j (omega arith))
-      ∙ ap (λ (v : List ℕ). replacedAfter ps free v (plainAt s r)) (append-assoc w (b ∷ []) (part (i + 1) r s) ∙ rw c)
-
   module _ (at to : ℕ) (o : List ℕ) (r : ℕ) (p : List ℕ) (e : ℕ) (x : RunEnd s at e) where
     pub token-step : at < e → PutAs (shown ps free (part at e s)) to r o p → Stepped ps s at to free o e r true p
     token-step h q =
@@ -213,8 +173,9 @@ module _ (ps : List Pair) (free : Bool) (s : List ℕ) where
           within = x .within;
           put = q;
           rest =
-              label-run (e - at) at e [] (omega arith) (x .within) (x .each)
-              ∙ token-end ps free (part at e s) (plainAt s e) (omega arith) (plain-stops s e (x .stop));
+              ap (replacedAfter ps free []) (label-plain s at e x)
+              ∙ label-run ps free [] (part at e s) (plainAt s e) (label-every s at e x)
+              ∙ token-end ps free (part at e s) (plainAt s e) (omega arith) (label-stop s at e x);
         }
 
     pub byte-step : (b z : ℕ) (next : Bool) → e ≤ at → ShownAt s at b → PassedAt s at z → PutAs (b ∷ []) to r o p
@@ -224,7 +185,7 @@ module _ (ps : List Pair) (free : Bool) (s : List ℕ) where
         let n = x .past in
         let g : e ≡ at = omega arith in
         let k : plainAt s at ≡ b ∷ plainAt s z = y .is ∙ ap (λ (l : List ℕ). b ∷ l) (m .is) in
-        let f : isLabelByte b ≡ false = sym (ap (begins isLabelByte) k) ∙ plain-stops s at (rw g at (x .stop)) in
+        let f : isLabelByte b ≡ false = sym (ap (begins isLabelByte) k) ∙ ap (λ (j : ℕ). begins isLabelByte (plainAt s j)) (sym g) ∙ label-stop s at e x in
         record {
           shows = b ∷ [];
           past = m .past;

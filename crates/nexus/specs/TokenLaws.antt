@@ -1,37 +1,38 @@
 -- Laws of tokens and keywords at places in a file. Assumes nothing.
 --
 --   name-equals, name-label     which bytes stand in a tree's name
---   part-length                 how long a part of a list is
 --   Alike s b e k i             the first i bytes of the keyword k are those from b on, in any case: the rest up to e decides
 --   word-unlike, word-begun, word-more, word-other, word-end     the comparison, a byte at a time
 --   Run p s i r                 the bytes from i up to r pass the test p
 --   run-none, run-more          such a run, a byte at a time
 --   run-every, run-plain        every byte of it passes; a run without brackets stands as it is
---   run-stop                    no byte that passes stands behind it
+--   run-stop                    no byte that passes is read where none stands
 --   run-at, behind-at           the longest run from a place on, and what stands behind it
 --   begun-at                    whether a byte of it stands there
+--   label-every, label-plain, label-stop, label-at, label-behind     the same of label bytes
 --   token-at, name-at           the first token, and a tree's name, from a place on
 use Prim.Native.Nat.{ℕ, suc, _+_, _-_, _≤_, _<_}
 use native.Mathlib.Numerals.{add-one}
 use native.Mathlib.Omega.{arith}
 use mathlib.Core.Path.{_≡_, refl, sym, ap, _∙_}
-use mathlib.Core.Logic.{_⊎_, inl, inr}
+use mathlib.Core.Logic.{_⊎_, inl, inr, ⊎-elim}
 use mathlib.Core.Bool.{Bool, true, false, _&&_, not, true≢false}
 use mathlib.Core.List.{List, [], _∷_, _++_, map}
 use lib.Dec.{eqb, ltb}
-use lib.ListN.{length, getD, drop, length-drop, length-map, take-append-drop}
-use lib.Seq.{drop-cons, drop-drop, getD-take, getD-drop, length-take-le, drop-length}
+use lib.ListN.{length, getD, drop, length-map}
+use lib.Seq.{drop-cons, getD-take, getD-drop, drop-length}
 use borrow.Author.Tests.{eq-eqb, ne-eqb, lt-ltb, le-ltb}
-use Rattle.trees.specs.Plain.{if_then_else_, every, sameBytes}
+use Rattle.trees.specs.Plain.{every, sameBytes}
 use Rattle.trees.specs.Text.{isLabelByte}
-use Rattle.trees.specs.Nexus.{runOf, behindRun, begins, uncommented, behindComment, capital, isNameByte}
+use Rattle.trees.specs.Nexus.{runOf, behindRun, begins, uncommented, capital, isNameByte}
 use Rattle.trees.specs.NexusReading.{firstToken, behindFirst}
-use Rattle.theorems.specs.ListLaws.{if-false, and-left, and-right, and-true, less-or-not, equal-or-not}
+use Rattle.theorems.specs.ListLaws.{if-false, and-left, and-right, and-true, less-or-not}
 use Rattle.theorems.specs.RunOfLaws.{run-of, behind-of}
 use Rattle.text.specs.Read.{RunEnd}
 use Rattle.head.specs.FindLaws.{run-unlike}
 use Rattle.nexus.specs.Places.{part, plainAt, Skipped, TokenAt, NameEnd}
-use Rattle.nexus.specs.PlaceLaws.{plain-none, plain-byte, plain-comment}
+use Rattle.nexus.specs.PartLaws.{part-first, part-length, part-rest}
+use Rattle.nexus.specs.PlaceLaws.{plain-none, plain-byte, plain-as}
 
 -- ---- bytes of a tree's name
 
@@ -46,23 +47,6 @@ and-yes false = refl
 pub name-label : (b : ℕ) → (b ≡ 61 → ⊥) → isNameByte b ≡ isLabelByte b
 unfolding isNameByte
 name-label b n = ap (λ (t : Bool). isLabelByte b && not t) (ne-eqb b 61 n) ∙ and-yes (isLabelByte b)
-
--- ---- parts
-
-part-cons : (s : List ℕ) (i r : ℕ) → i < r → r ≤ length s → part i r s ≡ getD s i 0 ∷ part (i + 1) r s
-part-cons s i r h l =
-    let n : r - i ≡ suc (r - (i + 1)) = omega arith in
-    let m : i < length s = omega arith in
-    rw (n, drop-cons s i 0 m, add-one i)
-
-part-rest : (s : List ℕ) (i r : ℕ) → i ≤ r → drop i s ≡ part i r s ++ drop r s
-part-rest s i r h =
-    let n : i + (r - i) ≡ r = omega arith in
-    let q : drop (r - i) (drop i s) ≡ drop r s = drop-drop (r - i) i s ∙ ap (λ (j : ℕ). drop j s) n in
-    sym (take-append-drop (r - i) (drop i s)) ∙ ap (λ (l : List ℕ). part i r s ++ l) q
-
-pub part-length : (s : List ℕ) (i r : ℕ) → i ≤ r → r ≤ length s → length (part i r s) ≡ r - i
-part-length s i r h l = length-take-le (r - i) (drop i s) (simp length-drop (omega arith))
 
 -- ---- keywords
 
@@ -88,7 +72,7 @@ module _ (s : List ℕ) (b e : ℕ) (k : List ℕ) (h : b ≤ e) (l : e ≤ leng
     unfolding sameBytes
     left-cons m =
         let n : b + (i + 1) ≡ b + i + 1 = omega arith in
-        rw (n, part-cons s (b + i) e (omega arith) l, drop-cons k i 0 m, add-one i)
+        rw (n, part-first s (b + i) e (omega arith) (omega arith), drop-cons k i 0 m, add-one i)
 
     pub word-more : i < length k → capital (getD s (b + i) 0) ≡ getD k i 0 → Alike s b e k (i + 1)
     word-more m q = record { within = omega arith; same = a .same ∙ left-cons m ∙ rw (eq-eqb _ _ q) }
@@ -138,14 +122,13 @@ module _ (p : ℕ → Bool) (n : p 91 ≡ false) (z : p 32 ≡ false) where
   every-each [] f = refl
   every-each (b ∷ w) f = and-true (f 0 (omega arith)) (every-each w (λ j h. f (suc j) (omega arith)))
 
-  comment-stops : (l : List ℕ) → begins p (behindComment l) ≡ false
-  unfolding behindComment begins
-  comment-stops [] = n
-  comment-stops (b ∷ l) = go (eqb b 93) (comment-stops l)
-    where
-      go : (t : Bool) → begins p (behindComment l) ≡ false → begins p (if t then 32 ∷ uncommented l else behindComment l) ≡ false
-      go true f = z
-      go false f = f
+  pub run-stop : (s : List ℕ) (r : ℕ) → (r < length s → p (getD s r 0) ≡ false) → begins p (plainAt s r) ≡ false
+  unfolding begins
+  run-stop s r f =
+      ⊎-elim
+      (λ l. plain-as (λ x. begins p x ≡ false) s r l n (λ t. z) (f l))
+      (λ l. ap (begins p) (plain-none s r l))
+      (less-or-not r (length s))
 
   module _ (s : List ℕ) (i r : ℕ) (w : Run p s i r) where
     pub run-every : every p (part i r s) ≡ true
@@ -159,22 +142,16 @@ module _ (p : ℕ → Bool) (n : p 91 ≡ false) (z : p 32 ≡ false) where
     run-plain = ap uncommented (part-rest s i r (w .past)) ∙ plain-append (part i r s) (drop r s) run-every
 
     module _ (f : r < length s → p (getD s r 0) ≡ false) where
-      pub run-stop : begins p (plainAt s r) ≡ false
-      unfolding begins
-      run-stop = go (less-or-not r (length s)) (equal-or-not (getD s r 0) 91)
-        where
-          go : (r < length s) ⊎ (length s ≤ r) → (getD s r 0 ≡ 91) ⊎ (getD s r 0 ≡ 91 → ⊥) → begins p (plainAt s r) ≡ false
-          go (inr l) b = ap (begins p) (plain-none s r l)
-          go (inl l) (inl b) = ap (begins p) (plain-comment s r l b) ∙ comment-stops (drop (r + 1) s)
-          go (inl l) (inr b) = ap (begins p) (plain-byte s r l b) ∙ f l
+      stops : begins p (plainAt s r) ≡ false
+      stops = run-stop s r f
 
-      pub run-at : runOf p (plainAt s i) ≡ part i r s
-      run-at = ap (runOf p) run-plain ∙ run-of p (part i r s) (plainAt s r) run-every run-stop
+      run-at : runOf p (plainAt s i) ≡ part i r s
+      run-at = ap (runOf p) run-plain ∙ run-of p (part i r s) (plainAt s r) run-every stops
 
-      pub behind-at : behindRun p (plainAt s i) ≡ plainAt s r
-      behind-at = ap (behindRun p) run-plain ∙ behind-of p (part i r s) (plainAt s r) run-every run-stop
+      behind-at : behindRun p (plainAt s i) ≡ plainAt s r
+      behind-at = ap (behindRun p) run-plain ∙ behind-of p (part i r s) (plainAt s r) run-every stops
 
-      pub begun-at : begins p (plainAt s i) ≡ ltb i r
+      begun-at : begins p (plainAt s i) ≡ ltb i r
       unfolding begins
       begun-at = go (less-or-not i r)
         where
@@ -186,21 +163,45 @@ module _ (p : ℕ → Bool) (n : p 91 ≡ false) (z : p 32 ≡ false) where
           go (inr l) =
               let h = w .past in
               let q : i ≡ r = omega arith in
-              ap (λ (j : ℕ). begins p (plainAt s j)) q ∙ run-stop ∙ sym (le-ltb i r l)
+              ap (λ (j : ℕ). begins p (plainAt s j)) q ∙ stops ∙ sym (le-ltb i r l)
 
 -- ---- tokens and names
 
+-- a longest run of label bytes
+module _ (s : List ℕ) (i r : ℕ) (w : RunEnd s i r) where
+  label-run : Run isLabelByte s i r
+  label-run = record { past = w .past; within = w .within; each = w .each }
+
+  pub label-every : every isLabelByte (part i r s) ≡ true
+  unfolding isLabelByte
+  label-every = run-every isLabelByte refl refl s i r label-run
+
+  pub label-plain : plainAt s i ≡ part i r s ++ plainAt s r
+  unfolding isLabelByte
+  label-plain = run-plain isLabelByte refl refl s i r label-run
+
+  pub label-stop : begins isLabelByte (plainAt s r) ≡ false
+  unfolding isLabelByte
+  label-stop = run-stop isLabelByte refl refl s r (w .stop)
+
+  pub label-at : runOf isLabelByte (plainAt s i) ≡ part i r s
+  unfolding isLabelByte
+  label-at = run-at isLabelByte refl refl s i r label-run (w .stop)
+
+  pub label-behind : behindRun isLabelByte (plainAt s i) ≡ plainAt s r
+  unfolding isLabelByte
+  label-behind = behind-at isLabelByte refl refl s i r label-run (w .stop)
+
 pub token-at : (s : List ℕ) (i a e : ℕ) → Skipped s i a → RunEnd s a e → TokenAt s i (record { from = a; end = e })
-unfolding firstToken behindFirst isLabelByte
+unfolding firstToken behindFirst
 token-at s i a e k w =
-    let u : Run isLabelByte s a e = record { past = w .past; within = w .within; each = w .each } in
     record {
       past = k .past;
       order = w .past;
       within = w .within;
       blanks = k .plain;
-      token = ap (runOf isLabelByte) (k .plain) ∙ run-at isLabelByte refl refl s a e u (w .stop);
-      behind = ap (behindRun isLabelByte) (k .plain) ∙ behind-at isLabelByte refl refl s a e u (w .stop);
+      token = ap (runOf isLabelByte) (k .plain) ∙ label-at s a e w;
+      behind = ap (behindRun isLabelByte) (k .plain) ∙ label-behind s a e w;
     }
 
 pub name-at : (s : List ℕ) (i r : ℕ) → Run isNameByte s i r → (r < length s → isNameByte (getD s r 0) ≡ false) → NameEnd s i r

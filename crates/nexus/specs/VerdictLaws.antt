@@ -8,17 +8,16 @@ use mathlib.Core.Bool.{true}
 use mathlib.Core.List.{List}
 use lib.ListN.{take}
 use borrow.Author.Tests.{lt-ltb, le-ltb}
-use Rattle.trees.specs.Plain.{if_then_else_, Answer, refused, gives}
+use Rattle.trees.specs.Plain.{Answer, refused, gives}
 use Rattle.trees.specs.Verdict.{judged}
-use Rattle.trees.specs.Held.{Held, Lane, overrun, holding, mostText, withTree, roomFor, withRoom, verdict, finished, recording, accepted}
+use Rattle.trees.specs.Held.{overrun, holding, mostText, roomFor, withRoom, verdict, finished, recording, accepted}
 use Rattle.theorems.specs.ListLaws.{if-true, if-false}
 use Rattle.answers.specs.declared.Progress.{Progress}
 use Rattle.answers.specs.Answers.{progressGiven}
 use Rattle.answers.specs.AnswerLaws.{gives≢refused}
 use Rattle.head.specs.Head.{openingAt}
-use Rattle.layout.specs.Store.{treesHeldAt, heldAt, heldIn}
+use Rattle.layout.specs.Store.{heldAt, heldIn}
 use Rattle.layout.specs.WholeStore.{wholeAt}
-use Rattle.store.specs.Lent.{Holds}
 use Rattle.store.specs.RecordedAtLaws.{trees-length}
 use Rattle.recording.specs.Recording.{Accepts}
 use Rattle.nexus.specs.Verdicts.{laneWith, Judges}

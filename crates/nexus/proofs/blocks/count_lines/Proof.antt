@@ -5,7 +5,7 @@ use native.Mathlib.Omega.{arith}
 use borrow.Author.Needs.{needs}
 use lib.ListN.{length}
 use Rattle.nexus.specs.Commands.{LineMoves}
-use Rattle.nexus.specs.BlockLaws.{Counting, counting-none, counting-out, counting-wrong, counting-end, counting-more}
+use Rattle.nexus.specs.CountLaws.{Counting, counting-none, counting-out, counting-wrong, counting-end, counting-more}
 use Rattle.nexus.proofs.blocks.count_lines.Statement.{statement}
 use Rattle.nexus.proofs.blocks.count_lines.Tie as tie
 use Rattle.nexus.proofs.blocks.count_lines.Reads as reads

@@ -5,7 +5,7 @@ use native.Mathlib.Omega.{arith}
 use borrow.Author.Needs.{needs}
 use borrow.Author.Tests.{not-true, not-false}
 use Rattle.nexus.specs.Blocks.{NextAs}
-use Rattle.nexus.specs.BlockLaws.{file-none, file-wrong, file-ends, file-trees}
+use Rattle.nexus.specs.FileLaws.{file-none, file-wrong, file-ends, file-trees}
 use Rattle.nexus.proofs.blocks.read_file.Statement.{statement}
 use Rattle.nexus.proofs.blocks.read_file.Tie as tie
 

@@ -1,7 +1,7 @@
 -- `nexus::blocks::read_list` meets its contract. Assumes nothing.
 use borrow.Author.Needs.{needs}
 use borrow.Author.Tests.{not-true, not-false}
-use Rattle.nexus.specs.PairLaws.{no-list, bad-list, good-list}
+use Rattle.nexus.specs.TranslateLaws.{no-list, bad-list, good-list}
 use Rattle.nexus.proofs.blocks.read_list.Statement.{statement}
 use Rattle.nexus.proofs.blocks.read_list.Tie as tie
 

@@ -4,7 +4,7 @@ use mathlib.Core.Bool.{true≢false}
 use native.Mathlib.Omega.{arith}
 use borrow.Author.Needs.{needs}
 use borrow.Author.Tests.{not-true, not-false}
-use Rattle.nexus.specs.BlockLaws.{trees-no-list, trees-no-lines, trees-no-end, trees-found}
+use Rattle.nexus.specs.FileLaws.{trees-no-list, trees-no-lines, trees-no-end, trees-found}
 use Rattle.nexus.proofs.blocks.read_trees.Statement.{statement}
 use Rattle.nexus.proofs.blocks.read_trees.Tie as tie
 

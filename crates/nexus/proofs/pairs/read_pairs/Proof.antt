@@ -4,7 +4,9 @@ use mathlib.Core.Path.{_≡_, ap, _∙_}
 use borrow.Author.Needs.{needs}
 use native.Mathlib.Omega.{arith}
 use lib.ListN.{length}
-use Rattle.nexus.specs.PairLaws.{ReadTo, list-none, list-stray, placed-length, read-none, read-fault, read-many, read-last, read-more}
+use Rattle.nexus.specs.PairLaws.{list-none, list-stray}
+use Rattle.nexus.specs.PlacedLaws.{placed-length}
+use Rattle.nexus.specs.ReadPairsLaws.{ReadTo, read-none, read-fault, read-many, read-last, read-more}
 use Rattle.nexus.proofs.pairs.read_pairs.Statement.{statement}
 use Rattle.nexus.proofs.pairs.read_pairs.Tie as tie
 
