@@ -88,18 +88,18 @@ module _ (s ps : List ℕ) where
         let l : length (keysOf (pairsIn s n ps)) ≤ j = rw keys-length h in
         drop-of-length-le (keysOf (pairsIn s n ps)) l
 
-    -- ---- no key comes twice
+    -- ---- no key comes twice: r says whether the key of pair j comes again
 
     module _ (j : ℕ) (h : j < n) where
-      pub differ-not : inNames (keyIn s ps j) (drop (j + 1) (keysOf (pairsIn s n ps))) ≡ true
+      pub differ-not : (r : Bool) → r ≡ inNames (keyIn s ps j) (drop (j + 1) (keysOf (pairsIn s n ps))) → r ≡ true
           → different (drop j (keysOf (pairsIn s n ps))) ≡ false
       unfolding different
-      differ-not q = ap different (keys-cons j h) ∙ ap (λ b. not b && different (drop (j + 1) (keysOf (pairsIn s n ps)))) q
+      differ-not r e q = ap different (keys-cons j h) ∙ ap (λ b. not b && different (drop (j + 1) (keysOf (pairsIn s n ps)))) (sym e ∙ q)
 
-      pub differ-next : inNames (keyIn s ps j) (drop (j + 1) (keysOf (pairsIn s n ps))) ≡ false
+      pub differ-next : (r : Bool) → r ≡ inNames (keyIn s ps j) (drop (j + 1) (keysOf (pairsIn s n ps))) → r ≡ false
           → different (drop j (keysOf (pairsIn s n ps))) ≡ different (drop (j + 1) (keysOf (pairsIn s n ps)))
       unfolding different
-      differ-next q = ap different (keys-cons j h) ∙ ap (λ b. not b && different (drop (j + 1) (keysOf (pairsIn s n ps)))) q
+      differ-next r e q = ap different (keys-cons j h) ∙ ap (λ b. not b && different (drop (j + 1) (keysOf (pairsIn s n ps)))) (sym e ∙ q)
 
       pub again-here : (w : List ℕ) → sameBytes (keyIn s ps j) w ≡ true → inNames w (drop j (keysOf (pairsIn s n ps))) ≡ true
       unfolding inNames

@@ -1,5 +1,5 @@
 -- `nexus::feed_file` meets its contract: each return is a law. Assumes nothing.
-use mathlib.Core.Path.{refl, sym, ap, subst, _∙_}
+use mathlib.Core.Path.{sym, ap, _∙_}
 use native.Mathlib.Omega.{arith}
 use borrow.Author.Needs.{needs}
 use borrow.Author.Tests.{not-true, not-false}
@@ -7,6 +7,7 @@ use Rattle.trees.specs.Nexus.{Pair}
 use Rattle.trees.specs.Names.{different}
 use Rattle.trees.specs.NexusCall.{keysOf, replaced, handing}
 use Rattle.store.specs.LentLaws.{not-whole}
+use Rattle.opening.specs.GivenLaws.{failed, passed}
 use Rattle.nexus.specs.FedLaws.{nexus-refused, nexus-malformed, nexus-repeats, nexus-short, nexus-done}
 use Rattle.nexus.proofs.feed_file.Statement.{statement}
 use Rattle.nexus.proofs.feed_file.Tie as tie
@@ -21,7 +22,8 @@ same-length c = search needs
 returns : tie.Need-returns
 returns c =
     let back = c .before .before .before .before .before in
-    let a = back .before .args in nexus-refused _ (a .s .now) (a .verdicts .now) _ (not-whole (a .s .now) _ (sym (c .before .is-whole .ensures) ∙ not-true _ (c .if1 .taken)))
+    let a = back .before .args in
+    nexus-refused _ (a .s .now) (a .verdicts .now) _ (not-whole (a .s .now) _ (failed _ _ (c .before .is-whole .ensures) (c .if1 .taken)))
 
 slice-aggregate-read-file : tie.Need-slice-aggregate-read-file
 slice-aggregate-read-file c = search needs
@@ -36,22 +38,32 @@ returns-2 : tie.Need-returns-2
 returns-2 c =
     let back = c .before .before .before .before .before in
     let far = back .before .before .before .before .before in
-    let a = far .before .args in let w = sym (back .before .is-whole .ensures) ∙ not-false _ (c .before .before .before .before .before .if1 .left) in nexus-refused _ (a .s .now) (a .verdicts .now) _ (nexus-malformed (a .s .now) (a .file .now) (a .verdicts .now) w (c .before .before .before .read-file .ensures .bad (not-true _ (c .if2 .taken))))
+    let a = far .before .args in
+    let w = passed _ _ (back .before .is-whole .ensures) (back .if1 .left) in
+    nexus-refused _ (a .s .now) (a .verdicts .now) _ (nexus-malformed (a .s .now) (a .file .now) (a .verdicts .now) w (c .before .before .before .read-file .ensures .bad (not-true _ (c .if2 .taken))))
 
 sub-repeats : tie.Need-sub-repeats
-sub-repeats c = let g = c .before .before .before .read-file .ensures .good (not-false _ (c .if2 .left)) in g .2 .order
+sub-repeats c =
+    let g = c .before .before .before .read-file .ensures .good (not-false _ (c .if2 .left)) in
+    g .2 .order
 
 part-repeats-start : tie.Need-part-repeats-start
-part-repeats-start c = let g = c .before .before .before .read-file .ensures .good (not-false _ (c .if2 .left)) in omega (arith, g .2 .order, g .2 .within)
+part-repeats-start c =
+    let g = c .before .before .before .read-file .ensures .good (not-false _ (c .if2 .left)) in
+    omega (arith, g .2 .order, g .2 .within)
 
 part-repeats-end : tie.Need-part-repeats-end
-part-repeats-end c = let g = c .before .before .before .read-file .ensures .good (not-false _ (c .if2 .left)) in omega (arith, g .2 .order, g .2 .within)
+part-repeats-end c =
+    let g = c .before .before .before .read-file .ensures .good (not-false _ (c .if2 .left)) in
+    omega (arith, g .2 .order, g .2 .within)
 
 slice-aggregate-repeats : tie.Need-slice-aggregate-repeats
 slice-aggregate-repeats c = search needs
 
 repeats-requires : tie.Need-repeats-requires
-repeats-requires c κs = let g = c .before .before .before .before .before .read-file .ensures .good (not-false _ (c .before .before .if2 .left)) in g .2 .placed
+repeats-requires c κs =
+    let g = c .before .before .before .before .before .read-file .ensures .good (not-false _ (c .before .before .if2 .left)) in
+    g .2 .placed
 
 same-length-3 : tie.Need-same-length-3
 same-length-3 c = search needs
@@ -60,7 +72,10 @@ returns-3 : tie.Need-returns-3
 returns-3 c =
     let back = c .before .before .before .before .before in
     let far = back .before .before .before .before .before in
-    let a = far .before .before .before .before .before .args in let w = sym (back .before .before .before .before .before .is-whole .ensures) ∙ not-false _ (back .before .before .before .before .if1 .left) in let g = back .before .before .read-file .ensures .good (not-false _ (c .before .before .before .before .if2 .left)) in nexus-refused _ (a .s .now) (a .verdicts .now) _ (nexus-repeats (a .s .now) (a .file .now) (a .verdicts .now) w (g .0) (g .1) (ap (λ ps. different (keysOf ps)) (g .2 .pairs) ∙ not-true _ (sym (c .before .repeats .ensures) ∙ c .if3 .taken)))
+    let a = far .before .before .before .before .before .args in
+    let w = passed _ _ (far .is-whole .ensures) (back .before .before .before .before .if1 .left) in
+    let g = back .before .before .read-file .ensures .good (not-false _ (c .before .before .before .before .if2 .left)) in
+    nexus-refused _ (a .s .now) (a .verdicts .now) _ (nexus-repeats (a .s .now) (a .file .now) (a .verdicts .now) w (g .0) (g .1) (ap (λ ps. different (keysOf ps)) (g .2 .pairs) ∙ not-true _ (sym (c .before .repeats .ensures) ∙ c .if3 .taken)))
 
 same-length-4 : tie.Need-same-length-4
 same-length-4 c = search needs
@@ -69,22 +84,29 @@ returns-4 : tie.Need-returns-4
 returns-4 c =
     let back = c .before .before .before .before .before in
     let far = back .before .before .before .before .before in
-    let a = far .before .before .before .before .before .before .args in let w = sym (far .before .is-whole .ensures) ∙ not-false _ (back .before .before .before .before .before .if1 .left) in let g = back .before .before .before .read-file .ensures .good (not-false _ (c .before .before .before .before .before .if2 .left)) in nexus-refused _ (a .s .now) (a .verdicts .now) _ (nexus-short (a .s .now) (a .file .now) (a .verdicts .now) w (g .0) (g .1) (ap (λ ps. different (keysOf ps)) (g .2 .pairs) ∙ not-false _ (sym (c .before .before .repeats .ensures) ∙ c .before .if3 .left)) (omega (arith, g .2 .trees, c .if4 .taken)))
+    let first = far .before .before .before .before .before in
+    let a = first .before .args in
+    let w = passed _ _ (far .before .is-whole .ensures) (far .if1 .left) in
+    let g = back .before .before .before .read-file .ensures .good (not-false _ (back .if2 .left)) in
+    nexus-refused _ (a .s .now) (a .verdicts .now) _ (nexus-short (a .s .now) (a .file .now) (a .verdicts .now) w (g .0) (g .1) (ap (λ ps. different (keysOf ps)) (g .2 .pairs) ∙ not-false _ (sym (c .before .before .repeats .ensures) ∙ c .before .if3 .left)) (omega (arith, g .2 .trees, c .if4 .taken)))
 
 sub-feed-trees : tie.Need-sub-feed-trees
 sub-feed-trees c =
     let back = c .before .before .before .before .before in
-    let g = back .before .before .before .before .read-file .ensures .good (not-false _ (back .before .if2 .left)) in g .2 .order
+    let g = back .before .before .before .before .read-file .ensures .good (not-false _ (back .before .if2 .left)) in
+    g .2 .order
 
 part-feed-trees-start : tie.Need-part-feed-trees-start
 part-feed-trees-start c =
     let back = c .before .before .before .before .before in
-    let g = back .before .before .before .before .read-file .ensures .good (not-false _ (back .before .if2 .left)) in omega (arith, g .2 .order, g .2 .within)
+    let g = back .before .before .before .before .read-file .ensures .good (not-false _ (back .before .if2 .left)) in
+    omega (arith, g .2 .order, g .2 .within)
 
 part-feed-trees-end : tie.Need-part-feed-trees-end
 part-feed-trees-end c =
     let back = c .before .before .before .before .before in
-    let g = back .before .before .before .before .read-file .ensures .good (not-false _ (back .before .if2 .left)) in omega (arith, g .2 .order, g .2 .within)
+    let g = back .before .before .before .before .read-file .ensures .good (not-false _ (back .before .if2 .left)) in
+    omega (arith, g .2 .order, g .2 .within)
 
 slice-aggregate-feed-trees : tie.Need-slice-aggregate-feed-trees
 slice-aggregate-feed-trees c = search needs
@@ -93,7 +115,9 @@ feed-trees-requires : tie.Need-feed-trees-requires
 feed-trees-requires c κs =
     let back = c .before .before .before .before .before in
     let far = back .before .before .before .before .before in
-    let w = sym (far .before .before .before .before .before .is-whole .ensures) ∙ not-false _ (far .before .before .before .before .if1 .left) in let g = far .before .before .read-file .ensures .good (not-false _ (back .before .before .before .before .if2 .left)) in (w, (g .2 .there, (record { texts = g .0 .texts; count = g .2 .trees; read = g .2 .lines }, (g .2 .placed, omega (arith, c .before .before .before .before .if4 .left)))))
+    let w = passed _ _ (far .before .before .before .before .before .is-whole .ensures) (far .before .before .before .before .if1 .left) in
+    let g = far .before .before .read-file .ensures .good (not-false _ (back .before .before .before .before .if2 .left)) in
+    (w, (g .2 .there, (record { texts = g .0 .texts; count = g .2 .trees; read = g .2 .lines }, (g .2 .placed, omega (arith, c .before .before .before .before .if4 .left)))))
 
 same-length-5 : tie.Need-same-length-5
 same-length-5 c = search needs
@@ -105,7 +129,12 @@ returns-5 : tie.Need-returns-5
 returns-5 c =
     let back = c .before .before .before .before .before in
     let far = back .before .before .before .before .before in
-    let a = far .before .before .before .before .before .before .before .before .before .before .before .before .before .before .before .args in let w = sym (far .before .before .before .before .before .before .before .before .before .before .is-whole .ensures) ∙ not-false _ (far .before .before .before .before .before .before .before .before .before .if1 .left) in let g = far .before .before .before .before .before .before .before .read-file .ensures .good (not-false _ (far .before .before .before .before .if2 .left)) in nexus-done (a .s .now) (a .file .now) (a .verdicts .now) w (g .0) (g .1) (ap (λ ps. different (keysOf ps)) (g .2 .pairs) ∙ not-false _ (sym (far .before .repeats .ensures) ∙ back .before .before .before .before .before .if3 .left)) _ (sym (g .2 .trees)) (omega (arith, back .before .before .before .before .if4 .left)) _ _ (rw (g .2 .pairs) (c .before .before .before .before .feed-trees .ensures .feeds (g .0 .texts) (g .2 .trees) (g .2 .lines)))
+    let first = far .before .before .before .before .before in
+    let start = first .before .before .before .before .before in
+    let a = start .before .before .before .before .before .args in
+    let w = passed _ _ (start .is-whole .ensures) (first .before .before .before .before .if1 .left) in
+    let g = first .before .before .read-file .ensures .good (not-false _ (far .before .before .before .before .if2 .left)) in
+    nexus-done (a .s .now) (a .file .now) (a .verdicts .now) w (g .0) (g .1) (ap (λ ps. different (keysOf ps)) (g .2 .pairs) ∙ not-false _ (sym (far .before .repeats .ensures) ∙ far .if3 .left)) _ (sym (g .2 .trees)) (omega (arith, back .before .before .before .before .if4 .left)) _ _ (rw (g .2 .pairs) (c .before .before .before .before .feed-trees .ensures .feeds (g .0 .texts) (g .2 .trees) (g .2 .lines)))
 
 pub feed-file-spec : {M : Type 1} → statement M
 feed-file-spec =

@@ -1,6 +1,6 @@
 -- `nexus::blocks::count_lines` meets its contract. The loop's invariant: n lines so far, and the rest decides. Assumes nothing.
 use Prim.Native.Nat.{_-_}
-use mathlib.Core.Path.{refl, sym, subst, _∙_}
+use mathlib.Core.Path.{subst}
 use native.Mathlib.Omega.{arith}
 use borrow.Author.Needs.{needs}
 use lib.ListN.{length}
@@ -52,7 +52,7 @@ add-t14 c = search needs
 returns-2 : tie.Need-returns-2 Inv-loop μ-loop
 returns-2 c =
     let back = c .before .before .before .before .before in
-    record { good = λ l. counting-end _ _ _ _ _ (back .before .loop .inv) (c .before .before .before .before .before .command-end .ensures) (c .before .before .before .before .if1 .left) (subst (LineMoves _) (c .enum-told .given .1) (c .before .before .read-line .ensures)); fault = λ l. absurd (omega (arith, c .before .before .before .before .before .command-end .ensures .within, c .before .before .before .before .if1 .left)) }
+    record { good = λ l. counting-end _ _ _ _ _ (back .before .loop .inv) (back .command-end .ensures) (c .before .before .before .before .if1 .left) (subst (LineMoves _) (c .enum-told .given .1) (c .before .before .read-line .ensures)); fault = λ l. absurd (omega (arith, back .command-end .ensures .within, c .before .before .before .before .if1 .left)) }
 
 enum-told-2 : tie.Need-enum-told-2 Inv-loop μ-loop
 enum-told-2 c = search needs
@@ -63,7 +63,7 @@ add-t16 c = search needs
 returns-3 : tie.Need-returns-3 Inv-loop μ-loop
 returns-3 c =
     let back = c .before .before .before .before .before in
-    record { good = λ l. absurd (omega arith); fault = λ l. counting-wrong _ _ _ _ _ (back .before .loop .inv) (c .before .before .before .before .before .command-end .ensures) (c .before .before .before .before .if1 .left) (subst (LineMoves _) (c .enum-told2 .given .1) (c .before .before .read-line .ensures)) }
+    record { good = λ l. absurd (omega arith); fault = λ l. counting-wrong _ _ _ _ _ (back .before .loop .inv) (back .command-end .ensures) (c .before .before .before .before .if1 .left) (subst (LineMoves _) (c .enum-told2 .given .1) (c .before .before .read-line .ensures)) }
 
 enum-told-3 : tie.Need-enum-told-3 Inv-loop μ-loop
 enum-told-3 c = search needs
@@ -80,7 +80,7 @@ loop-less c = search needs
 loop-again : tie.Need-loop-again Inv-loop μ-loop
 loop-again c =
     let back = c .before .before .before .before .before in
-    counting-more _ _ _ _ _ (back .before .loop .inv) (c .before .before .before .before .before .command-end .ensures) (c .before .before .before .before .if1 .left) _ (subst (LineMoves _) (c .enum-told3 .given .1) (c .before .before .read-line .ensures))
+    counting-more _ _ _ _ _ (back .before .loop .inv) (back .command-end .ensures) (c .before .before .before .before .if1 .left) _ (subst (LineMoves _) (c .enum-told3 .given .1) (c .before .before .read-line .ensures))
 
 pub count-lines-spec : {M : Type 1} → statement M
 count-lines-spec =

@@ -1,5 +1,5 @@
 -- `nexus::blocks::ends_well` meets its contract, by what stands behind the other blocks. Assumes nothing.
-use mathlib.Core.Path.{refl, sym, subst, _∙_}
+use mathlib.Core.Path.{sym, subst}
 use mathlib.Core.Bool.{true≢false}
 use native.Mathlib.Omega.{arith}
 use borrow.Author.Needs.{needs}
@@ -31,7 +31,9 @@ returns-2 : tie.Need-returns-2
 returns-2 c = record { well = λ e. absurd (true≢false (sym e)); not = λ e. ends-wrong _ _ (subst (NextAs _ _) (c .enum-told2 .given .1) (c .before .before .next-block .ensures)) }
 
 returns-3 : tie.Need-returns-3
-returns-3 c = let n = subst (NextAs _ _) (c .before .before .next .given .1) (c .before .before .before .before .next-block .ensures) in record { well = λ e. ends-blank _ _ _ _ n (c .skip .ensures) (eqb-true _ _ e); not = λ e. ends-else _ _ _ _ n (c .skip .ensures) (eqb-false _ _ e) }
+returns-3 c =
+    let n = subst (NextAs _ _) (c .before .before .next .given .1) (c .before .before .before .before .next-block .ensures) in
+    record { well = λ e. ends-blank _ _ _ _ n (c .skip .ensures) (eqb-true _ _ e); not = λ e. ends-else _ _ _ _ n (c .skip .ensures) (eqb-false _ _ e) }
 
 pub ends-well-spec : {M : Type 1} → statement M
 ends-well-spec =

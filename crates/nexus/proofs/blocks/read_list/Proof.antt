@@ -7,25 +7,30 @@ use Rattle.nexus.proofs.blocks.read_list.Tie as tie
 
 returns : tie.Need-returns
 returns c =
-    let end = c .before .before .before .before .before .before .command-end in
+    let back = c .before .before .before .before .before in
+    let end = back .before .command-end in
     let w = c .before .before .before .before .first-token in
-    (no-list _ _ _ (end .ensures) _ (w .ensures) _ (c .before .is-word .ensures) (c .before .before .before .before .before .before .before .before .before .pre .0) (not-true _ (c .if1 .taken)) _, search needs)
+    (no-list _ _ _ (end .ensures) _ (w .ensures) _ (c .before .is-word .ensures) (back .before .before .before .before .pre .0) (not-true _ (c .if1 .taken)) _, search needs)
 
 returns-2 : tie.Need-returns-2
 returns-2 c =
-    let end = c .before .before .before .before .before .before .before .before .before .before .before .before .command-end in
-    let w = c .before .before .before .before .before .before .before .before .before .before .first-token in
-    let is = not-false _ (c .before .before .before .before .before .before .if1 .left) in
+    let back = c .before .before .before .before .before in
+    let far = back .before .before .before .before .before in
+    let end = far .before .before .command-end in
+    let w = far .first-token in
+    let is = not-false _ (back .before .if1 .left) in
     let pairs = c .before .before .before .read-pairs .ensures in
-    (bad-list _ _ _ (end .ensures) _ (w .ensures) _ (c .before .before .before .before .before .before .before .is-word .ensures) is _ _ (pairs .0) (c .if2 .taken), pairs .1)
+    (bad-list _ _ _ (end .ensures) _ (w .ensures) _ (back .before .before .is-word .ensures) is _ _ (pairs .0) (c .if2 .taken), pairs .1)
 
 returns-3 : tie.Need-returns-3
 returns-3 c =
-    let end = c .before .before .before .before .before .before .before .before .before .before .before .before .command-end in
-    let w = c .before .before .before .before .before .before .before .before .before .before .first-token in
-    let is = not-false _ (c .before .before .before .before .before .before .if1 .left) in
+    let back = c .before .before .before .before .before in
+    let far = back .before .before .before .before .before in
+    let end = far .before .before .command-end in
+    let w = far .first-token in
+    let is = not-false _ (back .before .if1 .left) in
     let pairs = c .before .before .before .read-pairs .ensures in
-    (good-list _ _ _ (end .ensures) _ (w .ensures) _ (c .before .before .before .before .before .before .before .is-word .ensures) is _ _ (pairs .0) (c .if2 .left), pairs .1)
+    (good-list _ _ _ (end .ensures) _ (w .ensures) _ (back .before .before .is-word .ensures) is _ _ (pairs .0) (c .if2 .left), pairs .1)
 
 pub read-list-spec : {M : Type 1} → statement M
 read-list-spec =

@@ -1,5 +1,5 @@
 -- `nexus::blocks::read_trees` meets its contract: the list, the lines, and what stands behind them. Assumes nothing.
-use mathlib.Core.Path.{refl, sym, subst, _∙_}
+use mathlib.Core.Path.{refl, sym, _∙_}
 use mathlib.Core.Bool.{true≢false}
 use native.Mathlib.Omega.{arith}
 use borrow.Author.Needs.{needs}
@@ -46,7 +46,7 @@ same-length-3 c = search needs
 returns-3 : tie.Need-returns-3
 returns-3 c =
     let back = c .before .before .before .before .before in
-    record { good = λ h. absurd (true≢false (sym h ∙ c .malformed3 .ensures)); bad = λ h. trees-no-end _ _ _ _ (back .before .before .before .before .before .read-list .ensures .0) (back .before .if1 .left) _ (c .before .before .before .before .before .count-lines .ensures) (c .before .before .before .if2 .left) (c .before .before .ends-well .ensures .not (not-true _ (c .before .if3 .taken))) }
+    record { good = λ h. absurd (true≢false (sym h ∙ c .malformed3 .ensures)); bad = λ h. trees-no-end _ _ _ _ (back .before .before .before .before .before .read-list .ensures .0) (back .before .if1 .left) _ (back .count-lines .ensures) (c .before .before .before .if2 .left) (c .before .before .ends-well .ensures .not (not-true _ (c .before .if3 .taken))) }
 
 same-length-4 : tie.Need-same-length-4
 same-length-4 c = search needs
@@ -54,7 +54,7 @@ same-length-4 c = search needs
 returns-4 : tie.Need-returns-4
 returns-4 c =
     let back = c .before .before .before .before .before in
-    record { good = λ h. trees-found _ _ _ _ (back .before .before .before .before .read-list .ensures .0) (c .before .before .before .before .before .if1 .left) _ (c .before .before .before .before .count-lines .ensures) (c .before .before .if2 .left) (c .before .ends-well .ensures .well (not-false _ (c .if3 .left))) _ refl; bad = λ h. absurd (true≢false h) }
+    record { good = λ h. trees-found _ _ _ _ (back .before .before .before .before .read-list .ensures .0) (back .if1 .left) _ (c .before .before .before .before .count-lines .ensures) (c .before .before .if2 .left) (c .before .ends-well .ensures .well (not-false _ (c .if3 .left))) _ refl; bad = λ h. absurd (true≢false h) }
 
 pub read-trees-spec : {M : Type 1} → statement M
 read-trees-spec =

@@ -28,17 +28,19 @@ is-key-requires c κs =
 
 returns : tie.Need-returns Inv-loop μ-loop
 returns c =
+    let back = c .before .before .before .before .before in
     let l = c .before .before .before .loop in
     let k = c .before .before .before .before .key-at .ensures in
-    let a = c .before .before .before .before .before .before .before .args in
+    let a = back .before .before .args in
     let q = keys-compared (a .list .now) (a .places .now) (a .i) (l .j) _ _ _ _ (k .0) (k .1) (c .before .is-key .ensures) (c .if1 .taken) in
     sym (l .inv ∙ again-here _ _ _ _ (c .before .before .loop-test .taken) _ q)
 
 loop-again : tie.Need-loop-again Inv-loop μ-loop
 loop-again c =
+    let back = c .before .before .before .before .before in
     let l = c .before .before .before .loop in
     let k = c .before .before .before .before .key-at .ensures in
-    let a = c .before .before .before .before .before .before .before .args in
+    let a = back .before .before .args in
     let q = keys-compared (a .list .now) (a .places .now) (a .i) (l .j) _ _ _ _ (k .0) (k .1) (c .before .is-key .ensures) (c .if1 .left) in
     l .inv ∙ again-next _ _ _ _ (c .before .before .loop-test .taken) _ q
 

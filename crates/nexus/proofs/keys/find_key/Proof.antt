@@ -43,7 +43,8 @@ loop-holds c =
 
 is-key-requires : tie.Need-is-key-requires Inv-loop μ-loop
 is-key-requires c κs =
-    let x = c .before .before .before .before .before .before .before in
+    let back = c .before .before .before .before .before in
+    let x = back .before .before in
     let z = c .loop-test .taken in
     let v = c .before .loop .inv .0 in
     let p = x .pre .0 in
@@ -51,7 +52,8 @@ is-key-requires c κs =
 
 returns : tie.Need-returns Inv-loop μ-loop
 returns c =
-    let a = c .before .before .before .before .before .before .before .before .before .args in
+    let back = c .before .before .before .before .before in
+    let a = back .before .before .before .before .args in
     let l = c .before .before .before .loop in
     let z = c .before .before .loop-test .taken in
     let w = part (a .b) (a .e) (a .text .now) in
@@ -60,12 +62,14 @@ returns c =
 
 few-links : tie.Need-element-copy-out-number-2 Inv-loop μ-loop
 few-links c =
-    let p = c .before .before .before .before .before .before .before .before .before .pre .0 in
+    let back = c .before .before .before .before .before in
+    let p = back .before .before .before .before .pre .0 in
     omega (arith, p .few, c .before .before .before .loop .inv .0)
 
 loop-less : tie.Need-loop-less Inv-loop μ-loop
 loop-less c =
-    let x = c .before .before .before .before .before .before .before .before .before .before in
+    let back = c .before .before .before .before .before in
+    let x = back .before .before .before .before .before in
     let a = x .args in
     let l = c .before .before .before .before .loop in
     let n = keys-length (a .list .now) (a .places .now) (a .n) in
@@ -74,7 +78,8 @@ loop-less c =
 
 loop-again : tie.Need-loop-again Inv-loop μ-loop
 loop-again c =
-    let x = c .before .before .before .before .before .before .before .before .before .before in
+    let back = c .before .before .before .before .before in
+    let x = back .before .before .before .before .before in
     let a = x .args in
     let l = c .before .before .before .before .loop in
     let z = c .before .before .before .loop-test .taken in

@@ -27,13 +27,15 @@ loop-holds c =
 
 key-of-requires : tie.Need-key-of-requires Inv-loop μ-loop
 key-of-requires c κs =
-    let p = c .before .before .before .before .before .before .before .pre in
+    let back = c .before .before .before .before .before in
+    let p = back .before .before .pre in
     let h = p .keys (c .before .before .loop .i - 1) (omega arith) in
     (omega arith, omega arith)
 
 loop-again : tie.Need-loop-again Inv-loop μ-loop
 loop-again c =
-    let x = c .before .before .before .before .before .before .before .before .before in
+    let back = c .before .before .before .before .before in
+    let x = back .before .before .before .before in
     let s = x .args .list .now in
     let ps = x .args .places .now in
     let l = c .before .before .before .before .loop in
@@ -57,7 +59,9 @@ returns c =
     index-all _ _ _ (rw z at (c .before .loop .inv .3))
 
 few-links : tie.Need-element-write-links Inv-loop μ-loop
-few-links c = omega (arith, c .before .before .before .before .before .before .before .before .before .pre .few)
+few-links c =
+    let back = c .before .before .before .before .before in
+    omega (arith, back .before .before .before .before .pre .few)
 
 pub index-keys-spec : {M : Type 1} → statement M
 index-keys-spec =
@@ -72,7 +76,7 @@ index-keys-spec =
     (λ c. omega arith)
     few-links
     (λ c. omega arith)
-    (λ c. omega (arith, c .before .before .before .before .before .before .before .before .before .pre .few))
+    (λ c. let back = c .before .before .before .before .before in omega (arith, back .before .before .before .before .pre .few))
     (λ c. omega arith)
     (λ c. omega arith)
     loop-again

@@ -14,7 +14,8 @@ returns c =
 
 returns-2 : tie.Need-returns-2
 returns-2 c =
-    let a = c .before .before .before .before .before .before .args in
+    let back = c .before .before .before .before .before in
+    let a = back .before .args in
     let k = c .before .before .key-at .ensures in
     c .same-runs .ensures ∙ key-same (a .list .now) (a .places .now) (a .i) _ _ (k .0) (k .1) (omega arith) (a .text .now) (a .b) (a .e) (omega arith)
 

@@ -20,12 +20,12 @@ abbrev μ-loop : tie.MeasureT-loop
 returns : tie.Need-returns Inv-loop μ-loop
 returns c =
     let l = c .before .before .before .loop in
-    sym (ap not (l .inv ∙ differ-not _ _ _ _ (c .before .before .loop-test .taken) (sym (c .before .comes-again .ensures) ∙ c .if1 .taken)))
+    sym (ap not (l .inv ∙ differ-not _ _ _ _ (c .before .before .loop-test .taken) _ (c .before .comes-again .ensures) (c .if1 .taken)))
 
 loop-again : tie.Need-loop-again Inv-loop μ-loop
 loop-again c =
     let l = c .before .before .before .loop in
-    l .inv ∙ differ-next _ _ _ _ (c .before .before .loop-test .taken) (sym (c .before .comes-again .ensures) ∙ c .if1 .left)
+    l .inv ∙ differ-next _ _ _ _ (c .before .before .loop-test .taken) _ (c .before .comes-again .ensures) (c .if1 .left)
 
 returns-2 : tie.Need-returns-2 Inv-loop μ-loop
 returns-2 c =

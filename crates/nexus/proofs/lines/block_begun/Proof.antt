@@ -1,31 +1,41 @@
 -- `nexus::lines::block_begun` meets its contract. Assumes nothing.
 use borrow.Author.Needs.{needs}
-use borrow.Author.Tests.{not-true, not-false}
 use mathlib.Core.Path.{sym, _∙_}
 use Rattle.trees.specs.Plain.{bytes}
+use Rattle.opening.specs.GivenLaws.{failed, passed}
 use Rattle.nexus.specs.LineLaws.{not-begin, no-name, more-behind, trees-begun, other-begun}
 use Rattle.nexus.proofs.lines.block_begun.Statement.{statement}
 use Rattle.nexus.proofs.lines.block_begun.Tie as tie
 
 returns : tie.Need-returns
 unfolding bytes
-returns c = not-begin _ _ (c .before .before .before .first-token .ensures) (sym (c .before .is-word .ensures) ∙ not-true _ (c .if1 .taken))
+returns c = not-begin _ _ (c .before .before .before .first-token .ensures) (failed _ _ (c .before .is-word .ensures) (c .if1 .taken))
 
 returns-2 : tie.Need-returns-2
 unfolding bytes
-returns-2 c = no-name _ _ (c .before .before .before .before .before .before .first-token .ensures) _ (c .before .before .first-token2 .ensures) (sym (c .before .before .before .before .is-word .ensures) ∙ not-false _ (c .before .before .before .if1 .left)) (c .if2 .taken)
+returns-2 c =
+    let back = c .before .before .before .before .before in
+    no-name _ _ (back .before .first-token .ensures) _ (c .before .before .first-token2 .ensures) (passed _ _ (c .before .before .before .before .is-word .ensures) (c .before .before .before .if1 .left)) (c .if2 .taken)
 
 returns-3 : tie.Need-returns-3
 unfolding bytes
-returns-3 c = more-behind _ _ (c .before .before .before .before .before .before .before .before .first-token .ensures) _ (c .before .before .before .before .first-token2 .ensures) (sym (c .before .before .before .before .before .before .is-word .ensures) ∙ not-false _ (c .before .before .before .before .before .if1 .left)) (c .before .before .if2 .left) _ (c .before .skip .ensures) (c .if3 .taken)
+returns-3 c =
+    let back = c .before .before .before .before .before in
+    more-behind _ _ (back .before .before .before .first-token .ensures) _ (c .before .before .before .before .first-token2 .ensures) (passed _ _ (back .before .is-word .ensures) (back .if1 .left)) (c .before .before .if2 .left) _ (c .before .skip .ensures) (c .if3 .taken)
 
 returns-4 : tie.Need-returns-4
 unfolding bytes
-returns-4 c = trees-begun _ _ (c .before .before .before .before .before .before .before .before .before .before .before .first-token .ensures) _ (c .before .before .before .before .before .before .before .first-token2 .ensures) (sym (c .before .before .before .before .before .before .before .before .before .is-word .ensures) ∙ not-false _ (c .before .before .before .before .before .before .before .before .if1 .left)) (c .before .before .before .before .before .if2 .left) _ (c .before .before .before .before .skip .ensures) (c .before .before .before .if3 .left) (sym (c .before .is-word2 .ensures) ∙ c .if4 .taken)
+returns-4 c =
+    let back = c .before .before .before .before .before in
+    let far = back .before .before .before .before .before in
+    trees-begun _ _ (far .before .first-token .ensures) _ (back .before .before .first-token2 .ensures) (passed _ _ (back .before .before .before .before .is-word .ensures) (back .before .before .before .if1 .left)) (back .if2 .left) _ (c .before .before .before .before .skip .ensures) (c .before .before .before .if3 .left) (sym (c .before .is-word2 .ensures) ∙ c .if4 .taken)
 
 returns-5 : tie.Need-returns-5
 unfolding bytes
-returns-5 c = other-begun _ _ (c .before .before .before .before .before .before .before .before .before .before .before .first-token .ensures) _ (c .before .before .before .before .before .before .before .first-token2 .ensures) (sym (c .before .before .before .before .before .before .before .before .before .is-word .ensures) ∙ not-false _ (c .before .before .before .before .before .before .before .before .if1 .left)) (c .before .before .before .before .before .if2 .left) _ (c .before .before .before .before .skip .ensures) (c .before .before .before .if3 .left) (sym (c .before .is-word2 .ensures) ∙ c .if4 .left)
+returns-5 c =
+    let back = c .before .before .before .before .before in
+    let far = back .before .before .before .before .before in
+    other-begun _ _ (far .before .first-token .ensures) _ (back .before .before .first-token2 .ensures) (passed _ _ (back .before .before .before .before .is-word .ensures) (back .before .before .before .if1 .left)) (back .if2 .left) _ (c .before .before .before .before .skip .ensures) (c .before .before .before .if3 .left) (sym (c .before .is-word2 .ensures) ∙ c .if4 .left)
 
 pub block-begun-spec : {M : Type 1} → statement M
 block-begun-spec =

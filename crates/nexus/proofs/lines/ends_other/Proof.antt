@@ -22,7 +22,9 @@ loop-holds c = passed-first _ _ (c .skip .ensures)
 
 returns : tie.Need-returns Inv-loop μ-loop
 unfolding bytes
-returns c = sym (end-here _ _ (c .before .before .before .before .before .before .before .loop .inv) _ (c .before .before .before .before .before .token-end .ensures) (sym (c .before .before .before .is-word .ensures) ∙ c .before .before .if1 .taken) _ (c .before .skip2 .ensures) (c .if2 .taken))
+returns c =
+    let back = c .before .before .before .before .before in
+    sym (end-here _ _ (back .before .before .loop .inv) _ (back .token-end .ensures) (sym (c .before .before .before .is-word .ensures) ∙ c .before .before .if1 .taken) _ (c .before .skip2 .ensures) (c .if2 .taken))
 
 past-word-requires : tie.Need-past-word-requires Inv-loop μ-loop
 past-word-requires c κs = word-at _ _ (c .before .before .before .before .before .loop .inv) _ (c .before .before .before .token-end .ensures) (search needs)
@@ -36,10 +38,11 @@ loop-less c = omega (arith, c .before .past-word .ensures .past, c .skip3 .ensur
 loop-again : tie.Need-loop-again Inv-loop μ-loop
 unfolding bytes
 loop-again c =
-    passed-more _ _ (c .before .before .before .before .before .before .before .loop .inv) _ _
+    let back = c .before .before .before .before .before in
+    passed-more _ _ (back .before .before .loop .inv) _ _
     (⊎-elim
-    (λ w. not-last _ _ (c .before .before .before .before .before .before .before .loop .inv) _ (c .before .before .before .before .before .token-end .ensures) (sym (c .before .before .before .is-word .ensures) ∙ w .0 .taken) _ (w .1 .ensures) (w .2 .left))
-    (λ w. not-word _ _ (c .before .before .before .before .before .before .before .loop .inv) _ (c .before .before .before .before .before .token-end .ensures) (sym (c .before .before .before .is-word .ensures) ∙ w .left))
+    (λ w. not-last _ _ (back .before .before .loop .inv) _ (back .token-end .ensures) (sym (c .before .before .before .is-word .ensures) ∙ w .0 .taken) _ (w .1 .ensures) (w .2 .left))
+    (λ w. not-word _ _ (back .before .before .loop .inv) _ (back .token-end .ensures) (sym (c .before .before .before .is-word .ensures) ∙ w .left))
     (c .before .before .if1 .came))
     (c .before .past-word .ensures) (c .skip3 .ensures)
 

@@ -2,10 +2,9 @@
 use Prim.Native.Nat.{_-_}
 use native.Mathlib.Omega.{arith}
 use borrow.Author.Needs.{needs}
-use borrow.Author.Tests.{not-true, not-false}
-use mathlib.Core.Path.{sym, _∙_}
 use lib.ListN.{length}
 use Rattle.trees.specs.Nexus.{isNameByte}
+use Rattle.opening.specs.GivenLaws.{failed, passed}
 use Rattle.nexus.specs.TokenLaws.{Run, run-none, run-more, name-at}
 use Rattle.nexus.proofs.tokens.name_end.Statement.{statement}
 use Rattle.nexus.proofs.tokens.name_end.Tie as tie
@@ -20,10 +19,10 @@ loop-holds : tie.Need-loop-holds Inv-loop μ-loop
 loop-holds c = run-none _ _ _ (search needs)
 
 returns : tie.Need-returns Inv-loop μ-loop
-returns c = name-at _ _ _ (c .before .before .before .before .loop .inv) (λ h. sym (c .before .is-name-byte .ensures) ∙ not-true _ (c .if1 .taken))
+returns c = name-at _ _ _ (c .before .before .before .before .loop .inv) (λ h. failed _ _ (c .before .is-name-byte .ensures) (c .if1 .taken))
 
 loop-again : tie.Need-loop-again Inv-loop μ-loop
-loop-again c = run-more (c .before .before .before .before .loop .inv) (search needs) (sym (c .before .is-name-byte .ensures) ∙ not-false _ (c .if1 .left))
+loop-again c = run-more (c .before .before .before .before .loop .inv) (search needs) (passed _ _ (c .before .is-name-byte .ensures) (c .if1 .left))
 
 returns-2 : tie.Need-returns-2 Inv-loop μ-loop
 returns-2 c = name-at _ _ _ (c .before .loop .inv) (λ h. absurd (omega arith))

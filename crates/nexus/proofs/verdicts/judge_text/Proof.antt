@@ -1,5 +1,5 @@
 -- `nexus::verdicts::judge_text` meets its contract: 6, the text's own refusal, or the tree if there is room. Assumes nothing.
-use mathlib.Core.Path.{refl, sym, subst, _∙_}
+use mathlib.Core.Path.{refl, sym}
 use mathlib.Core.Bool.{true≢false}
 use native.Mathlib.Omega.{arith}
 use borrow.Author.Needs.{needs}
@@ -26,7 +26,9 @@ slice-aggregate-judge-2 c = search needs
 judge-requires : tie.Need-judge-requires
 judge-requires c κs =
     let back = c .before .before .before .before .before in
-    let d = back .before in let w = whole-at-facts _ (d .pre .0) .head in (record { reach = w .head-there; good = w .opening-good; indexed = d .pre .1 .0 }, (omega (arith, length-take (d .args .n) (d .args .text .now), c .before .before .before .if1 .left), omega arith))
+    let d = back .before in
+    let w = whole-at-facts _ (d .pre .0) .head in
+    (record { reach = w .head-there; good = w .opening-good; indexed = d .pre .1 .0 }, (omega (arith, length-take (d .args .n) (d .args .text .now), c .before .before .before .if1 .left), omega arith))
 
 enum-known-judged : tie.Need-enum-known-judged
 enum-known-judged c = search needs
@@ -41,7 +43,9 @@ accept-requires : tie.Need-accept-requires
 accept-requires c κs =
     let back = c .before .before .before .before .before in
     let far = back .before .before .before .before .before in
-    let d = far .before .before .before in let j = judged-gives _ _ _ _ _ (back .before .judge .ensures) _ (c .before .before .before .judged2 .given .1) in (d .pre .0, splits-of _ _ _ (j .0) _ _ _ (d .pre .0) refl (j .1) (j .2) (j .3))
+    let d = far .before .before .before in
+    let j = judged-gives _ _ _ _ _ (back .before .judge .ensures) _ (c .before .before .before .judged2 .given .1) in
+    (d .pre .0, splits-of _ _ _ (j .0) _ _ _ (d .pre .0) refl (j .1) (j .2) (j .3))
 
 same-length : tie.Need-same-length
 same-length c = search needs
@@ -50,7 +54,9 @@ returns-2 : tie.Need-returns-2
 returns-2 c =
     let back = c .before .before .before .before .before in
     let far = back .before .before .before .before .before in
-    let d = far .before in let j = judged-refused _ _ _ _ _ (c .before .before .before .before .judge .ensures) _ (c .before .judged .given .1) in unfold progressGiven in judges-refused _ _ _ (d .pre .0) _ _ (text-refused _ _ _ (back .before .before .before .if1 .left) _ j) refl
+    let d = far .before in
+    let j = judged-refused _ _ _ _ _ (c .before .before .before .before .judge .ensures) _ (c .before .judged .given .1) in
+    unfold progressGiven in judges-refused _ _ _ (d .pre .0) _ _ (text-refused _ _ _ (back .before .before .before .if1 .left) _ j) refl
 
 same-length-2 : tie.Need-same-length-2
 same-length-2 c = search needs
@@ -59,7 +65,10 @@ returns-3 : tie.Need-returns-3
 returns-3 c =
     let back = c .before .before .before .before .before in
     let far = back .before .before .before .before .before in
-    let d = far .before .before .before .before .before .before in let j = judged-gives _ _ _ _ _ (back .before .before .before .before .judge .ensures) _ (back .before .judged2 .given .1) in judges-room _ _ _ (d .pre .0) (j .0) _ _ _ (front-tree _ _ _ _ _ (j .2) (j .3)) (text-room _ _ _ (far .before .before .before .if1 .left) _ (j .1)) (c .before .before .accept .ensures)
+    let first = far .before .before .before .before .before in
+    let d = first .before in
+    let j = judged-gives _ _ _ _ _ (back .before .before .before .before .judge .ensures) _ (back .before .judged2 .given .1) in
+    judges-room _ _ _ (d .pre .0) (j .0) _ _ _ (front-tree _ _ _ _ _ (j .2) (j .3)) (text-room _ _ _ (far .before .before .before .if1 .left) _ (j .1)) (c .before .before .accept .ensures)
 
 pub judge-text-spec : {M : Type 1} → statement M
 judge-text-spec =
