@@ -23,6 +23,7 @@ pub mod Keys
 pub mod KeyLaws
 pub mod Texts
 pub mod TextLaws
+pub mod CopyLaws
 pub mod Verdicts
 pub mod VerdictLaws
 pub mod LineTextLaws

@@ -1,11 +1,13 @@
 // A tree's plain text: a blank for each comment, and its keys replaced by names except after `)` or `:`.
 ghost use mathlib.Core.Path.{_≡_};
 ghost use mathlib.Core.List.{[], _∷_};
-ghost use Prim.Native.Nat.{_≤_, _<_};
+ghost use mathlib.Core.Bool.{true};
+ghost use Prim.Native.Nat.{_+_, _≤_, _<_};
 ghost use lib.ListN.{length};
 ghost use Rattle.trees.specs.Held.{mostText};
 ghost use Rattle.trees.specs.Nexus.{uncommented};
 ghost use Rattle.trees.specs.NexusCall.{keysOf, shown, replaced, freeBehind};
+ghost use Rattle.fields.specs.Run.{copied};
 ghost use Rattle.head.specs.Index.{Indexed};
 ghost use Rattle.nexus.specs.Places.{part};
 ghost use Rattle.nexus.specs.Commands.{pairsIn, Placed};
@@ -99,8 +101,37 @@ fn put_run(out: &mut [u8], to: usize, s: &[u8], b: usize, e: usize) -> usize
     if MOST_TEXT - to < n {
         return RAN_OVER;
     }
+    if has_words(n, s.len() - b, MOST_TEXT - to) {
+        put_words(out, to, s, b);
+        return to + n;
+    }
     fields::copy_from(out, to, s, b, n);
     to + n
+}
+
+// Whether n bytes, before so many and with so much room, may be copied in two words: what is copied behind them is written over.
+fn has_words(n: usize, left: usize, room: usize) -> bool
+    ensures { λ r. ⌜ (r ≡ true → (n ≤ 16) × (16 ≤ left) × (16 ≤ room)) ⌝ }
+{
+    if 16 < n {
+        return false;
+    }
+    if left < 16 {
+        return false;
+    }
+    16 <= room
+}
+
+// Puts the 16 bytes of s from b at `to`.
+fn put_words(out: &mut [u8], to: usize, s: &[u8], b: usize)
+    requires { ⌜ to + 16 ≤ length (now out) ⌝ }
+    requires { ⌜ b + 16 ≤ length (now s) ⌝ }
+    ensures { λ r. ⌜ now (out .exit) ≡ copied (now (out .entry)) to (now (s .entry)) b 16 ⌝ }
+{
+    let first = fields::get64(s, b);
+    let second = fields::get64(s, b + 8);
+    fields::put64(out, to, first);
+    fields::put64(out, to + 8, second);
 }
 
 // Puts a byte at `to`, and answers where it ends; 4,097 where there is no room for it.
