@@ -1,4 +1,5 @@
 -- Laws of a command's end. Assumes nothing.
+-- Bytes: 59 `;`, 91 `[`, and 32, a blank.
 --
 --   other x b             the byte b is not x
 --   parts-one, parts-first     parts of bytes without the byte that parts them, and of such bytes before it

@@ -1,4 +1,5 @@
 -- Laws of comments and blanks, a turn of the code at a time. Assumes nothing.
+-- Bytes: 91 `[` and 93 `]` begin and end a comment, which reads as 32, a blank.
 --
 --   Inside s i r          the bytes of s from i up to r lie inside one comment, whatever stands behind them
 --   inside-none, inside-more     no byte, and one byte more

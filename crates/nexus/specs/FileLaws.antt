@@ -1,15 +1,17 @@
 -- Laws of the TREES block and of the whole file. Assumes nothing.
 --
+--   trees-bad, file-bad     an answer that the TREES block, or the file, is malformed
 --   trees-no-list, trees-no-lines, trees-no-end, trees-found     the TREES block: its list, its lines, or what stands behind it is wrong, or nothing
 --   file-begins, file-reads     the first token is #NEXUS, and what is read behind it
 --   file-none, file-wrong, file-ends, file-trees     it is not; then comes a wrong command, no TREES block, or one
 use Prim.Native.Nat.{ℕ, _+_, _≤_, _<_}
-use mathlib.Core.Path.{_≡_, refl, ap, _∙_}
-use mathlib.Core.Bool.{Bool, true, false}
+use mathlib.Core.Path.{_≡_, refl, sym, ap, _∙_}
+use mathlib.Core.Bool.{Bool, true, false, true≢false}
 use mathlib.Core.List.{List, [], _∷_, _++_, map, append-nil}
 use mathlib.Core.Option.{none, some}
 use lib.ListN.{length}
 use Rattle.trees.specs.Plain.{sameBytes, bytes}
+use Rattle.trees.specs.Text.{semicolon}
 use Rattle.trees.specs.Nexus.{uncommented, parts, capital, isWord, Pair, File}
 use Rattle.trees.specs.NexusReading.{firstToken, outside, inTrees, withPairs, closes, reads, readFile}
 use Rattle.theorems.specs.ListLaws.{if-true, if-false}
@@ -23,6 +25,15 @@ use Rattle.nexus.specs.Commands.{pairsIn}
 use Rattle.nexus.specs.Blocks.{NextAs, ListedAs, withTexts, CountedAs, Found, TreesAs, FileAs}
 use Rattle.nexus.specs.BlockLaws.{nothing}
 use Rattle.nexus.specs.CountLaws.{texts-none, texts-all}
+
+-- ---- an answer that the file is malformed
+
+module _ (f : List ℕ) (r : Blocks) (ps : List ℕ) (b : r .good ≡ false) where
+  pub trees-bad : (i : ℕ) → reads (inTrees true) (commandsAt f i) ≡ none → TreesAs f i r ps
+  trees-bad i e = record { good = λ h. absurd (true≢false (sym h ∙ b)); bad = λ _. e }
+
+  pub file-bad : readFile f ≡ none → FileAs f r ps
+  file-bad e = record { good = λ h. absurd (true≢false (sym h ∙ b)); bad = λ _. e }
 
 -- ---- the TREES block
 
@@ -78,7 +89,7 @@ module _ (f : List ℕ) (t : Token) (w : TokenAt f 0 t) where
 
   file-reads : isNexus ≡ true → readFile f ≡ reads (outside false) (commandsAt f (t .end))
   unfolding readFile
-  file-reads e = if-true _ _ (file-begins ∙ e) ∙ ap (λ (x : List ℕ). reads (outside false) (parts 59 x)) (w .behind)
+  file-reads e = if-true _ _ (file-begins ∙ e) ∙ ap (λ (x : List ℕ). reads (outside false) (parts semicolon x)) (w .behind)
 
   module _ (e : isNexus ≡ true) where
     pub file-wrong : NextAs f (t .end) Wrong → readFile f ≡ none

@@ -1,4 +1,5 @@
 -- Laws of commands at places: a block's beginning, the lines of the TREES block and its end. Assumes nothing.
+-- Byte 61 is `=`.
 --
 --   end-not, end-is       a command that does not begin with END; one that does ends the block where nothing stands behind it
 --   not-begin, no-name, more-behind     a command that is wrong outside the blocks: not BEGIN, no name, more than a name

@@ -1,4 +1,5 @@
 -- Laws of another block's end: its last token is END. A command is passed a token or a byte at a time. Assumes nothing.
+-- Bytes: 91 `[`, and the blanks 32, 9, 13 and 10.
 --
 --   last-not, ends-fresh, ends-inside, ends-token, ends-byte, ends-blanks     what stands at the front does not end it, and is passed
 --   word-past, bracket-past, byte-past     a token, the bracket of a comment that never ends, any other byte is passed

@@ -1,4 +1,5 @@
 -- Laws of the first pair of a TRANSLATE list: the two tokens before its first comma. Assumes nothing.
+-- Bytes: 44 `,`, 91 `[`, and 32, a blank.
 --
 --   first-part, behind-first, later-first, blank-part     tokens and blanks at the front of the first part and of the whole
 --   twoBy k n b        the pair of k and n, where both are tokens and the test b passes

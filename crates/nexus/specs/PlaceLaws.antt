@@ -1,4 +1,5 @@
 -- Laws of places in a file, a byte at a time. Assumes nothing.
+-- Bytes: 91 `[` and 93 `]` begin and end a comment, which reads as 32, a blank.
 --
 --   plain-none, plain-byte, plain-comment     what is read from a place on: nothing, a byte, a comment
 --   comment-none                              a comment of no byte

@@ -1,4 +1,5 @@
 -- Laws of writing a tree's plain text. Assumes nothing.
+-- Bytes: 41 `)`, 58 `:`, 91 `[`, and 32, a blank.
 --
 --   free-blank, free-mark, free-other            whether a token behind a byte may be replaced
 --   shown-blank, shown-bracket, shown-byte       the byte that is read at a place: for a comment, for a bracket whose comment never ends, any other

@@ -1,4 +1,5 @@
 -- Laws of tokens and keywords at places in a file. Assumes nothing.
+-- Bytes: 61 `=`, 91 `[`, and 32, a blank.
 --
 --   name-equals, name-label     which bytes stand in a tree's name
 --   Alike s b e k i             the first i bytes of the keyword k are those from b on, in any case: the rest up to e decides

@@ -40,7 +40,8 @@ returns-2 c =
     let far = back .before .before .before .before .before in
     let a = far .before .args in
     let w = passed _ _ (back .before .is-whole .ensures) (back .if1 .left) in
-    nexus-refused _ (a .s .now) (a .verdicts .now) _ (nexus-malformed (a .s .now) (a .file .now) (a .verdicts .now) w (c .before .before .before .read-file .ensures .bad (not-true _ (c .if2 .taken))))
+    nexus-refused _ (a .s .now) (a .verdicts .now) _
+    (nexus-malformed (a .s .now) (a .file .now) (a .verdicts .now) w (c .before .before .before .read-file .ensures .bad (not-true _ (c .if2 .taken))))
 
 sub-repeats : tie.Need-sub-repeats
 sub-repeats c =
@@ -75,7 +76,8 @@ returns-3 c =
     let a = far .before .before .before .before .before .args in
     let w = passed _ _ (far .is-whole .ensures) (back .before .before .before .before .if1 .left) in
     let g = back .before .before .read-file .ensures .good (not-false _ (c .before .before .before .before .if2 .left)) in
-    nexus-refused _ (a .s .now) (a .verdicts .now) _ (nexus-repeats (a .s .now) (a .file .now) (a .verdicts .now) w (g .0) (g .1) (ap (λ ps. different (keysOf ps)) (g .2 .pairs) ∙ not-true _ (sym (c .before .repeats .ensures) ∙ c .if3 .taken)))
+    let d = ap (λ ps. different (keysOf ps)) (g .2 .pairs) ∙ not-true _ (sym (c .before .repeats .ensures) ∙ c .if3 .taken) in
+    nexus-refused _ (a .s .now) (a .verdicts .now) _ (nexus-repeats (a .s .now) (a .file .now) (a .verdicts .now) w (g .0) (g .1) d)
 
 same-length-4 : tie.Need-same-length-4
 same-length-4 c = search needs
@@ -88,7 +90,9 @@ returns-4 c =
     let a = first .before .args in
     let w = passed _ _ (far .before .is-whole .ensures) (far .if1 .left) in
     let g = back .before .before .before .read-file .ensures .good (not-false _ (back .if2 .left)) in
-    nexus-refused _ (a .s .now) (a .verdicts .now) _ (nexus-short (a .s .now) (a .file .now) (a .verdicts .now) w (g .0) (g .1) (ap (λ ps. different (keysOf ps)) (g .2 .pairs) ∙ not-false _ (sym (c .before .before .repeats .ensures) ∙ c .before .if3 .left)) (omega (arith, g .2 .trees, c .if4 .taken)))
+    let d = ap (λ ps. different (keysOf ps)) (g .2 .pairs) ∙ not-false _ (sym (c .before .before .repeats .ensures) ∙ c .before .if3 .left) in
+    nexus-refused _ (a .s .now) (a .verdicts .now) _
+    (nexus-short (a .s .now) (a .file .now) (a .verdicts .now) w (g .0) (g .1) d (omega (arith, g .2 .trees, c .if4 .taken)))
 
 sub-feed-trees : tie.Need-sub-feed-trees
 sub-feed-trees c =
@@ -134,7 +138,10 @@ returns-5 c =
     let a = start .before .before .before .before .before .args in
     let w = passed _ _ (start .is-whole .ensures) (first .before .before .before .before .if1 .left) in
     let g = first .before .before .read-file .ensures .good (not-false _ (far .before .before .before .before .if2 .left)) in
-    nexus-done (a .s .now) (a .file .now) (a .verdicts .now) w (g .0) (g .1) (ap (λ ps. different (keysOf ps)) (g .2 .pairs) ∙ not-false _ (sym (far .before .repeats .ensures) ∙ far .if3 .left)) _ (sym (g .2 .trees)) (omega (arith, back .before .before .before .before .if4 .left)) _ _ (rw (g .2 .pairs) (c .before .before .before .before .feed-trees .ensures .feeds (g .0 .texts) (g .2 .trees) (g .2 .lines)))
+    nexus-done (a .s .now) (a .file .now) (a .verdicts .now) w (g .0) (g .1)
+    (ap (λ ps. different (keysOf ps)) (g .2 .pairs) ∙ not-false _ (sym (far .before .repeats .ensures) ∙ far .if3 .left)) _
+    (sym (g .2 .trees)) (omega (arith, back .before .before .before .before .if4 .left)) _ _
+    (rw (g .2 .pairs) (c .before .before .before .before .feed-trees .ensures .feeds (g .0 .texts) (g .2 .trees) (g .2 .lines)))
 
 pub feed-file-spec : {M : Type 1} → statement M
 feed-file-spec =

@@ -52,7 +52,10 @@ add-t14 c = search needs
 returns-2 : tie.Need-returns-2 Inv-loop μ-loop
 returns-2 c =
     let back = c .before .before .before .before .before in
-    record { good = λ l. counting-end _ _ _ _ _ (back .before .loop .inv) (back .command-end .ensures) (c .before .before .before .before .if1 .left) (subst (LineMoves _) (c .enum-told .given .1) (c .before .before .read-line .ensures)); fault = λ l. absurd (omega (arith, back .command-end .ensures .within, c .before .before .before .before .if1 .left)) }
+    let end = back .command-end .ensures in
+    let more = c .before .before .before .before .if1 .left in
+    let line = subst (LineMoves _) (c .enum-told .given .1) (c .before .before .read-line .ensures) in
+    record { good = λ l. counting-end _ _ _ _ _ (back .before .loop .inv) end more line; fault = λ l. absurd (omega (arith, end .within, more)) }
 
 enum-told-2 : tie.Need-enum-told-2 Inv-loop μ-loop
 enum-told-2 c = search needs
@@ -63,7 +66,11 @@ add-t16 c = search needs
 returns-3 : tie.Need-returns-3 Inv-loop μ-loop
 returns-3 c =
     let back = c .before .before .before .before .before in
-    record { good = λ l. absurd (omega arith); fault = λ l. counting-wrong _ _ _ _ _ (back .before .loop .inv) (back .command-end .ensures) (c .before .before .before .before .if1 .left) (subst (LineMoves _) (c .enum-told2 .given .1) (c .before .before .read-line .ensures)) }
+    let line = subst (LineMoves _) (c .enum-told2 .given .1) (c .before .before .read-line .ensures) in
+    record {
+      good = λ l. absurd (omega arith);
+      fault = λ l. counting-wrong _ _ _ _ _ (back .before .loop .inv) (back .command-end .ensures) (c .before .before .before .before .if1 .left) line;
+    }
 
 enum-told-3 : tie.Need-enum-told-3 Inv-loop μ-loop
 enum-told-3 c = search needs
@@ -80,7 +87,8 @@ loop-less c = search needs
 loop-again : tie.Need-loop-again Inv-loop μ-loop
 loop-again c =
     let back = c .before .before .before .before .before in
-    counting-more _ _ _ _ _ (back .before .loop .inv) (back .command-end .ensures) (c .before .before .before .before .if1 .left) _ (subst (LineMoves _) (c .enum-told3 .given .1) (c .before .before .read-line .ensures))
+    counting-more _ _ _ _ _ (back .before .loop .inv) (back .command-end .ensures) (c .before .before .before .before .if1 .left) _
+    (subst (LineMoves _) (c .enum-told3 .given .1) (c .before .before .read-line .ensures))
 
 pub count-lines-spec : {M : Type 1} → statement M
 count-lines-spec =

@@ -50,7 +50,9 @@ add-t11 c = search needs
 returns-2 : tie.Need-returns-2 Inv-loop μ-loop
 returns-2 c =
     let back = c .before .before .before .before .before in
-    outside-trees _ _ _ _ (back .before .before .loop .inv) (back .before .loop-test .taken) (back .command-end .ensures) (c .before .before .before .before .if1 .left) (subst (BegunAs _) (c .enum-told .given .1) (c .before .before .block-begun .ensures))
+    outside-trees _ _ _ _ (back .before .before .loop .inv) (back .before .loop-test .taken) (back .command-end .ensures)
+    (c .before .before .before .before .if1 .left)
+    (subst (BegunAs _) (c .enum-told .given .1) (c .before .before .block-begun .ensures))
 
 enum-told-2 : tie.Need-enum-told-2 Inv-loop μ-loop
 enum-told-2 c = search needs
@@ -58,7 +60,9 @@ enum-told-2 c = search needs
 returns-3 : tie.Need-returns-3 Inv-loop μ-loop
 returns-3 c =
     let back = c .before .before .before .before .before in
-    outside-wrong _ _ _ _ (back .before .before .loop .inv) (back .before .loop-test .taken) (back .command-end .ensures) (c .before .before .before .before .if1 .left) (subst (BegunAs _) (c .enum-told2 .given .1) (c .before .before .block-begun .ensures))
+    outside-wrong _ _ _ _ (back .before .before .loop .inv) (back .before .loop-test .taken) (back .command-end .ensures)
+    (c .before .before .before .before .if1 .left)
+    (subst (BegunAs _) (c .enum-told2 .given .1) (c .before .before .block-begun .ensures))
 
 enum-told-3 : tie.Need-enum-told-3 Inv-loop μ-loop
 enum-told-3 c = search needs
@@ -77,7 +81,9 @@ loop-less c =
 loop-again : tie.Need-loop-again Inv-loop μ-loop
 loop-again c =
     let back = c .before .before .before .before .before in
-    outside-more _ _ _ _ (back .before .before .before .loop .inv) (back .before .before .loop-test .taken) (back .before .command-end .ensures) (back .if1 .left) (subst (BegunAs _) (c .before .enum-told3 .given .1) (c .before .before .before .block-begun .ensures)) _ (c .past-other .ensures)
+    outside-more _ _ _ _ (back .before .before .before .loop .inv) (back .before .before .loop-test .taken)
+    (back .before .command-end .ensures) (back .if1 .left)
+    (subst (BegunAs _) (c .before .enum-told3 .given .1) (c .before .before .before .block-begun .ensures)) _ (c .past-other .ensures)
 
 returns-4 : tie.Need-returns-4 Inv-loop μ-loop
 returns-4 c = outside-never _ _ _ (c .before .loop .inv) (search needs)

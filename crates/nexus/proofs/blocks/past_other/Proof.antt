@@ -42,7 +42,10 @@ add-result-2 : tie.Need-add-result-2 Inv-loop μ-loop
 add-result-2 c = search needs
 
 returns-2 : tie.Need-returns-2 Inv-loop μ-loop
-returns-2 c = beyond-good _ _ _ _ (c .before .before .before .before .before .loop .inv) (c .before .before .before .before .command-end .ensures) (c .before .before .before .if1 .left) (sym (c .before .ends-other .ensures) ∙ c .if2 .taken)
+returns-2 c =
+    beyond-good _ _ _ _ (c .before .before .before .before .before .loop .inv)
+    (c .before .before .before .before .command-end .ensures) (c .before .before .before .if1 .left)
+    (sym (c .before .ends-other .ensures) ∙ c .if2 .taken)
 
 add-at : tie.Need-add-at Inv-loop μ-loop
 add-at c = search needs
@@ -51,7 +54,10 @@ loop-less : tie.Need-loop-less Inv-loop μ-loop
 loop-less c = search needs
 
 loop-again : tie.Need-loop-again Inv-loop μ-loop
-loop-again c = beyond-more _ _ _ _ (c .before .before .before .before .before .loop .inv) (c .before .before .before .before .command-end .ensures) (c .before .before .before .if1 .left) (sym (c .before .ends-other .ensures) ∙ c .if2 .left)
+loop-again c =
+    beyond-more _ _ _ _ (c .before .before .before .before .before .loop .inv)
+    (c .before .before .before .before .command-end .ensures) (c .before .before .before .if1 .left)
+    (sym (c .before .ends-other .ensures) ∙ c .if2 .left)
 
 pub past-other-spec : {M : Type 1} → statement M
 past-other-spec =

@@ -10,7 +10,9 @@ returns : tie.Need-returns
 returns c =
     let a = c .before .before .before .before .before .args in
     let k = c .before .key-at .ensures in
-    sym (key-unlike (a .list .now) (a .places .now) (a .i) _ _ (k .0) (k .1) (omega arith) (a .text .now) (a .b) (a .e) (omega arith) (omega arith) (omega arith) (c .if1 .taken))
+    sym
+    (key-unlike (a .list .now) (a .places .now) (a .i) _ _ (k .0) (k .1) (omega arith) (a .text .now) (a .b) (a .e) (omega arith)
+    (omega arith) (omega arith) (c .if1 .taken))
 
 returns-2 : tie.Need-returns-2
 returns-2 c =

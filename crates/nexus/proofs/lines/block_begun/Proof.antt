@@ -15,27 +15,36 @@ returns-2 : tie.Need-returns-2
 unfolding bytes
 returns-2 c =
     let back = c .before .before .before .before .before in
-    no-name _ _ (back .before .first-token .ensures) _ (c .before .before .first-token2 .ensures) (passed _ _ (c .before .before .before .before .is-word .ensures) (c .before .before .before .if1 .left)) (c .if2 .taken)
+    no-name _ _ (back .before .first-token .ensures) _ (c .before .before .first-token2 .ensures)
+    (passed _ _ (c .before .before .before .before .is-word .ensures) (c .before .before .before .if1 .left)) (c .if2 .taken)
 
 returns-3 : tie.Need-returns-3
 unfolding bytes
 returns-3 c =
     let back = c .before .before .before .before .before in
-    more-behind _ _ (back .before .before .before .first-token .ensures) _ (c .before .before .before .before .first-token2 .ensures) (passed _ _ (back .before .is-word .ensures) (back .if1 .left)) (c .before .before .if2 .left) _ (c .before .skip .ensures) (c .if3 .taken)
+    more-behind _ _ (back .before .before .before .first-token .ensures) _ (c .before .before .before .before .first-token2 .ensures)
+    (passed _ _ (back .before .is-word .ensures) (back .if1 .left)) (c .before .before .if2 .left) _ (c .before .skip .ensures)
+    (c .if3 .taken)
 
 returns-4 : tie.Need-returns-4
 unfolding bytes
 returns-4 c =
     let back = c .before .before .before .before .before in
     let far = back .before .before .before .before .before in
-    trees-begun _ _ (far .before .first-token .ensures) _ (back .before .before .first-token2 .ensures) (passed _ _ (back .before .before .before .before .is-word .ensures) (back .before .before .before .if1 .left)) (back .if2 .left) _ (c .before .before .before .before .skip .ensures) (c .before .before .before .if3 .left) (sym (c .before .is-word2 .ensures) ∙ c .if4 .taken)
+    trees-begun _ _ (far .before .first-token .ensures) _ (back .before .before .first-token2 .ensures)
+    (passed _ _ (back .before .before .before .before .is-word .ensures) (back .before .before .before .if1 .left)) (back .if2 .left) _
+    (c .before .before .before .before .skip .ensures) (c .before .before .before .if3 .left)
+    (sym (c .before .is-word2 .ensures) ∙ c .if4 .taken)
 
 returns-5 : tie.Need-returns-5
 unfolding bytes
 returns-5 c =
     let back = c .before .before .before .before .before in
     let far = back .before .before .before .before .before in
-    other-begun _ _ (far .before .first-token .ensures) _ (back .before .before .first-token2 .ensures) (passed _ _ (back .before .before .before .before .is-word .ensures) (back .before .before .before .if1 .left)) (back .if2 .left) _ (c .before .before .before .before .skip .ensures) (c .before .before .before .if3 .left) (sym (c .before .is-word2 .ensures) ∙ c .if4 .left)
+    other-begun _ _ (far .before .first-token .ensures) _ (back .before .before .first-token2 .ensures)
+    (passed _ _ (back .before .before .before .before .is-word .ensures) (back .before .before .before .if1 .left)) (back .if2 .left) _
+    (c .before .before .before .before .skip .ensures) (c .before .before .before .if3 .left)
+    (sym (c .before .is-word2 .ensures) ∙ c .if4 .left)
 
 pub block-begun-spec : {M : Type 1} → statement M
 block-begun-spec =

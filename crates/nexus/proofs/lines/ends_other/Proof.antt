@@ -24,7 +24,9 @@ returns : tie.Need-returns Inv-loop μ-loop
 unfolding bytes
 returns c =
     let back = c .before .before .before .before .before in
-    sym (end-here _ _ (back .before .before .loop .inv) _ (back .token-end .ensures) (sym (c .before .before .before .is-word .ensures) ∙ c .before .before .if1 .taken) _ (c .before .skip2 .ensures) (c .if2 .taken))
+    sym
+    (end-here _ _ (back .before .before .loop .inv) _ (back .token-end .ensures)
+    (sym (c .before .before .before .is-word .ensures) ∙ c .before .before .if1 .taken) _ (c .before .skip2 .ensures) (c .if2 .taken))
 
 past-word-requires : tie.Need-past-word-requires Inv-loop μ-loop
 past-word-requires c κs = word-at _ _ (c .before .before .before .before .before .loop .inv) _ (c .before .before .before .token-end .ensures) (search needs)

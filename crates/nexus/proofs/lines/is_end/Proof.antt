@@ -13,7 +13,10 @@ returns c = sym (end-not _ _ (c .before .before .before .first-token .ensures) (
 
 returns-2 : tie.Need-returns-2
 unfolding bytes
-returns-2 c = sym (end-is _ _ (c .before .before .before .before .first-token .ensures) _ (passed _ _ (c .before .before .is-word .ensures) (c .before .if1 .left)) (c .skip .ensures))
+returns-2 c =
+    sym
+    (end-is _ _ (c .before .before .before .before .first-token .ensures) _
+    (passed _ _ (c .before .before .is-word .ensures) (c .before .if1 .left)) (c .skip .ensures))
 
 pub is-end-spec : {M : Type 1} → statement M
 is-end-spec =

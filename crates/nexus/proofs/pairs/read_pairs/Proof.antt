@@ -88,7 +88,8 @@ returns-3 c =
     let k = far .before .first-token in
     let v = far .first-token2 in
     let put = back .before .put-pair .ensures in (
-      read-fault _ _ _ _ _ (l .inv .0) _ (list-stray _ _ _ _ (k .ensures) (v .ensures) _ (c .before .before .before .skip .ensures) (search needs) (c .if3 .taken)),
+      read-fault _ _ _ _ _ (l .inv .0) _
+          (list-stray _ _ _ _ (k .ensures) (v .ensures) _ (c .before .before .before .skip .ensures) (search needs) (c .if3 .taken)),
       ap length put ∙ placed-length (l .places) (l .n) (k .result) (v .result) ∙ l .inv .1,
     )
 
@@ -104,7 +105,8 @@ loop-again c =
     let two = back .before .before .before .before .is-none .ensures .both (back .before .before .before .if1 .left) in
     let few : l .n < mostKeys = far .before .before .loop-test .taken in
     let room : 4 * l .n + 4 ≤ length (l .places) = omega (arith, l .inv .1, first .before .pre .1) in (
-      read-more _ _ _ _ _ (l .inv .0) _ _ _ _ few room (k .ensures) (v .ensures) two (c .before .before .before .skip .ensures) put (search needs) (c .if3 .left),
+      read-more _ _ _ _ _ (l .inv .0) _ _ _ _ few room (k .ensures) (v .ensures) two (c .before .before .before .skip .ensures) put
+          (search needs) (c .if3 .left),
       ap length put ∙ placed-length (l .places) (l .n) (k .result) (v .result) ∙ l .inv .1,
     )
 

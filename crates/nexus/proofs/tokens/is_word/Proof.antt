@@ -24,15 +24,21 @@ loop-holds c = word-begun _ _ _ _ (c .before .before .before .pre .0) (c .before
 returns-2 : tie.Need-returns-2 Inv-loop μ-loop
 returns-2 c =
     let back = c .before .before .before .before .before in
-    sym (word-other _ _ _ _ (back .before .before .before .before .pre .0) (back .before .before .before .before .pre .1) (omega arith) _ (back .loop .inv) (search needs) (λ q. c .if2 .taken (c .before .before .capital .ensures ∙ q)))
+    sym
+    (word-other _ _ _ _ (back .before .before .before .before .pre .0) (back .before .before .before .before .pre .1) (omega arith) _
+    (back .loop .inv) (search needs) (λ q. c .if2 .taken (c .before .before .capital .ensures ∙ q)))
 
 loop-again : tie.Need-loop-again Inv-loop μ-loop
 loop-again c =
     let back = c .before .before .before .before .before in
-    word-more _ _ _ _ (back .before .before .before .before .pre .0) (back .before .before .before .before .pre .1) (omega arith) _ (back .loop .inv) (search needs) (sym (c .before .before .capital .ensures) ∙ c .if2 .left)
+    word-more _ _ _ _ (back .before .before .before .before .pre .0) (back .before .before .before .before .pre .1) (omega arith) _
+    (back .loop .inv) (search needs) (sym (c .before .before .capital .ensures) ∙ c .if2 .left)
 
 returns-3 : tie.Need-returns-3 Inv-loop μ-loop
-returns-3 c = sym (word-end _ _ _ _ (c .before .before .before .before .before .pre .0) (c .before .before .before .before .before .pre .1) (omega arith) _ (c .before .loop .inv) (search needs))
+returns-3 c =
+    sym
+    (word-end _ _ _ _ (c .before .before .before .before .before .pre .0) (c .before .before .before .before .before .pre .1)
+    (omega arith) _ (c .before .loop .inv) (search needs))
 
 pub is-word-spec : {M : Type 1} → statement M
 is-word-spec =

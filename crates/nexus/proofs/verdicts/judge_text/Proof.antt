@@ -68,7 +68,8 @@ returns-3 c =
     let first = far .before .before .before .before .before in
     let d = first .before in
     let j = judged-gives _ _ _ _ _ (back .before .before .before .before .judge .ensures) _ (back .before .judged2 .given .1) in
-    judges-room _ _ _ (d .pre .0) (j .0) _ _ _ (front-tree _ _ _ _ _ (j .2) (j .3)) (text-room _ _ _ (far .before .before .before .if1 .left) _ (j .1)) (c .before .before .accept .ensures)
+    judges-room _ _ _ (d .pre .0) (j .0) _ _ _ (front-tree _ _ _ _ _ (j .2) (j .3))
+    (text-room _ _ _ (far .before .before .before .if1 .left) _ (j .1)) (c .before .before .accept .ensures)
 
 pub judge-text-spec : {M : Type 1} → statement M
 judge-text-spec =
