@@ -153,24 +153,24 @@ module _ (s : List ℕ) (i : ℕ) where
       (λ (q : getD s i 0 ≡ 91 → ⊥). ap (begins isLabelByte) (plain-byte s i h q) ∙ e)
       (equal-or-not (getD s i 0) 91)
 
-  plain-stops : (i < length s → isLabelByte (getD s i 0) ≡ false) → begins isLabelByte (plainAt s i) ≡ false
+  pub plain-stops : (i < length s → isLabelByte (getD s i 0) ≡ false) → begins isLabelByte (plainAt s i) ≡ false
   plain-stops f =
       ⊎-elim (λ (h : i < length s). byte-stops h (f h)) (λ (h : length s ≤ i). none-stops h) (less-or-not i (length s))
 
 -- ---- a token of the text
 
 module _ (ps : List Pair) (free : Bool) where
-  label-more : (w : List ℕ) (b : ℕ) (r : List ℕ) → isLabelByte b ≡ true → replacedAfter ps free w (b ∷ r) ≡ replacedAfter ps free (w ++ b ∷ []) r
+  pub label-more : (w : List ℕ) (b : ℕ) (r : List ℕ) → isLabelByte b ≡ true → replacedAfter ps free w (b ∷ r) ≡ replacedAfter ps free (w ++ b ∷ []) r
   unfolding replacedAfter
   label-more w b r e = if-true _ _ e
 
-  label-end : (w : List ℕ) (b : ℕ) (r : List ℕ) → isLabelByte b ≡ false
+  pub label-end : (w : List ℕ) (b : ℕ) (r : List ℕ) → isLabelByte b ≡ false
       → replacedAfter ps free w (b ∷ r) ≡ shown ps free w ++ (b ∷ replacedAfter ps (freeBehind free w b) [] r)
   unfolding replacedAfter
   label-end w b r e = if-false _ _ e
 
   -- behind a token the next may be replaced again, but for `)` and `:` between
-  token-end : (w r : List ℕ) → 0 < length w → begins isLabelByte r ≡ false
+  pub token-end : (w r : List ℕ) → 0 < length w → begins isLabelByte r ≡ false
       → replacedAfter ps free w r ≡ shown ps free w ++ replacedAfter ps true [] r
   unfolding replacedAfter shown begins freeBehind
   token-end [] r h n = absurd (omega arith)
