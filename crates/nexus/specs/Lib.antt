@@ -24,6 +24,7 @@ pub mod KeyLaws
 pub mod Texts
 pub mod TextLaws
 pub mod CopyLaws
+pub mod KeptLaws
 pub mod Verdicts
 pub mod VerdictLaws
 pub mod LineTextLaws

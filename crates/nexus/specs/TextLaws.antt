@@ -137,17 +137,17 @@ module _ (ps : List Pair) (free : Bool) (w : List ℕ) (to r : ℕ) (o p : List 
 -- ---- a token of the text
 
 module _ (ps : List Pair) (free : Bool) where
-  label-more : (w : List ℕ) (b : ℕ) (r : List ℕ) → isLabelByte b ≡ true → replacedAfter ps free w (b ∷ r) ≡ replacedAfter ps free (w ++ b ∷ []) r
+  pub label-more : (w : List ℕ) (b : ℕ) (r : List ℕ) → isLabelByte b ≡ true → replacedAfter ps free w (b ∷ r) ≡ replacedAfter ps free (w ++ b ∷ []) r
   unfolding replacedAfter
   label-more w b r e = if-true _ _ e
 
-  label-end : (w : List ℕ) (b : ℕ) (r : List ℕ) → isLabelByte b ≡ false
+  pub label-end : (w : List ℕ) (b : ℕ) (r : List ℕ) → isLabelByte b ≡ false
       → replacedAfter ps free w (b ∷ r) ≡ shown ps free w ++ (b ∷ replacedAfter ps (freeBehind free w b) [] r)
   unfolding replacedAfter
   label-end w b r e = if-false _ _ e
 
   -- behind a token the next may be replaced again, but for `)` and `:` between
-  token-end : (w r : List ℕ) → 0 < length w → begins isLabelByte r ≡ false
+  pub token-end : (w r : List ℕ) → 0 < length w → begins isLabelByte r ≡ false
       → replacedAfter ps free w r ≡ shown ps free w ++ replacedAfter ps true [] r
   unfolding replacedAfter shown begins freeBehind
   token-end [] r h n = absurd (omega arith)

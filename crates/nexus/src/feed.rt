@@ -3,6 +3,7 @@ ghost use mathlib.Core.Path.{_≡_};
 ghost use mathlib.Core.Bool.{true};
 ghost use Prim.Native.Nat.{_≤_};
 ghost use lib.ListN.{length};
+ghost use Rattle.trees.specs.Held.{mostText};
 ghost use Rattle.trees.specs.Nexus.{uncommented};
 ghost use Rattle.trees.specs.NexusCall.{keysOf, replaced};
 ghost use Rattle.head.specs.Head.{namesAt};
@@ -85,6 +86,7 @@ fn feed_lines(
     requires { ⌜ n ≤ length (now verdicts) ⌝ }
     ensures { λ r. ⌜ FeedsLines (pairsIn (now (list .entry)) pairs (now (places .entry))) (now (f .entry)) from n (now (s .entry)) (now (verdicts .entry)) (now (s .exit)) (now (verdicts .exit)) ⌝ }
 {
+    let mut text = [0u8; MOST_TEXT];
     let mut at = from;
     let mut i = 0;
     while i < n {
@@ -101,6 +103,7 @@ fn feed_lines(
             places,
             firsts,
             nexts,
+            &mut text,
         );
         verdicts[i] = answers::verdict_number(progress);
         at = e + 1;
@@ -108,7 +111,7 @@ fn feed_lines(
     }
 }
 
-// Feeds one tree, by the bytes that stand in the file for it.
+// Feeds one tree, by the bytes that stand in the file for it; its plain text is written into a buffer that every tree uses.
 fn feed_text(
     s: &mut [u8],
     starts: &[u8; KEYS],
@@ -119,16 +122,18 @@ fn feed_text(
     places: &[usize],
     firsts: &[u8; KEYS],
     nexts: &[u8; 64],
+    text: &mut [u8],
 ) -> Progress
     requires { ⌜ wholeAt (now s) ≡ true ⌝ }
     requires { ⌜ Indexed (namesAt (now s)) (now starts) (now links) ⌝ }
     requires { ⌜ Placed (now list) pairs (now places) ⌝ }
     requires { ⌜ Indexed (keysOf (pairsIn (now list) pairs (now places))) (now firsts) (now nexts) ⌝ }
+    requires { ⌜ length (now text) ≡ mostText ⌝ }
     ensures { λ r. ⌜ Hands (now (s .entry)) (replaced (pairsIn (now (list .entry)) pairs (now (places .entry))) (uncommented (now (raw .entry)))) r (now (s .exit)) ⌝ }
+    ensures { λ r. ⌜ length (now (text .exit)) ≡ mostText ⌝ }
 {
-    let mut text = [0u8; MOST_TEXT];
-    let n = plain::write_text(list, pairs, places, firsts, nexts, raw, &mut text);
-    verdicts::judge_text(s, starts, links, &text, n)
+    let n = plain::write_text(list, pairs, places, firsts, nexts, raw, text);
+    verdicts::judge_text(s, starts, links, text, n)
 }
 
 // Where the text of the tree stands whose line begins at `at`.

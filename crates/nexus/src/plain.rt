@@ -11,7 +11,8 @@ ghost use Rattle.fields.specs.Run.{copied};
 ghost use Rattle.head.specs.Index.{Indexed};
 ghost use Rattle.nexus.specs.Places.{part};
 ghost use Rattle.nexus.specs.Commands.{pairsIn, Placed};
-ghost use Rattle.nexus.specs.Texts.{ShownAt, PassedAt, PutAs, TextAs};
+ghost use Rattle.nexus.specs.TokenLaws.{Run};
+ghost use Rattle.nexus.specs.Texts.{ShownAt, PassedAt, PutAs, TextAs, isMark, isKept, isOpening, KeptEnd, KeptAs};
 use crate::comments;
 use crate::keys;
 use head::KEYS;
@@ -38,22 +39,113 @@ pub(crate) fn write_text(
     let mut to = 0;
     let mut free = true;
     while at < raw.len() {
-        let end = text::token_end(raw, at);
-        if at < end {
-            to = put_token(list, n, places, starts, links, raw, at, end, free, out, to);
-            free = true;
-            at = end;
+        let kept = kept_end(raw, at, free);
+        if at < kept {
+            to = put_run(out, to, raw, at, kept);
+            free = !is_mark(raw[kept - 1]);
+            at = kept;
         } else {
-            let b = shown_byte(raw, at);
-            to = put_byte(out, to, b);
-            free = is_free(free, b);
-            at = past_byte(raw, at);
+            let end = text::token_end(raw, at);
+            if at < end {
+                to = put_token(list, n, places, starts, links, raw, at, end, free, out, to);
+                free = true;
+                at = end;
+            } else {
+                let b = shown_byte(raw, at);
+                to = put_byte(out, to, b);
+                free = is_free(free, b);
+                at = past_byte(raw, at);
+            }
         }
         if to == RAN_OVER {
             return to;
         }
     }
     to
+}
+
+// Past the bytes from `from` on that stand in the plain text as they are: what may stand from a mark on, then `(` and commas. Most of
+// a text is in such runs, which are put at once; `from` where there are none.
+fn kept_end(raw: &[u8], from: usize, free: bool) -> usize
+    requires { ⌜ from < length (now raw) ⌝ }
+    ensures { λ r. ⌜ KeptAs (now (raw .entry)) from free r ⌝ }
+{
+    let at = past_marked(raw, from, free);
+    past_openings(raw, at)
+}
+
+// Past the kept bytes from `from` on, if a mark stands there or no token may be replaced; `from` if not.
+fn past_marked(raw: &[u8], from: usize, free: bool) -> usize
+    requires { ⌜ from < length (now raw) ⌝ }
+    ensures { λ r. ⌜ KeptAs (now (raw .entry)) from free r ⌝ }
+{
+    if is_mark(raw[from]) {
+        return past_kept(raw, from + 1);
+    }
+    if free {
+        return from;
+    }
+    past_kept(raw, from)
+}
+
+// Past the label bytes and marks from `from` on.
+fn past_kept(raw: &[u8], from: usize) -> usize
+    requires { ⌜ from ≤ length (now raw) ⌝ }
+    ensures { λ r. ⌜ KeptEnd (now (raw .entry)) from r ⌝ }
+{
+    let mut at = from;
+    while at < raw.len() {
+        if !is_kept(raw[at]) {
+            return at;
+        }
+        at += 1;
+    }
+    at
+}
+
+// Past each `(` and comma from `from` on.
+fn past_openings(raw: &[u8], from: usize) -> usize
+    requires { ⌜ from ≤ length (now raw) ⌝ }
+    ensures { λ r. ⌜ Run isOpening (now (raw .entry)) from r ⌝ }
+{
+    let mut at = from;
+    while at < raw.len() {
+        if !is_opening(raw[at]) {
+            return at;
+        }
+        at += 1;
+    }
+    at
+}
+
+// Whether b is a mark, behind which no token is replaced.
+fn is_mark(b: u8) -> bool
+    ensures { λ r. ⌜ r ≡ isMark b ⌝ }
+{
+    if b == b')' {
+        return true;
+    }
+    b == b':'
+}
+
+// Whether b is a label byte or a mark.
+fn is_kept(b: u8) -> bool
+    ensures { λ r. ⌜ r ≡ isKept b ⌝ }
+{
+    if text::is_label_byte(b) {
+        return true;
+    }
+    is_mark(b)
+}
+
+// Whether b is `(` or a comma.
+fn is_opening(b: u8) -> bool
+    ensures { λ r. ⌜ r ≡ isOpening b ⌝ }
+{
+    if b == b'(' {
+        return true;
+    }
+    b == b','
 }
 
 // Puts the token of the text from b up to e at `to`, or its name where it is a key and may be replaced; answers where it ends.
