@@ -8,7 +8,7 @@ typedef unsigned long u64, size;
 /* The most bytes that are lent, and the longest line: `batch 0 ` and so many bytes in hex. */
 #define LENT 8388608
 #define LINE 16777224
-/* The answers that wait, the splits of a collection, and the entries of its matrix. A batch has no more verdicts than bytes. */
+/* The answers that wait, the splits of a collection, and the entries of its matrix. A batch or a file has no more verdicts than bytes. */
 #define WAITING 65536
 #define SPLITS 4096
 #define ENTRIES 1048576

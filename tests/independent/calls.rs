@@ -6,7 +6,7 @@
 use crate::collection::{Collection, Fed};
 use crate::memory::{Memory, MOST_LENT};
 use crate::opening::{open, Numbers};
-use crate::question::{refused, Question};
+use crate::question::{refused, Question, Writes};
 use crate::sets::{agree, taxa_of};
 use crate::whole::held_in;
 use crate::words::{bytes, hex, lines, list, number};
@@ -165,7 +165,9 @@ impl Program {
             Store::Whole(collection) => {
                 let fed = collection.feed(lane, piece);
                 let accepted = matches!(fed, Fed::Accepted { .. });
-                self.memory.forget(written_by(collection, lane, accepted));
+                for range in written(collection, Writes::Lane(lane), accepted) {
+                    self.memory.forget(range);
+                }
                 fed.line()
             }
         };
@@ -181,9 +183,9 @@ impl Program {
             Store::Whole(collection) => {
                 let before = collection.number_of_trees();
                 let answer = call.ask(collection, self.room);
-                if let Some(lane) = call.writes_lane(answer.is_ok()) {
-                    let accepted = collection.number_of_trees() > before;
-                    self.memory.forget(written_by(collection, lane, accepted));
+                let accepted = collection.number_of_trees() > before;
+                for range in written(collection, call.writes(answer.is_ok()), accepted) {
+                    self.memory.forget(range);
                 }
                 answer.unwrap_or_else(refused)
             }
@@ -215,13 +217,15 @@ fn size_of(collection: &Collection) -> usize {
     collection.opening().numbers.size().expect("numbers in range") as usize
 }
 
-/// The bytes that a feeding, a batch or a closing may write: the store for an accepted tree, else its lane alone.
-fn written_by(collection: &Collection, lane: u64, accepted: bool) -> Range<usize> {
-    let numbers = &collection.opening().numbers;
-    match accepted {
-        true => 0..size_of(collection),
-        false if lane < numbers.lanes => numbers.lane(lane as usize),
-        false => 0..0,
+/// The bytes that a call may have written.
+fn written(collection: &Collection, writes: Writes, accepted: bool) -> Vec<Range<usize>> {
+    let (numbers, size) = (&collection.opening().numbers, size_of(collection));
+    let lanes = numbers.lane(0).start..numbers.lane(numbers.lanes as usize - 1).end;
+    match (writes, accepted) {
+        (Writes::Lane(_), true) => vec![0..size],
+        (Writes::Lane(lane), false) if lane < numbers.lanes => vec![numbers.lane(lane as usize)],
+        (Writes::NoLane, true) => vec![0..lanes.start, lanes.end..size],
+        _ => Vec::new(),
     }
 }
 

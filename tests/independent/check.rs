@@ -101,13 +101,15 @@ impl Report {
     }
 }
 
-/// The refusals of an answer: the last word of `refused ..`, or those among the verdicts of a batch.
+/// The refusals of an answer: the last word of `refused ..`, or those among the verdicts of a batch or a file.
 fn refusals_in(kind: &str, answer: &[u8]) -> Vec<u32> {
     let answer = String::from_utf8_lossy(answer);
     let number = |word: &str| word.parse().ok();
     match answer.strip_prefix("refused ") {
         Some(words) => words.split(' ').next_back().and_then(number).into_iter().collect(),
-        None if kind == "batch" => answer.split(' ').filter_map(|w| w.strip_prefix('-').and_then(number)).collect(),
+        None if matches!(kind, "batch" | "nexus") => {
+            answer.split(' ').filter_map(|w| w.strip_prefix('-').and_then(number)).collect()
+        }
         None => Vec::new(),
     }
 }

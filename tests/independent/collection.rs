@@ -2,6 +2,7 @@
 
 use crate::consensus::{majority, strict, written, Counts};
 use crate::hash::{identifier, place};
+use crate::nexus::plain_texts;
 use crate::opening::Opening;
 use crate::text::is_blank;
 use crate::verdict::{judge, Masks, MOST_BYTES};
@@ -28,9 +29,12 @@ pub enum Fed {
     Refused { taken: usize, refusal: u32 },
 }
 
-/// What a batch answers: for each text a tree or a refusal, and the bytes taken.
+/// The number of an accepted tree, or a refusal.
+pub type Verdict = Result<usize, u32>;
+
+/// What a batch answers: the verdict on each text, and the bytes taken.
 pub struct Batch {
-    pub verdicts: Vec<Result<usize, u32>>,
+    pub verdicts: Vec<Verdict>,
     pub taken: usize,
 }
 
@@ -107,6 +111,13 @@ impl Collection {
         Ok(batch)
     }
 
+    /// The verdicts on the trees of a NEXUS file, each "judged as its plain text handed whole to an empty lane; no real
+    /// lane is touched". 15, 16 and 4 feed no tree.
+    pub fn nexus(&mut self, file: &[u8], room: usize) -> Result<Vec<Verdict>, u32> {
+        let texts = fitting(plain_texts(file)?, room)?;
+        Ok(texts.iter().map(|text| self.judge_text(text)).collect())
+    }
+
     /// "6 if it had run over, 7 if it held any byte but blanks, else done."
     pub fn close(&mut self, lane: u64) -> Result<(), u32> {
         let at = self.lane_index(lane).ok_or(5u32)?;
@@ -122,18 +133,20 @@ impl Collection {
     }
 
     /// "After a semicolon the lane is empty either way."
-    fn judge_lane(&mut self, at: usize) -> Result<usize, u32> {
+    fn judge_lane(&mut self, at: usize) -> Verdict {
         match std::mem::replace(&mut self.lanes[at], Lane::empty()) {
             Lane::RunOver => Err(6),
-            Lane::Holding(text) => {
-                let splits = judge(&self.opening.names, &text)?;
-                self.accept(splits)
-            }
+            Lane::Holding(text) => self.judge_text(&text),
         }
     }
 
+    fn judge_text(&mut self, text: &[u8]) -> Verdict {
+        let splits = judge(&self.opening.names, text)?;
+        self.accept(splits)
+    }
+
     /// 11, then 12, before anything is recorded.
-    fn accept(&mut self, splits: Masks) -> Result<usize, u32> {
+    fn accept(&mut self, splits: Masks) -> Verdict {
         if self.trees.len() as u64 == self.opening.numbers.tree_room {
             return Err(11);
         }

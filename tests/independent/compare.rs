@@ -54,7 +54,8 @@ fn verdicts_of((call, answer): &Pair) -> Vec<String> {
         (b"feed", ["accepted", _, tree]) => vec![tree.to_string()],
         (b"feed", ["refused", _, refusal]) => vec![format!("-{refusal}")],
         (b"batch", ["batch", verdicts @ .., "taken", _]) => verdicts.iter().map(|word| word.to_string()).collect(),
-        (b"feed" | b"batch" | b"close", _) => vec![format!("{} {answer}", text(kind(call)))],
+        (b"nexus", ["nexus", verdicts @ ..]) => verdicts.iter().map(|word| word.to_string()).collect(),
+        (b"feed" | b"batch" | b"nexus" | b"close", _) => vec![format!("{} {answer}", text(kind(call)))],
         _ => Vec::new(),
     }
 }

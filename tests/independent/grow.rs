@@ -68,7 +68,7 @@ fn numbered(i: usize) -> Name {
 
 /// Names that begin each other.
 fn repeated(i: usize) -> Name {
-    vec![b"aA"[i / 32 % 2]; i % 32 + 1]
+    vec![b"aAb"[i / 32 % 3]; i % 32 + 1]
 }
 
 fn any_name(random: &mut Random) -> Name {

@@ -1,6 +1,9 @@
-//! The limits: bytes of a text, taxa, nesting, tree room and split room, batches, and long collections.
+//! The limits: bytes of a text, taxa, nesting, tree room and split room, batches, NEXUS files, and long collections.
 
 use crate::consensus::written;
+use crate::filelimits::{
+    file_texts, keys_at_the_limit, long_files, long_keys_and_names, numbers_of_keys, numbers_of_trees,
+};
 use crate::grow::{ladder, names, shape, text_of, tokens, Dress, Name};
 use crate::maker::{joined, open_line, Maker};
 use crate::opening::Numbers;
@@ -19,6 +22,10 @@ pub fn limits(seed: u64, count: usize) -> Vec<u8> {
         for part in [lengths, nesting, small_tree_rooms, small_split_rooms, batches] {
             out.extend(part(Random::new(random.next())));
         }
+        for part in [numbers_of_keys, long_keys_and_names, file_texts, keys_at_the_limit, numbers_of_trees, long_files]
+        {
+            out.extend(part(Random::new(random.next())));
+        }
     }
     out
 }
@@ -30,7 +37,7 @@ pub fn largest(seed: u64, count: usize) -> Vec<u8> {
     (0..count).flat_map(|i| parts[i % parts.len()](Random::new(random.next()))).collect()
 }
 
-fn opened(mut random: Random, n: usize, lanes: u64, tree_room: u64, split_room: u64) -> Maker {
+pub fn opened(mut random: Random, n: usize, lanes: u64, tree_room: u64, split_room: u64) -> Maker {
     let names = names(&mut random, n);
     let places = random.between(1, 2 * split_room as usize) as u64;
     Maker::open(random, names, Numbers { taxa: n as u64, lanes, tree_room, split_room, places }, 3)
@@ -39,7 +46,7 @@ fn opened(mut random: Random, n: usize, lanes: u64, tree_room: u64, split_room: 
 // Texts
 
 /// The bytes of a text without blanks, lengths and labels.
-fn bare_text(random: &mut Random, names: &[Name], most_children: usize) -> Vec<u8> {
+pub fn bare_text(random: &mut Random, names: &[Name], most_children: usize) -> Vec<u8> {
     let shape = shape(random, names, most_children);
     tokens(random, &shape, BARE).concat()
 }
@@ -219,7 +226,9 @@ fn largest_tree_room(random: Random) -> Vec<u8> {
     let text = written(&maker.names, &pool[0]);
     maker.feed(0, &text);
     maker.peek();
-    for line in ["trees", "count", "splits", "matrix", "strict", "majority", "both", "collisions", "tree 1023", "write 1023"] {
+    for line in
+        ["trees", "count", "splits", "matrix", "strict", "majority", "both", "collisions", "tree 1023", "write 1023"]
+    {
         maker.ask(line);
     }
     maker.script()

@@ -1,5 +1,5 @@
-//! An independent calculation of every answer, to compare the proved programs with. It is written from document 01
-//! and the settled points, and shares nothing with the code that it is compared with.
+//! An independent calculation of every answer, to compare the proved programs with. It is written from document 01,
+//! entry 2026-01 of document 02 and the settled points, and shares nothing with the code that it is compared with.
 
 mod calls;
 mod changes;
@@ -10,7 +10,14 @@ mod consensus;
 mod damage;
 mod damaging;
 mod edges;
+mod filecheck;
+mod filelimits;
+mod filerefusals;
+mod files;
+mod filesamples;
+mod filescript;
 mod generator;
+mod givenfiles;
 mod grow;
 mod hash;
 mod layout;
@@ -18,6 +25,7 @@ mod limits;
 mod maker;
 mod memory;
 mod mixed;
+mod nexus;
 mod oddities;
 mod opening;
 mod parts;
@@ -47,6 +55,9 @@ fn main() {
         ["read"] => print_lines(&reading::read(&input())),
         ["treesum"] => print(&summary::treesum(&input())),
         ["treecalls"] => print(&calls::treecalls(&input())),
+        ["nexus-texts"] => print_lines(&givenfiles::texts_of(&input())),
+        ["nexus-calls", names, nexus] => print(&givenfiles::calls_of(names, &file(nexus))),
+        ["nexus-damages", seed, count, names, nexus] => nexus_damages(seed, count, names, &file(nexus)),
         ["selfcheck"] => finish(selfcheck::selfcheck()),
         ["check", script, answers] => finish(check::check(&file(script), &file(answers))),
         ["same-verdicts", a, b, c, d] => finish(beside(compare::same_verdicts, [a, b, c, d])),
@@ -68,6 +79,7 @@ fn maker(word: &str) -> Option<Make> {
         "refusals" => refusals::refusals,
         "stores" => stores::stores,
         "made" => stores::made,
+        "nexus" => filescript::nexus,
         "limits" => limits::limits,
         "largest" => limits::largest,
         "oddities" => oddities::oddities,
@@ -92,6 +104,14 @@ fn damaged(seed: &str, count: &str, script: &[u8], answers: &[u8]) {
     print(&damaging::damaged(seed, count, script, answers));
 }
 
+fn nexus_damages(seed: &str, count: &str, names: &str, nexus: &[u8]) {
+    let (Ok(seed), Ok(count)) = (seed.parse(), count.parse()) else {
+        return usage();
+    };
+    eprintln!("seed {seed}");
+    print(&givenfiles::damages_of(seed, count, names, nexus));
+}
+
 /// Two scripts, each with its answers behind it.
 fn beside(same: fn(&Run, &Run) -> bool, names: [&str; 4]) -> bool {
     let files = names.map(file);
@@ -109,8 +129,10 @@ fn finish(all_ok: bool) {
 fn usage() {
     eprintln!("edges | read | treesum | treecalls | selfcheck | check SCRIPT ANSWERS");
     eprintln!("same-verdicts SCRIPT ANSWERS SCRIPT ANSWERS | same-answers SCRIPT ANSWERS SCRIPT ANSWERS");
+    eprintln!("nexus-texts | nexus-calls NAMES FILE | nexus-damages SEED COUNT NAMES FILE");
     eprintln!("GENERATOR SEED COUNT | damaged SEED COUNT SCRIPT ANSWERS, a generator being");
-    eprintln!("texts | sheet | calls | mixed | whole | batched | zeros | refusals | stores | made | limits | largest | oddities");
+    eprintln!("texts | sheet | calls | mixed | whole | batched | filed | zeros | refusals | stores | made | nexus");
+    eprintln!("limits | largest | oddities");
     std::process::exit(2);
 }
 

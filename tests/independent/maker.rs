@@ -73,6 +73,11 @@ impl Maker {
         let _ = self.held.batch(lane, piece, usize::MAX);
     }
 
+    pub fn nexus(&mut self, file: &[u8]) {
+        self.ask(format!("nexus {}", hex(file)));
+        let _ = self.held.nexus(file, usize::MAX);
+    }
+
     pub fn close(&mut self, lane: u64) {
         self.ask(format!("close {lane}"));
         let _ = self.held.close(lane);
@@ -90,10 +95,11 @@ impl Maker {
     }
 }
 
-/// Each kind of call on a collection once, with these bytes fed.
+/// Each kind of call on a collection once, with this text and its semicolon fed.
 pub fn every_call(piece: &[u8]) -> Vec<String> {
     let mut calls: Vec<String> = QUESTIONS.iter().map(|line| line.to_string()).collect();
     calls.extend([format!("feed 0 {}", hex(piece)), "close 0".to_string(), format!("batch 0 {}", hex(piece))]);
+    calls.push(format!("nexus {}", hex(&[b"#NEXUS BEGIN TREES; TREE t=", piece, b"END;"].concat())));
     calls
 }
 

@@ -1,6 +1,7 @@
-//! The same texts four ways: cut anywhere and mixed over 8 lanes; whole, in the order of their semicolons; in
-//! batches; and cut and mixed again with one place and all constants 0.
+//! The same texts five ways: cut anywhere and mixed over 8 lanes; whole, in the order of their semicolons; in
+//! batches; in NEXUS files; and cut and mixed again with one place and all constants 0.
 
+use crate::files::{can_stand, file_of};
 use crate::generator::{first_constants, one_text, second_constants, some_names, some_places, some_shapes};
 use crate::grow::{Name, Shape};
 use crate::maker::Maker;
@@ -10,6 +11,8 @@ use crate::random::Random;
 const LANES: usize = 8;
 /// The most texts of a batch.
 const MOST_IN_BATCH: usize = 40;
+/// The most texts of a file.
+const MOST_IN_FILE: usize = 10;
 
 enum Step {
     /// A piece for a lane; it may go on behind a semicolon, and the rest comes again.
@@ -20,12 +23,13 @@ enum Step {
     Peek,
 }
 
-/// One of the four ways; none for another word.
+/// One of the five ways; none for another word.
 pub fn way(word: &str) -> Option<fn(u64, usize) -> Vec<u8>> {
     match word {
         "mixed" => Some(|seed, count| cut(&Plan::new(seed, count), false)),
         "whole" => Some(|seed, count| whole(&Plan::new(seed, count))),
         "batched" => Some(|seed, count| batched(&Plan::new(seed, count))),
+        "filed" => Some(|seed, count| filed(&Plan::new(seed, count), Random::new(seed))),
         "zeros" => Some(|seed, count| cut(&Plan::new(seed, count), true)),
         _ => None,
     }
@@ -193,4 +197,44 @@ fn batched(plan: &Plan) -> Vec<u8> {
     maker.batch(0, &texts.concat());
     maker.questions();
     maker.script()
+}
+
+/// In files while the lanes hold what they are closed with; a text that cannot stand in a file is fed to its lane.
+fn filed(plan: &Plan, mut random: Random) -> Vec<u8> {
+    let mut maker = plan.opened();
+    let mut texts: Vec<Vec<u8>> = Vec::new();
+    for text in whole_texts(plan) {
+        match text {
+            Whole::Text(_, text) if can_stand(&text[..text.len() - 1]) => texts.push(text[..text.len() - 1].to_vec()),
+            Whole::Text(lane, text) => {
+                file(&mut maker, &mut random, &mut texts);
+                maker.feed(lane as u64, &text);
+            }
+            Whole::Closing(lane, rest) => {
+                maker.feed(lane as u64, &rest);
+                file(&mut maker, &mut random, &mut texts);
+                maker.close(lane as u64);
+            }
+        }
+        if texts.len() == MOST_IN_FILE {
+            file(&mut maker, &mut random, &mut texts);
+        }
+    }
+    file(&mut maker, &mut random, &mut texts);
+    maker.questions();
+    maker.script()
+}
+
+/// The texts in a file, with all lent bytes peeked before and after it now and then.
+fn file(maker: &mut Maker, random: &mut Random, texts: &mut Vec<Vec<u8>>) {
+    let peeks = random.one_in(8);
+    let file = file_of(random, &maker.names, texts);
+    if peeks {
+        maker.peek();
+    }
+    maker.nexus(&file);
+    if peeks {
+        maker.peek();
+    }
+    texts.clear();
 }

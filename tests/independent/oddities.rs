@@ -2,15 +2,18 @@
 
 use crate::maker::joined;
 use crate::random::Random;
+use crate::words::hex;
 
 /// A line of every call that is one once something is opened.
-const GOOD: [&str; 23] = [
+const GOOD: [&str; 25] = [
     "size 4 1 1 1 1",
     "open 4 1 1 1 1 41204220432044 0,0,0,0 0,0,0,0",
     "feed 0 28",
     "feed 0 -",
     "close 0",
     "batch 0 3b",
+    "nexus -",
+    "nexus 234e4558555320424547494e2054524545533b205452454520743d28412c422c432c44293b20454e443b",
     "trees",
     "count",
     "splits",
@@ -30,7 +33,7 @@ const GOOD: [&str; 23] = [
     "poke 8354 00",
 ];
 
-const OTHERS: [&str; 42] = [
+const OTHERS: [&str; 46] = [
     "",
     " ",
     "  ",
@@ -73,6 +76,10 @@ const OTHERS: [&str; 42] = [
     "open 4 1 1 1 1 4120422043204 0,0,0,0 0,0,0,0",
     "open 4 1 1 1 1 41204220432044 0,0,0,0 0,0,0,0",
     "feed 0 --",
+    "nexus",
+    "nexus - -",
+    "nexus 0",
+    "nexus 0 234e45585553",
 ];
 
 /// A script of so many rounds; its last line has no end.
@@ -165,18 +172,31 @@ fn edges_of_memory() -> Vec<String> {
     lines.map(str::to_string).to_vec()
 }
 
-/// The longest line with room for all bytes that can be lent, one of the greatest length that is no call, and a line longer than that.
+/// The longest NEXUS file; the longest line, with room for all bytes that can be lent; one as long that is no call, and
+/// longer ones.
 fn longest_lines() -> Vec<String> {
     let lend = "lend 8388608".to_string();
     let poke = format!("poke 0 {}", "3b".repeat(8_388_608));
-    vec![
+    let mut lines = opened();
+    lines.extend([
+        longest_file(),
         lend,
         poke,
         "peek 8388605 3".to_string(),
         "x".repeat(16_777_224),
         "x".repeat(16_777_225),
         "x".repeat(34_000_000),
-    ]
+    ]);
+    lines
+}
+
+/// A NEXUS file of as many bytes as a batch may have, with as many trees as they can hold.
+fn longest_file() -> String {
+    let (front, back) = ("#NEXUS BEGIN TREES;", "END;");
+    let long = 8_388_608 - front.len() - back.len();
+    let trees = "TREE t=;".repeat(long / 8);
+    let blanks = " ".repeat(long % 8);
+    format!("nexus {}", hex(format!("{front}{trees}{blanks}{back}").as_bytes()))
 }
 
 /// Lines of bytes by chance.

@@ -1,11 +1,12 @@
 //! The calls on a collection from their words, and the lines that answer them.
 
-use crate::collection::{Batch, Collection, Fed};
+use crate::collection::{Batch, Collection, Fed, Verdict};
 use crate::words::{bytes, number};
 
 pub enum Question {
     Close(u64),
     Batch(u64, Vec<u8>),
+    Nexus(Vec<u8>),
     Trees,
     Count,
     Splits,
@@ -26,6 +27,7 @@ impl Question {
         Some(match words {
             [b"close", lane] => Question::Close(number(lane)?),
             [b"batch", lane, piece] => Question::Batch(number(lane)?, bytes(piece)?),
+            [b"nexus", file] => Question::Nexus(bytes(file)?),
             [b"trees"] => Question::Trees,
             [b"count"] => Question::Count,
             [b"splits"] => Question::Splits,
@@ -48,6 +50,7 @@ impl Question {
         Ok(match self {
             Question::Close(lane) => collection.close(*lane).map(|()| b"done".to_vec())?,
             Question::Batch(lane, piece) => batch_line(&collection.batch(*lane, piece, room)?),
+            Question::Nexus(file) => nexus_line(&collection.nexus(file, room)?),
             Question::Trees => number_line(collection.number_of_trees() as u64),
             Question::Count => number_line(collection.counts().len() as u64),
             Question::Splits => splits_line(&collection.splits(room)?),
@@ -64,14 +67,24 @@ impl Question {
         })
     }
 
-    /// The lane that the call may write to; a refused batch writes nothing, a refused closing empties its lane.
-    pub fn writes_lane(&self, done: bool) -> Option<u64> {
+    /// What the call may write; a refused batch or file writes nothing, a refused closing empties its lane.
+    pub fn writes(&self, done: bool) -> Writes {
         match self {
-            Question::Close(lane) => Some(*lane),
-            Question::Batch(lane, _) if done => Some(*lane),
-            _ => None,
+            Question::Close(lane) => Writes::Lane(*lane),
+            Question::Batch(lane, _) if done => Writes::Lane(*lane),
+            Question::Nexus(_) if done => Writes::NoLane,
+            _ => Writes::Nothing,
         }
     }
+}
+
+/// What a call may write.
+pub enum Writes {
+    Nothing,
+    /// The lane, and with an accepted tree all of the store.
+    Lane(u64),
+    /// With an accepted tree all of the store but the lanes.
+    NoLane,
 }
 
 impl Fed {
@@ -113,7 +126,12 @@ fn batch_line(batch: &Batch) -> Vec<u8> {
     listed("batch", &words)
 }
 
-fn verdict_word(verdict: &Result<usize, u32>) -> String {
+fn nexus_line(verdicts: &[Verdict]) -> Vec<u8> {
+    let words: Vec<String> = verdicts.iter().map(verdict_word).collect();
+    listed("nexus", &words)
+}
+
+fn verdict_word(verdict: &Verdict) -> String {
     match verdict {
         Ok(tree) => tree.to_string(),
         Err(refusal) => format!("-{refusal}"),

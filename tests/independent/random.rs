@@ -34,6 +34,12 @@ impl Random {
         self.below(times) == 0
     }
 
+    pub fn shuffle<T>(&mut self, list: &mut [T]) {
+        for i in 1..list.len() {
+            list.swap(i, self.between(0, i));
+        }
+    }
+
     pub fn pick<'a, T>(&mut self, of: &'a [T]) -> &'a T {
         &of[self.below(of.len())]
     }

@@ -1,6 +1,7 @@
 //! Every refusal number in every place that can give it, with all lent bytes peeked before and after.
 
 use crate::collection::Collection;
+use crate::filerefusals::{files, files_at_full_rooms, refused_files};
 use crate::generator::{first_constants, name_list, second_constants};
 use crate::grow::{names, shape, text_of, Name};
 use crate::maker::{every_call, five_words, open_line, Maker};
@@ -28,6 +29,7 @@ fn round(mut random: Random) -> Vec<u8> {
     let mut maker = Maker::open(random, names, numbers, 9);
     no_trees(&mut maker);
     lanes_and_texts(&mut maker);
+    files(&mut maker);
     numbers_and_rooms(&mut maker);
     full_rooms(&mut maker);
     openings(&mut maker);
@@ -37,18 +39,18 @@ fn round(mut random: Random) -> Vec<u8> {
 
 impl Maker {
     /// A call, and all lent bytes after it.
-    fn watched(&mut self, line: impl ToString) {
+    pub fn watched(&mut self, line: impl ToString) {
         self.ask(line);
         self.peek();
     }
 
-    fn any_text(&mut self) -> Vec<u8> {
+    pub fn any_text(&mut self) -> Vec<u8> {
         let shape = shape(&mut self.random, &self.names, 3);
         text_of(&mut self.random, &shape)
     }
 
     /// Leaves in one bracket: a tree without splits.
-    fn star(&self, leaves: &[Name]) -> Vec<u8> {
+    pub fn star(&self, leaves: &[Name]) -> Vec<u8> {
         [&b"("[..], &leaves.join(&b','), b")"].concat()
     }
 
@@ -63,7 +65,9 @@ fn no_trees(maker: &mut Maker) {
     maker.peek();
     for room in ["room 0", "room -"] {
         maker.ask(room);
-        for line in ["strict", "majority", "both", "tree 0", "write 0", "split 0", "one 0 0", "two 0 0", "matrix", "splits"] {
+        for line in
+            ["strict", "majority", "both", "tree 0", "write 0", "split 0", "one 0 0", "two 0 0", "matrix", "splits"]
+        {
             maker.watched(line);
         }
         maker.watched("batch 0 -");
@@ -93,7 +97,7 @@ fn lanes_and_texts(maker: &mut Maker) {
 }
 
 /// Texts with one or more faults, from 6 to 10.
-fn faulty_texts(maker: &mut Maker) -> Vec<Vec<u8>> {
+pub fn faulty_texts(maker: &mut Maker) -> Vec<Vec<u8>> {
     let names = maker.names.clone();
     let with = |first: &[Name]| -> Vec<Name> { first.iter().chain(&names[first.len()..]).cloned().collect() };
     let (no, twice) = (b"no.such.taxon.is.in.the.list.of.names".to_vec(), names[0].clone());
@@ -226,6 +230,7 @@ fn full_rooms(maker: &mut Maker) {
         maker.batch(0, &text);
         maker.peek();
     }
+    files_at_full_rooms(maker);
     maker.questions();
 }
 
@@ -348,7 +353,7 @@ fn not_whole(maker: &mut Maker) {
             maker.ask(room);
             let text = [maker.any_text(), b";".to_vec()].concat();
             let wrong = ["feed 8 28", "close 8", "batch 9 3b", "split 9", "tree 9", "one 9 9", "two 9 9", "write 9"];
-            for line in every_call(&text).into_iter().chain(wrong.map(str::to_string)) {
+            for line in every_call(&text).into_iter().chain(wrong.map(str::to_string)).chain(refused_files(maker)) {
                 maker.watched(line);
             }
         }

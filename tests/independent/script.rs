@@ -1,5 +1,6 @@
 //! Generated lines for `treecalls`.
 
+use crate::files::any_file;
 use crate::generator::{
     damage_names, first_constants, name_list, one_text, second_constants, some_names, some_places, some_shapes,
 };
@@ -31,7 +32,7 @@ struct Script {
     planned: Vec<String>,
 }
 
-/// The longest piece of one feeding or batch, so that a line stays below 16,384 bytes.
+/// The longest piece of one feeding or batch.
 const LONGEST_PIECE: usize = 7000;
 
 impl Script {
@@ -63,8 +64,9 @@ impl Script {
             return line;
         }
         match self.random.below(100) {
-            0..=49 => self.feed_line(),
-            50..=54 => self.batch_line(),
+            0..=45 => self.feed_line(),
+            46..=50 => self.batch_line(),
+            51..=54 => self.nexus_line(),
             55..=57 => format!("close {}", self.lane()),
             58..=90 => self.question_line(),
             91..=94 => self.room_line(),
@@ -101,6 +103,10 @@ impl Script {
         let piece = self.piece(lane);
         self.waiting[lane].drain(..piece.len());
         format!("batch {lane} {}", hex(&piece))
+    }
+
+    fn nexus_line(&mut self) -> String {
+        format!("nexus {}", hex(&any_file(&mut self.random, &self.names, &self.pool)))
     }
 
     fn piece(&mut self, lane: usize) -> Vec<u8> {
@@ -198,6 +204,10 @@ impl Script {
             "room",
             "room x",
             "batch 0",
+            "nexus",
+            "nexus 0",
+            "nexus 0 -",
+            "nexus  -",
         ];
         self.random.pick(&lines).to_string()
     }
@@ -229,7 +239,11 @@ impl Script {
         self.planned.push(open);
         self.planned.push(self.peek_all());
         for _ in 0..4 {
-            let call = if self.random.one_in(4) { self.feed_line() } else { self.question_line() };
+            let call = match self.random.below(6) {
+                0 => self.feed_line(),
+                1 => self.nexus_line(),
+                _ => self.question_line(),
+            };
             self.planned.push(call);
         }
         self.planned.push(format!("poke {} {byte:02x}", at % most));
@@ -238,7 +252,7 @@ impl Script {
 
     /// Too little memory first; then enough, with calls before the opening.
     fn lend_again(&mut self, size: u64) -> String {
-        let before = [self.question_line(), self.feed_line(), format!("close {}", self.lane())];
+        let before = [self.question_line(), self.feed_line(), self.nexus_line(), format!("close {}", self.lane())];
         let open = self.open_line();
         self.planned.push(open);
         self.planned.extend(before);

@@ -1,8 +1,10 @@
-//! `selfcheck`: the samples of document 01, the sheet of the summary program, the limits, and the settled points.
+//! `selfcheck`: the samples of document 01, the sheet of the summary program, the limits, and the settled points; then
+//! the checks of stores and of NEXUS files.
 
 use crate::calls::treecalls;
 use crate::collection::Collection;
 use crate::consensus::{majority, strict, written, Counts};
+use crate::filecheck::file_checks;
 use crate::grow;
 use crate::opening::{open, Numbers};
 use crate::random::Random;
@@ -20,7 +22,9 @@ const S5: &str = "((A,B),C,D,E)";
 
 /// Prints a line for each check, and answers whether all are right.
 pub fn selfcheck() -> bool {
-    let checks = [samples(), sheets(), lengths(), forms(), limits(), properties(), calls(), store_checks()].concat();
+    let checks =
+        [samples(), sheets(), lengths(), forms(), limits(), properties(), calls(), store_checks(), file_checks()]
+            .concat();
     for (name, right) in &checks {
         println!("{} {name}", if *right { "ok" } else { "not ok" });
     }

@@ -43,7 +43,7 @@ fn small_collection(mut random: Random) -> Maker {
     maker
 }
 
-fn fill_lanes(maker: &mut Maker) {
+pub fn fill_lanes(maker: &mut Maker) {
     for lane in 0..maker.numbers.lanes {
         match maker.random.below(5) {
             0 => drop(maker.feed(lane, &vec![b' '; MOST_BYTES + 1])),
@@ -73,7 +73,7 @@ fn made_store(mut random: Random, i: usize) -> Vec<u8> {
 pub fn made_bytes(random: &mut Random, i: usize) -> (Maker, Vec<u8>) {
     let maker = small_collection(Random::new(random.next()));
     let mut masks: Vec<u64> = maker.held.counts().keys().copied().collect();
-    shuffle(random, &mut masks);
+    random.shuffle(&mut masks);
     let mut parts = Parts::of(&maker.held, masks);
     match i % 3 {
         0 => (),
@@ -84,12 +84,6 @@ pub fn made_bytes(random: &mut Random, i: usize) -> (Maker, Vec<u8>) {
     let mut bytes = vec![fill; parts.numbers.size().expect("numbers in range") as usize];
     parts.write(&mut bytes);
     (maker, bytes)
-}
-
-fn shuffle(random: &mut Random, masks: &mut [u64]) {
-    for i in 1..masks.len() {
-        masks.swap(i, random.between(0, i));
-    }
 }
 
 /// Every call, and texts that may be accepted.

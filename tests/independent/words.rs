@@ -40,7 +40,8 @@ pub fn hex(bytes: &[u8]) -> String {
     if bytes.is_empty() {
         return "-".to_string();
     }
-    bytes.iter().map(|b| format!("{b:02x}")).collect()
+    let digit = |d: u8| char::from(b"0123456789abcdef"[usize::from(d)]);
+    bytes.iter().flat_map(|b| [digit(b / 16), digit(b % 16)]).collect()
 }
 
 /// Numbers as a word with commas.

@@ -1,9 +1,10 @@
 -- The answers of the calls, as document 01 has them: each enum case with its number and values.
 --
---   refusalNumber r                                   the number of a refusal in the table of document 01
+--   refusalNumber r                                   the number of a refusal in documents 01 and 02
 --   refusing r                                        the answer that refuses with that number
 --   finishGiven, numberGiven, bothGiven, splitGiven, progressGiven     an answer of the code, as the definitions of crate trees have it
-use Prim.Native.Nat.{ℕ}
+--   Small a                                           the number of an accepted tree is at most 1,024
+use Prim.Native.Nat.{ℕ, _≤_}
 use Rattle.trees.specs.Plain.{Answer, refused, gives}
 use Rattle.trees.specs.Held.{moreWanted, accepted}
 use Rattle.trees.specs.Held as held
@@ -20,7 +21,7 @@ use Rattle.answers.specs.declared.Recorded.the-variants as recorded
 use Rattle.answers.specs.declared.Progress.{Progress}
 use Rattle.answers.specs.declared.Progress.the-variants as progress
 
--- "Refusal numbers"
+-- "Refusal numbers"; "15 block malformed, 16 key listed twice"
 unfoldable pub refusalNumber : Refusal → ℕ
 refusalNumber why.NotWhole = 1
 refusalNumber why.OutOfRange = 2
@@ -36,6 +37,8 @@ refusalNumber why.NoTreeRoom = 11
 refusalNumber why.NoSplitRoom = 12
 refusalNumber why.NoSuchNumber = 13
 refusalNumber why.NoTrees = 14
+refusalNumber why.BadBlock = 15
+refusalNumber why.RepeatedKey = 16
 
 abbrev pub refusing : {A : Type 0} → Refusal → Answer A
 refusing r = refused (refusalNumber r)
@@ -68,3 +71,9 @@ unfolding refusalNumber
 progressGiven (progress.Refused r) = refused (refusalNumber r)
 progressGiven progress.MoreWanted = gives moreWanted
 progressGiven (progress.Accepted t) = gives (accepted (t .0))
+
+-- a tree's number that fits its room
+unfoldable pub Small : Answer held.Progress → Type 0
+Small (refused k) = Unit {0}
+Small (gives moreWanted) = Unit {0}
+Small (gives (accepted t)) = t ≤ 1024

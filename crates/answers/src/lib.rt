@@ -2,7 +2,8 @@
 //
 // Read `specs/Answers.antt` for the answers as document 01 has them.
 ghost use mathlib.Core.Path.{_≡_};
-ghost use Rattle.answers.specs.Answers.{refusalNumber};
+ghost use Rattle.trees.specs.Batch.{verdictNumber};
+ghost use Rattle.answers.specs.Answers.{refusalNumber, progressGiven, Small};
 
 // A taxon's number: its place in the name list, from 0.
 pub struct Taxon(pub u32);
@@ -16,7 +17,7 @@ pub struct Tree(pub usize);
 // The number of a recorded split: its place, from 0, in the list by rising mask.
 pub struct Split(pub usize);
 
-// Why a call refuses: the table of document 01, in its order.
+// Why a call refuses: the table of document 01, in its order, and the refusals of document 02 behind it.
 pub enum Refusal {
     NotWhole,
     OutOfRange,
@@ -32,6 +33,8 @@ pub enum Refusal {
     NoSplitRoom,
     NoSuchNumber,
     NoTrees,
+    BadBlock,
+    RepeatedKey,
 }
 
 // The answer of a call that gives nothing but that it was done.
@@ -72,7 +75,7 @@ pub struct Fed {
     pub progress: Progress,
 }
 
-// The number of a refusal in the table of document 01.
+// The number of a refusal in documents 01 and 02.
 pub fn refusal_number(r: Refusal) -> u32
     ensures { λ n. ⌜ n ≡ refusalNumber r ⌝ }
 {
@@ -91,5 +94,19 @@ pub fn refusal_number(r: Refusal) -> u32
         Refusal::NoSplitRoom => 12,
         Refusal::NoSuchNumber => 13,
         Refusal::NoTrees => 14,
+        Refusal::BadBlock => 15,
+        Refusal::RepeatedKey => 16,
+    }
+}
+
+// A verdict as a number: a refusal's, or 256 more than the tree's.
+pub fn verdict_number(p: Progress) -> u32
+    requires { ⌜ Small (progressGiven p) ⌝ }
+    ensures { λ r. ⌜ r ≡ verdictNumber (progressGiven p) ⌝ }
+{
+    match p {
+        Progress::Refused(r) => refusal_number(r),
+        Progress::MoreWanted => 0,
+        Progress::Accepted(t) => 256 + t.0 as u32,
     }
 }

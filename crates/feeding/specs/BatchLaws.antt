@@ -26,14 +26,14 @@ use Rattle.trees.specs.Plain.{if_then_else_, every, member, Answer, refused, gi
 use Rattle.trees.specs.Opening.{Opening, storeSize}
 use Rattle.trees.specs.Held.{Held, moreWanted, accepted, laneOf, longer, verdict, beforeSemicolon, finished, finishing, feeding}
 use Rattle.trees.specs.Held as held
-use Rattle.trees.specs.Batch.{Batched, semicolons, verdictNumber, withVerdict, batching, batch}
+use Rattle.trees.specs.Batch.{semicolons, verdictNumber, isRefusal, noneAccepted, Batched, withVerdict, batching, batch}
 use Rattle.theorems.specs.WrittenFedLaws.{feedingBy, feeding-by}
 use Rattle.theorems.specs.OwnLaneLaws.{feeding-opening}
 use Rattle.answers.specs.declared.Refusal.{Refusal}
 use Rattle.answers.specs.declared.Refusal.the-variants as why
 use Rattle.answers.specs.declared.Number.the-variants as number
 use Rattle.answers.specs.declared.Fed.{Fed}
-use Rattle.answers.specs.Answers.{refusalNumber, refusing, numberGiven, progressGiven}
+use Rattle.answers.specs.Answers.{refusalNumber, refusing, numberGiven, progressGiven, Small}
 use Rattle.head.specs.Head.{numbersAt, namesAt, openingAt}
 use Rattle.head.specs.Index.{Indexed}
 use Rattle.layout.specs.Store.{sizeAt, heldAt, heldIn}
@@ -43,8 +43,8 @@ use Rattle.store.specs.RecordedAtLaws.{trees-length}
 use Rattle.store.specs.HeldWholeLaws.{held-numbers, opening-facts}
 use Rattle.store.specs.Lent.{Holds}
 use Rattle.store.specs.LentLaws.{when-whole}
-use Rattle.feeding.specs.Feeding.{batchOf, isAccepted, SameOutside, isRefusal, noneAccepted, BatchedAs}
-use Rattle.feeding.specs.Texts.{FedWell, Small}
+use Rattle.feeding.specs.Feeding.{batchOf, isAccepted, SameOutside, BatchedAs}
+use Rattle.feeding.specs.Texts.{FedWell}
 use Rattle.feeding.specs.EndLaws.{end-inside, one-text, has-text, lacks-text}
 use Rattle.feeding.specs.HoldLaws.{size-held}
 

@@ -8,8 +8,6 @@
 --   SameOutside s l t      the lent bytes t are as in s outside the lane l
 --   FedAs s l p r t        feeding answers r and leaves t
 --   ClosedAs s l r t       closing answers r and leaves t
---   isRefusal v            the verdict v of a batch is a refusal's number
---   noneAccepted vs        so are all the verdicts vs
 --   BatchedAs b l r s v t w     a batch that is b, on lane l, answers r and leaves the lent bytes t, which were s, and the verdicts w, which were v
 use Prim.Native.Nat.{ℕ, _+_, _≤_, _<_}
 use mathlib.Core.Path.{_≡_}
@@ -19,10 +17,10 @@ use mathlib.Core.List.{List, _++_}
 use lib.Dec.{ltb}
 use lib.ListN.{length, getD, drop}
 use Rattle.trees.specs.Opening.{laneBytes}
-use Rattle.trees.specs.Plain.{if_then_else_, every, Answer, refused, gives}
+use Rattle.trees.specs.Plain.{if_then_else_, Answer, refused, gives}
 use Rattle.trees.specs.Held.{Closed, moreWanted, accepted, feeding, closing}
 use Rattle.trees.specs.Held as held
-use Rattle.trees.specs.Batch.{Batched, batch}
+use Rattle.trees.specs.Batch.{noneAccepted, Batched, batch}
 use Rattle.answers.specs.declared.Fed.{Fed}
 use Rattle.answers.specs.declared.Finish.{Finish}
 use Rattle.answers.specs.declared.Number.{Number}
@@ -72,14 +70,6 @@ pub record ClosedAs (s : List ℕ) (l : ℕ) (r : Finish) (t : List ℕ) : Type 
   pub found : reached s l ≡ false → t ≡ s
   pub holds : reached s l ≡ true → Holds (closedOf s l .after) s t
   pub outside : SameOutside s l t
-
--- refusals go from 1 to 14; an accepted tree's number counts from 256
-abbrev pub isRefusal : ℕ → Bool
-isRefusal v = ltb v 256
-
-unfoldable pub noneAccepted : List ℕ → Bool
-unfolding every
-noneAccepted vs = every isRefusal vs
 
 -- the number of verdicts is answered; they stand at the front of their buffer; where no tree is accepted, only the lane changes
 unfoldable pub BatchedAs : Answer Batched → ℕ → Number → List ℕ → List ℕ → List ℕ → List ℕ → Type 0

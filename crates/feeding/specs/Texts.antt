@@ -4,14 +4,13 @@
 --   FedWell s l p r t       feeding a piece to a lane that is there
 --   verdictOn s l           the verdict on the text of lane l
 --   Finished s l r t        the verdict on the lane's text, and the lane empty
---   Small a                 the number of an accepted tree is at most 1,024
 --   blockBytes              how many bytes are counted at once, in a byte
-use Prim.Native.Nat.{ℕ, _≤_}
+use Prim.Native.Nat.{ℕ}
 use mathlib.Core.Path.{_≡_}
 use mathlib.Core.Bool.{false}
 use mathlib.Core.List.{List, []}
-use Rattle.trees.specs.Plain.{Answer, refused, gives}
-use Rattle.trees.specs.Held.{Held, holding, laneOf, withLane, verdict, finished, recording, feeding, moreWanted, accepted}
+use Rattle.trees.specs.Plain.{Answer}
+use Rattle.trees.specs.Held.{Held, holding, laneOf, withLane, verdict, finished, recording, feeding}
 use Rattle.trees.specs.Held as held
 use Rattle.answers.specs.declared.Fed.{Fed}
 use Rattle.answers.specs.declared.Progress.{Progress}
@@ -40,9 +39,3 @@ pub record Finished (s : List ℕ) (l : ℕ) (r : Progress) (t : List ℕ) : Typ
 
 abbrev pub blockBytes : ℕ
 blockBytes = 128
-
--- a tree's number that fits its room
-unfoldable pub Small : Answer held.Progress → Type 0
-Small (refused k) = Unit {0}
-Small (gives moreWanted) = Unit {0}
-Small (gives (accepted t)) = t ≤ 1024

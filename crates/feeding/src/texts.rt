@@ -6,16 +6,14 @@ ghost use Prim.Native.Nat.{_+_, _≤_, _<_};
 ghost use lib.ListN.{length, drop};
 ghost use Rattle.trees.specs.Plain.{member};
 ghost use Rattle.trees.specs.Held.{beforeSemicolon};
-ghost use Rattle.trees.specs.Batch.{semicolons, batching};
+ghost use Rattle.trees.specs.Batch.{semicolons, noneAccepted, batching};
 ghost use Rattle.head.specs.Head.{numbersAt, namesAt};
 ghost use Rattle.head.specs.Index.{Indexed};
 ghost use Rattle.layout.specs.Store.{heldAt};
 ghost use Rattle.layout.specs.WholeStore.{wholeAt};
-ghost use Rattle.trees.specs.Batch.{verdictNumber};
-ghost use Rattle.answers.specs.Answers.{progressGiven};
 ghost use Rattle.store.specs.Lent.{Holds};
-ghost use Rattle.feeding.specs.Feeding.{SameOutside, noneAccepted};
-ghost use Rattle.feeding.specs.Texts.{FedWell, Small, blockBytes};
+ghost use Rattle.feeding.specs.Feeding.{SameOutside};
+ghost use Rattle.feeding.specs.Texts.{FedWell, blockBytes};
 use crate::verdicts;
 use answers::Fed;
 use answers::Lane;
@@ -155,21 +153,9 @@ pub(crate) fn feed_texts(
     while i < n {
         let fed = feed_piece(s, starts, links, l, &piece[at..]);
         let progress = fed.progress;
-        verdicts[i] = verdict_number(progress);
+        verdicts[i] = answers::verdict_number(progress);
         at += fed.taken;
         i += 1;
     }
     feed_piece(s, starts, links, l, &piece[at..]);
-}
-
-// A verdict as a number.
-fn verdict_number(p: Progress) -> u32
-    requires { ⌜ Small (progressGiven p) ⌝ }
-    ensures { λ r. ⌜ r ≡ verdictNumber (progressGiven p) ⌝ }
-{
-    match p {
-        Progress::Refused(r) => answers::refusal_number(r),
-        Progress::MoreWanted => 0,
-        Progress::Accepted(t) => 256 + t.0 as u32,
-    }
 }

@@ -169,7 +169,7 @@ fn name_is(s: &[u8], i: usize, text: &[u8], b: usize, e: usize) -> bool
 
 // Whether the bytes of s from a up to z are those of the text from b up to e, which are as many: a word of 8 bytes at a time,
 // the last word from their end.
-fn same_runs(s: &[u8], a: usize, z: usize, text: &[u8], b: usize, e: usize) -> bool
+pub fn same_runs(s: &[u8], a: usize, z: usize, text: &[u8], b: usize, e: usize) -> bool
     requires { ⌜ a ≤ z ⌝ }
     requires { ⌜ z ≤ length (now s) ⌝ }
     requires { ⌜ e ≤ length (now text) ⌝ }
@@ -211,7 +211,7 @@ fn name_length(s: &[u8], i: usize) -> usize
 }
 
 // The key of the bytes of s from b up to e.
-fn key_of(s: &[u8], b: usize, e: usize) -> usize
+pub fn key_of(s: &[u8], b: usize, e: usize) -> usize
     requires { ⌜ b ≤ e ⌝ }
     requires { ⌜ e ≤ length (now s) ⌝ }
     ensures { λ r. ⌜ (r ≡ key (slice b e (now (s .entry)))) × (r < keys) ⌝ }

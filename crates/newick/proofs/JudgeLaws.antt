@@ -84,6 +84,8 @@ some-number why.NoTreeRoom = omega arith
 some-number why.NoSplitRoom = omega arith
 some-number why.NoSuchNumber = omega arith
 some-number why.NoTrees = omega arith
+some-number why.BadBlock = omega arith
+some-number why.RepeatedKey = omega arith
 
 -- leaves without a fault: their taxa are all taxa
 all-seen : (ns : List (List ℕ)) (t : Nodes) → leafFault ns 0 (leaves t) ≡ 0 → taxa ns t ≡ everyTaxon (length ns)

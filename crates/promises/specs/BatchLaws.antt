@@ -1,6 +1,5 @@
 -- A batch among the calls: it is its texts, fed one after another. Assumes nothing.
 --
---   heardNumber a         an answer's verdict as a number
 --   BatchIs n h l p       a batch of n texts holds, answers and judges what the feedings of these texts do
 --   batch-is              so does each batch to a lane that is there
 --   after-handed          every call holds what the feedings and closings hold that it hands in
@@ -14,74 +13,21 @@ use mathlib.Core.List.{List, [], _∷_, _++_, map}
 use lib.Dec.{ltb, eqb}
 use lib.ListN.{length, take, drop}
 use lib.Seq.{take-append-seam}
-use borrow.Author.Tests.{lt-ltb, le-ltb}
 use Rattle.trees.specs.Plain.{if_then_else_, member, Answer, refused, gives}
-use Rattle.trees.specs.Verdict.{judged}
-use Rattle.trees.specs.Consensus.{recorded}
 use Rattle.trees.specs.Opening.{Opening}
 use Rattle.trees.specs.Held.{Held, Lane, holding, overrun, laneOf, longer, newSplits, roomFor, withRoom, verdict, Progress, moreWanted, accepted, beforeSemicolon, Fed, finished, finishing, feeding}
 use Rattle.trees.specs.Batch.{semicolons, verdictNumber, withVerdict, Batched, batching, batch}
 use Rattle.trees.specs.Runs.{Call, feed, Heard, fed, closedLane, answer, next, answers, ending, Final, finals}
-use Rattle.theorems.specs.VerdictLaws.{refusal-numbers}
 use Rattle.theorems.specs.WrittenFedLaws.{feedingBy, feeding-by}
 use Rattle.theorems.specs.OwnLaneLaws.{feeding-opening}
 use Rattle.theorems.specs.PieceLaws.{before-unended, before-end, has-end}
 use Rattle.theorems.specs.RunLaws.{more-exactly}
+use Rattle.theorems.specs.NexusFedLaws.{heardVerdict}
 use Rattle.answers.specs.Filled.{lengthGiven, front}
 use Rattle.feeding.specs.EndLaws.{one-text, has-text, lacks-text}
-use Rattle.promises.specs.Calls.{Question, reply, Made, one, many, ask, reopen, Told, heard, batched, replied, numbersIn, afterBatch, told, after, cut, handed, verdictOf, verdictsTold}
-
--- ---- verdicts as numbers
-
--- a refusal by verdict has a number of the table
-abbrev Small : Answer (List ℕ) → Type 0
-Small (refused k) = k ≤ 12
-Small (gives t) = Unit {0}
-
-room-small : (b c : Bool) (t : List ℕ) → Small (if b then refused 11 else if c then refused 12 else gives t)
-room-small true c t = omega arith
-room-small false true t = omega arith
-room-small false false t = tt
-
-held-room-small : (h : Held) (t : List ℕ) → Small (roomFor h t)
-unfolding roomFor
-held-room-small h t =
-    room-small (eqb (length (h .trees)) (h .opening .numbers .treeRoom))
-    (ltb (h .opening .numbers .splitRoom) (length (recorded (h .trees)) + length (newSplits h t))) t
-
-verdict-small : (h : Held) (x : Lane) → Small (verdict h x)
-unfolding verdict withRoom
-verdict-small h overrun = omega arith
-verdict-small h (holding s) = go (judged (h .opening .names) s) refl
-  where
-    go : (a : Answer (List ℕ)) → judged (h .opening .names) s ≡ a → Small (withRoom h a)
-    go (refused k) e = let r = refusal-numbers (h .opening .names) s k e in omega (arith, r .1)
-    go (gives t) e = held-room-small h t
-
--- an answer that is a verdict, and whose number says which
-abbrev Settled : Answer Progress → Type 0
-Settled (refused k) = k < 256
-Settled (gives moreWanted) = ⊥
-Settled (gives (accepted t)) = Unit {0}
-
-finished-settled : (h : Held) (v : Answer (List ℕ)) → Small v → Settled (finished h v)
-unfolding finished
-finished-settled h (refused k) s = omega arith
-finished-settled h (gives t) s = tt
-
-settled-read : (n : ℕ) (a : Answer Progress) → Settled a → (rest : List Heard) → finals (fed n a ∷ rest) ≡ verdictOf (verdictNumber a) ∷ finals rest
-unfolding finals verdictOf verdictNumber
-settled-read n (refused k) s rest = rw (lt-ltb k 256 s)
-settled-read n (gives moreWanted) s rest = absurd s
-settled-read n (gives (accepted t)) s rest =
-    let e : 256 + t - 256 ≡ t = omega arith in
-    let d : ltb (256 + t) 256 ≡ false = le-ltb (256 + t) 256 (omega arith) in
-    rw (d, e)
-
-unfoldable pub heardNumber : Heard → ℕ
-unfolding verdictNumber
-heardNumber (fed n a) = verdictNumber a
-heardNumber (closedLane a) = 0
+use Rattle.promises.specs.Calls.{Question, reply, Made, one, many, file, ask, reopen, Told, heard, batched, replied, numbersIn, afterBatch, told, after, cut, handed, verdictOf, verdictsTold}
+use Rattle.promises.specs.VerdictNumbers.{verdict-small, Settled, finished-settled, settled-read}
+use Rattle.promises.specs.FileLaws.{file-after, file-verdicts, file-same}
 
 -- ---- a text with its semicolon, alone
 
@@ -117,7 +63,7 @@ feedings l n p = map (feed l) (cut n p)
 
 pub record BatchIs (n : ℕ) (h : Held) (l : ℕ) (p : List ℕ) : Type 0 where
   pub ends : batching n h l p .after ≡ ending h (feedings l n p)
-  pub hears : batching n h l p .verdicts ≡ take n (map heardNumber (answers h (feedings l n p)))
+  pub hears : batching n h l p .verdicts ≡ take n (map heardVerdict (answers h (feedings l n p)))
   pub judges : map verdictOf (batching n h l p .verdicts) ≡ finals (answers h (feedings l n p))
 
 -- what is heard of a feeding, and then of the calls cs on what it leaves
@@ -134,12 +80,12 @@ module _ (n : ℕ) (h : Held) (l : ℕ) (p : List ℕ) (lane : ltb l (h .opening
   batch-now = ap (λ (k : ℕ). withVerdict (verdictNumber (feeding h l p .answer)) (batching n (feeding h l p .after) l (drop k p))) (fed-taken h l p lane m)
 
   batch-more : BatchIs n (feeding h l p .after) l behind → BatchIs (suc n) h l p
-  unfolding withVerdict cut ending next answers answer heardNumber
+  unfolding withVerdict cut ending next answers answer heardVerdict
   batch-more rest = record {
     ends = ap (λ (b : Batched). b .after) batch-now ∙ rest .ends ∙ ap (λ (f : Fed). ending (f .after) (feedings l n behind)) (fed-first h l p lane m);
     hears =
         ap (λ (b : Batched). b .verdicts) batch-now ∙ ap (λ (vs : List ℕ). verdictNumber (feeding h l p .answer) ∷ vs) (rest .hears)
-        ∙ ap (λ (f : Fed). take (suc n) (map heardNumber (heardThen f (feedings l n behind)))) (fed-first h l p lane m);
+        ∙ ap (λ (f : Fed). take (suc n) (map heardVerdict (heardThen f (feedings l n behind)))) (fed-first h l p lane m);
     judges =
         ap (λ (b : Batched). map verdictOf (b .verdicts)) batch-now
         ∙ ap (λ (vs : List Final). verdictOf (verdictNumber (feeding h l p .answer)) ∷ vs) (rest .judges)
@@ -151,7 +97,7 @@ module _ (n : ℕ) (h : Held) (l : ℕ) (p : List ℕ) (lane : ltb l (h .opening
   lane-stays = ap (λ (o : Opening). ltb l (o .numbers .lanes)) (feeding-opening h l p) ∙ lane
 
 pub batch-is : (n : ℕ) (h : Held) (l : ℕ) (p : List ℕ) → ltb l (h .opening .numbers .lanes) ≡ true → semicolons p ≡ n → BatchIs n h l p
-unfolding batching cut ending next answers answer heardNumber finals
+unfolding batching cut ending next answers answer heardVerdict finals
 batch-is zero h l p lane e = record {
   ends = refl;
   hears = refl;
@@ -175,6 +121,7 @@ module _ (h : Held) where
       go true true e = unfold afterBatch in refl
       go true false e = unfold afterBatch in batch-is (semicolons p) h l p e refl .ends
       go false c e = unfold afterBatch in refl
+  after-handed (file f v) = file-after h f (length v)
   after-handed (ask q) = refl
   after-handed (reopen x names first second) = refl
 
@@ -214,6 +161,7 @@ module _ (lent : ℕ) (h : Held) where
           ap (λ (vs : List ℕ). map verdictOf vs ++ verdictsTold rest) (take-append-seam (batching (semicolons p) h l p .verdicts) _)
           ∙ ap (λ (vs : List Final). vs ++ verdictsTold rest) (batch-is (semicolons p) h l p e refl .judges)
       go false c e = refl
+  verdicts-handed (file f v) rest = file-verdicts lent h f v rest
   verdicts-handed (ask q) rest = refl
   verdicts-handed (reopen x names first second) rest = refl
 
@@ -230,7 +178,7 @@ module _ (lent : ℕ) (h k : Held) (lanes : h .opening .numbers .lanes ≡ k .op
   many-same l p v true true a e = refl
   many-same l p v true false a e =
       ap (λ (vs : List ℕ). batched (gives (length vs)) (vs ++ drop (length vs) v))
-      (batch-is (semicolons p) h l p a refl .hears ∙ ap (λ (as′ : List Heard). take (semicolons p) (map heardNumber as′)) e
+      (batch-is (semicolons p) h l p a refl .hears ∙ ap (λ (as′ : List Heard). take (semicolons p) (map heardVerdict as′)) e
       ∙ sym (batch-is (semicolons p) k l p (ap (ltb l) (sym lanes) ∙ a) refl .hears))
   many-same l p v false c a e = refl
 
@@ -241,5 +189,6 @@ module _ (lent : ℕ) (h k : Held) (lanes : h .opening .numbers .lanes ≡ k .op
   told-same (many l p v) e asked =
       told-many lent h l p v ∙ many-same l p v (ltb l (h .opening .numbers .lanes)) (ltb (length v) (semicolons p)) refl e
       ∙ ap (λ (n : ℕ). batchTold (ltb l n) (ltb (length v) (semicolons p)) (batching (semicolons p) k l p .verdicts) v) lanes ∙ sym (told-many lent k l p v)
+  told-same (file f v) e asked = file-same lent h k f v e
   told-same (ask q) e asked = ap replied (asked q refl)
   told-same (reopen x names first second) e asked = refl

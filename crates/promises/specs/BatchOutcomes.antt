@@ -9,9 +9,9 @@ use Prim.Native.Nat.{ℕ}
 use lib.ListN.{length}
 use denote.Ref.{now}
 use Rattle.trees.specs.Plain.{if_then_else_, Answer, refused, gives}
-use Rattle.trees.specs.Batch.{Batched}
+use Rattle.trees.specs.Batch.{noneAccepted, Batched}
 use Rattle.answers.specs.declared.Number.{Number}
-use Rattle.feeding.specs.Feeding.{batchOf, noneAccepted, BatchedAs}
+use Rattle.feeding.specs.Feeding.{batchOf, BatchedAs}
 use Rattle.feeding.proofs.batch.Reads as batch
 use Rattle.promises.specs.Once.{Once, arg1, arg2, arg3, arg4, Free, nothing, lane, store, SameBut}
 use Rattle.promises.specs.Outcomes.{both, number-both, holds-both, outside-both}

@@ -4,30 +4,37 @@
 --   Reply                how it is answered: by a number or a split, and by the lent buffers as they are left
 --   reply h q            what the collection h answers to q
 --   Made                 a call: `one`, a feeding or a closing; `many`, a batch, with its lane, its piece and the lent buffer for its verdicts;
---                        `ask`, a question; `reopen`, an opening that is refused, with its numbers, its name list and its constants
+--                        `file`, a NEXUS file, with the lent buffer for its verdicts; `ask`, a question; `reopen`, an opening that is refused, with its numbers, its name list and its constants
 --   Told                 what a call answers
 --   told lent h c        what the call c answers of the collection h in so many lent bytes
 --   after h c            what is held after it
 --   toldAll, afterAll    the same of the calls cs, one after another
 --   cut n p              the piece p in pieces: n texts, each with its semicolon, and what is behind them
---   handed n c           the feedings and closings that the call c comes to, on n lanes: a batch feeds its texts one after another
+--   textsIn f room       the plain texts that the NEXUS file f hands in, with room for so many verdicts
+--   handed n c           the feedings and closings that the call c comes to, on n lanes: a batch feeds its texts one after another, and a file
+--                        hands in its plain texts
 --   handedAll n cs       those of the calls cs, one after another
---   verdictOf v          the verdict that a batch gives as the number v
---   verdictsTold as      the verdicts among the answers as, in order, those of a batch in their places
+--   verdictOf v          the verdict that a batch or a file gives as the number v
+--   verdictsTold as      the verdicts among the answers as, in order, those of a batch or a file in their places
 --   isCollisions c       the call c asks for the collision number
 --   otherTold cs as      the answers as to the calls cs, without the collision numbers
 use Prim.Native.Nat.{ℕ, zero, suc, _-_}
 use mathlib.Core.Bool.{Bool, true, false}
 use mathlib.Core.List.{List, [], _∷_, _++_, map}
+use mathlib.Core.Option.{none, some}
 use lib.Dec.{ltb}
 use lib.ListN.{length, take, drop}
 use Rattle.trees.specs.Plain.{if_then_else_, Answer, refused, gives}
 use Rattle.trees.specs.Text.{semicolon}
+use Rattle.trees.specs.Names.{different}
 use Rattle.trees.specs.Opening.{Numbers, opening}
 use Rattle.trees.specs.Held.{Held, beforeSemicolon}
 use Rattle.trees.specs.Batch.{semicolons, Batched, batch}
+use Rattle.trees.specs.Nexus.{File}
+use Rattle.trees.specs.NexusReading.{readFile}
+use Rattle.trees.specs.NexusCall.{keysOf, plainTexts, nexus}
 use Rattle.trees.specs.Questions.{treesHeld, splitsHeld, splitList, splitNumber, treeNumber, oneSidedOf, doubledOf, matrixOf, collisionsOf, strictOf, majorityOf, bothOf, writtenOf}
-use Rattle.trees.specs.Runs.{Call, feed, Heard, answer, next, Final, acceptedAs, refusedWith, finals}
+use Rattle.trees.specs.Runs.{Call, feed, hand, Heard, answer, next, Final, acceptedAs, refusedWith, finals}
 use Rattle.answers.specs.Filled.{lengthGiven, front, firstOf, secondOf, lengthsGiven}
 
 -- ---- questions
@@ -89,17 +96,18 @@ reply h (write-accepted i out) = fill (writtenOf h i (length out)) out
 pub data Made : Type 0 where
   one : Call → Made
   many : ℕ → List ℕ → List ℕ → Made
+  file : List ℕ → List ℕ → Made
   ask : Question → Made
   reopen : Numbers → List ℕ → List ℕ → List ℕ → Made
 
--- a batch answers how many verdicts it wrote, and leaves their buffer
+-- a batch or a file answers how many verdicts it wrote, and leaves their buffer
 pub data Told : Type 0 where
   heard : Heard → Told
   batched : Answer ℕ → List ℕ → Told
   replied : Reply → Told
   notOpened : ℕ → Told
 
--- the verdicts that a batch gives, and what is held after it
+-- the verdicts that a batch or a file gives, and what is held after it
 unfoldable pub numbersIn : Answer Batched → Answer (List ℕ)
 numbersIn (refused k) = refused k
 numbersIn (gives b) = gives (b .verdicts)
@@ -114,16 +122,18 @@ refusalIn (refused k) = k
 refusalIn (gives x) = 0
 
 unfoldable pub told : ℕ → Held → Made → Told
-unfolding answer batch numbersIn lengthGiven front reply opening refusalIn
+unfolding answer batch nexus numbersIn lengthGiven front reply opening refusalIn
 told lent h (one c) = heard (answer h c)
 told lent h (many l p v) = let x = numbersIn (batch h l p (length v)) in batched (lengthGiven x) (front x v)
+told lent h (file f v) = let x = numbersIn (nexus h f (length v)) in batched (lengthGiven x) (front x v)
 told lent h (ask q) = replied (reply h q)
 told lent h (reopen x names first second) = notOpened (refusalIn (opening x names first second lent))
 
 unfoldable pub after : Held → Made → Held
-unfolding next batch afterBatch
+unfolding next batch nexus afterBatch
 after h (one c) = next h c
 after h (many l p v) = afterBatch h (batch h l p (length v))
+after h (file f v) = afterBatch h (nexus h f (length v))
 after h (ask q) = h
 after h (reopen x names first second) = h
 
@@ -145,11 +155,21 @@ unfolding beforeSemicolon
 cut zero p = p ∷ []
 cut (suc n) p = (beforeSemicolon p ++ semicolon ∷ []) ∷ cut n (drop (suc (length (beforeSemicolon p))) p)
 
+-- a file that is refused hands in nothing
+unfoldable pub textsFor : File → ℕ → List (List ℕ)
+unfolding different keysOf plainTexts
+textsFor x room = if different (keysOf (x .pairs)) then if ltb room (length (x .texts)) then [] else plainTexts x else []
+
+unfoldable pub textsIn : List ℕ → ℕ → List (List ℕ)
+unfolding readFile textsFor
+textsIn f room = elim (readFile f) [ none ↦ [] | some x ↦ textsFor x room ]
+
 -- a batch that is refused, for its lane or for its buffer, takes nothing
 unfoldable pub handed : ℕ → Made → List Call
-unfolding semicolons cut
+unfolding semicolons cut textsIn
 handed n (one c) = c ∷ []
 handed n (many l p v) = if ltb l n then if ltb (length v) (semicolons p) then [] else map (feed l) (cut (semicolons p) p) else []
+handed n (file f v) = map hand (textsIn f (length v))
 handed n (ask q) = []
 handed n (reopen x names first second) = []
 
@@ -178,6 +198,7 @@ verdictsTold (notOpened k ∷ as′) = verdictsTold as′
 unfoldable pub isCollisions : Made → Bool
 isCollisions (one c) = false
 isCollisions (many l p v) = false
+isCollisions (file f v) = false
 isCollisions (ask tree-count) = false
 isCollisions (ask split-count) = false
 isCollisions (ask (one-split k)) = false

@@ -1,8 +1,8 @@
--- The promises of the entry points leave one outcome each; a batch's stands in BatchOutcomes, those of the summary in SheetOutcomes and
+-- The promises of the entry points leave one outcome each; a batch's stands in BatchOutcomes, a NEXUS file's in FileOutcomes, those of the summary in SheetOutcomes and
 -- TextsOutcomes. Each theorem is over the function's own `Post`, and none asks anything of the arguments. Assumes nothing.
 --
 --   agree-once, is-whole-once                                     the tests
---   refusal-number-once, size-once, tree-count-once, split-count-once, one-split-once, one-sided-once, doubled-once, collisions-once
+--   refusal-number-once, verdict-number-once, size-once, tree-count-once, split-count-once, one-split-once, one-sided-once, doubled-once, collisions-once
 --                                                                 the questions without a buffer
 --   split-list-once, tree-splits-once, matrix-once, strict-once, majority-once, both-once, write-accepted-once
 --                                                                 the questions with one: the answer, and every element of the buffer
@@ -26,6 +26,7 @@ use Rattle.opening.specs.Given.{numbersOf}
 use Rattle.table.specs.Promises.{OpenedAs}
 use Rattle.feeding.specs.Feeding.{reached, fedOf, closedOf, isAccepted, FedAs, ClosedAs}
 use Rattle.answers.proofs.refusal_number.Reads as refusal-number
+use Rattle.answers.proofs.verdict_number.Reads as verdict-number
 use Rattle.masks.proofs.agree.Reads as agree
 use Rattle.store.proofs.is_whole.Reads as is-whole
 use Rattle.store.specs.Lent.{ifWhole}
@@ -61,6 +62,9 @@ is-whole-once k x q r y z a b = both a b
 
 pub refusal-number-once : AnswerOnce refusal-number.Post
 refusal-number-once k x q r y z a b = both a b
+
+pub verdict-number-once : AnswerOnce verdict-number.Post
+verdict-number-once k x q r y z a b = both a b
 
 pub size-once : AnswerOnce size.Post
 size-once k x q r y z a b = number-both q r a b
@@ -161,7 +165,7 @@ close-once k x q r y z a b = closed-both _ _ q r _ _ a b
 -- ---- two lent bytes that are the same as stores
 
 module _ (t u : List ℕ) (e : SameStore t u) where
-  -- every question asks of what is held, and a batch does
+  -- every question asks of what is held, and a batch and a NEXUS file do
   pub asked-same : {A : Type 0} (f : Held → Answer A) → ifWhole t f ≡ ifWhole u f
   unfolding ifWhole
   asked-same {A} f = ap₂ {C = Answer A} (λ (b : Bool) (h : Held). if b then f h else refused 1) (e .whole) (e .holding)

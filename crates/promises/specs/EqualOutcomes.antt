@@ -10,7 +10,7 @@
 --   words       decimal-once
 --   records     mask-of-once, place-of-once, identifier-of-once, insert-record-once, put-record-once
 --   head        taxa-once, lanes-once, tree-room-once, split-room-once, places-once, first-constant-once, second-constant-once, find-
---               taxon-once
+--               taxon-once, key-of-once, same-runs-once
 --   opening     numbers-in-range-once, constants-good-once, names-good-once, is-name-once, same-names-once, store-size-once, write-
 --               head-once
 --   layout      trees-held-once, splits-held-once, lane-from-once, tree-from-once, masks-from-once, identifiers-from-once, counts-
@@ -65,6 +65,8 @@ use Rattle.head.proofs.places.Reads as places
 use Rattle.head.proofs.first_constant.Reads as first-constant
 use Rattle.head.proofs.second_constant.Reads as second-constant
 use Rattle.head.proofs.find_taxon.Reads as find-taxon
+use Rattle.head.proofs.key_of.Reads as key-of
+use Rattle.head.proofs.same_runs.Reads as same-runs
 use Rattle.opening.proofs.numbers_in_range.Reads as numbers-in-range
 use Rattle.opening.proofs.constants_good.Reads as constants-good
 use Rattle.opening.proofs.names_good.Reads as names-good
@@ -239,6 +241,12 @@ second-constant-once k x q r y z a b = both a b
 
 pub find-taxon-once : AnswerOnce find-taxon.Post
 find-taxon-once k x q r y z a b = both (a .0) (b .0)
+
+pub key-of-once : AnswerOnce key-of.Post
+key-of-once k x q r y z a b = both (a .0) (b .0)
+
+pub same-runs-once : AnswerOnce same-runs.Post
+same-runs-once k x q r y z a b = both a b
 
 -- ---- opening
 

@@ -2,15 +2,19 @@
 -- what is printed is the summary of the input.
 pub mod Calls
 pub mod Steps
+pub mod VerdictNumbers
+pub mod FileLaws
 pub mod BatchLaws
 pub mod Once
 pub mod Outcomes
 pub mod StepLaws
 pub mod RunLaws
 pub mod QuietStepLaws
+pub mod FileCallLaws
 pub mod ReadBackCallLaws
 pub mod EntryOutcomes
 pub mod BatchOutcomes
+pub mod FileOutcomes
 pub mod SheetOutcomes
 pub mod TextsOutcomes
 pub mod EqualOutcomes

@@ -56,7 +56,9 @@ refusalOf n =
     else if eqb n 11 then why.NoTreeRoom
     else if eqb n 12 then why.NoSplitRoom
     else if eqb n 13 then why.NoSuchNumber
-    else why.NoTrees
+    else if eqb n 14 then why.NoTrees
+    else if eqb n 15 then why.BadBlock
+    else why.RepeatedKey
 
 numbered : (r : Refusal) → refusalOf (refusalNumber r) ≡ r
 unfolding refusalOf refusalNumber
@@ -74,6 +76,8 @@ numbered why.NoTreeRoom = refl
 numbered why.NoSplitRoom = refl
 numbered why.NoSuchNumber = refl
 numbered why.NoTrees = refl
+numbered why.BadBlock = refl
+numbered why.RepeatedKey = refl
 
 pub refusal-one : (a b : Refusal) → refusalNumber a ≡ refusalNumber b → a ≡ b
 refusal-one a b e = sym (numbered a) ∙ ap refusalOf e ∙ numbered b

@@ -19,8 +19,9 @@ use Rattle.trees.specs.Opening.{Numbers, Opening, inRange, goodConstants, store
 use Rattle.trees.specs.Held.{Held, opened, feeding, closing}
 use Rattle.trees.specs.Held as held
 use Rattle.trees.specs.Batch.{Batched, batch}
+use Rattle.trees.specs.NexusCall.{nexus}
 use Rattle.trees.specs.Questions.{treesHeld, splitsHeld, splitList, splitNumber, treeNumber, oneSidedOf, doubledOf, matrixOf, collisionsOf, strictOf, majorityOf, bothOf, writtenOf}
-use Rattle.trees.specs.Runs.{feed, close, fed, closedLane, answer, next}
+use Rattle.trees.specs.Runs.{feed, hand, close, fed, closedLane, answer, next}
 use Rattle.theorems.specs.ListLaws.{by-test}
 use Rattle.theorems.specs.WrittenFedLaws.{feeding-by}
 use Rattle.theorems.specs.RunLaws.{ending-opening}
@@ -37,8 +38,9 @@ use Rattle.store.specs.Lent.{Holds}
 use Rattle.store.specs.LentLaws.{when-whole}
 use Rattle.table.specs.Promises.{OpenedAs}
 use Rattle.feeding.specs.Feeding.{reached, fedOf, closedOf, batchOf, FedAs, ClosedAs, BatchedAs}
+use Rattle.nexus.specs.Fed.{nexusOf, NexusAs}
 use Rattle.summary.specs.PartLaws.{holds-then}
-use Rattle.promises.specs.Calls.{Question, tree-count, split-count, one-split, split-list, tree-splits, one-sided, doubled, matrix, collisions, strict, majority, both, write-accepted, Reply, number, split, filled, bothFilled, eachFilled, fill, fillBoth, fillEach, reply, Made, one, many, ask, reopen, Told, heard, batched, replied, notOpened, numbersIn, afterBatch, refusalIn, told, after, toldAll, afterAll, handed}
+use Rattle.promises.specs.Calls.{Question, tree-count, split-count, one-split, split-list, tree-splits, one-sided, doubled, matrix, collisions, strict, majority, both, write-accepted, Reply, number, split, filled, bothFilled, eachFilled, fill, fillBoth, fillEach, reply, Made, one, many, file, ask, reopen, Told, heard, batched, replied, notOpened, numbersIn, afterBatch, refusalIn, told, after, toldAll, afterAll, handed}
 use Rattle.promises.specs.Steps.{Asked, Opens, Step, Steps}
 use Rattle.promises.specs.BatchLaws.{after-handed}
 
@@ -187,6 +189,13 @@ module _ (s : List ℕ) (w : wholeAt s ≡ true) (t : List ℕ) where
   batch-follows (refused k) l r v u q = (stays (q .1), ap₂ batched (q .0) (q .2))
   batch-follows (gives b) l r v u q = (q .1, ap₂ batched (q .0) (q .2))
 
+  -- a file that gives x
+  file-follows : (x : Answer Batched) (r : Number) (v u : List ℕ) → NexusAs x r s v t u
+      → Holds (afterBatch (heldAt s) x) s t × (batched (numberGiven r) u ≡ batched (lengthGiven (numbersIn x)) (front (numbersIn x) v))
+  unfolding NexusAs afterBatch numbersIn lengthGiven front
+  file-follows (refused k) r v u q = (stays (q .1), ap₂ batched (q .0) (q .2))
+  file-follows (gives b) r v u q = (q .1, ap₂ batched (q .0) (q .2))
+
   pub step-follows : (c : Made) (a : Told) → Step s c a t → Holds (after (heldAt s) c) s t × (a ≡ told (length s) (heldAt s) c)
   unfolding Step after told next answer
   step-follows (one (feed l p)) a q =
@@ -198,6 +207,7 @@ module _ (s : List ℕ) (w : wholeAt s ≡ true) (t : List ℕ) where
       go : (b : Bool) → reached s l ≡ b → Holds (feeding (heldAt s) l p .after) s t
       go true e = rw (fed-whole s w l p) at (f .holds e)
       go false e = rw (fed-nowhere s w l p e) (stays (f .found e))
+  step-follows (one (hand x)) a q = absurd q
   step-follows (one (close l)) a q = (go (reached s l) refl, q .2 ∙ ap (λ (x : Answer (Unit {0})). heard (closedLane x)) (f .answer ∙ rw (closed-whole s w l) refl))
     where
       f : ClosedAs s l (q .0) t
@@ -209,6 +219,11 @@ module _ (s : List ℕ) (w : wholeAt s ≡ true) (t : List ℕ) where
   step-follows (many l p v) a q =
       let f : BatchedAs (batchOf s l p (length v)) l (q .0) s v t (q .1) = q .2 in
       let r = batch-follows (batch (heldAt s) l p (length v)) l (q .0) v (q .1) (subst (λ (x : Answer Batched). BatchedAs x l (q .0) s v t (q .1)) (batch-whole l p v) f) in
+      (r .0, q .3 ∙ r .1)
+  step-follows (file f v) a q =
+      let g : NexusAs (nexusOf s f (length v)) (q .0) s v t (q .1) = q .2 in
+      let r = file-follows (nexus (heldAt s) f (length v)) (q .0) v (q .1)
+      (subst (λ (x : Answer Batched). NexusAs x (q .0) s v t (q .1)) (when-whole s (λ h. nexus h f (length v)) w) g) in
       (r .0, q .3 ∙ r .1)
   step-follows (ask x) a q = (stays (q .3), q .2 ∙ ap replied (asked-follows s w x (q .0) (q .1)))
   step-follows (reopen x names first second) a q =
@@ -245,6 +260,7 @@ pub told-lent : (s s′ : List ℕ) (c : Made) (a a′ : Told) (t t′ : List �
 unfolding told
 told-lent s s′ (one c) a a′ t t′ p q h = refl
 told-lent s s′ (many l x v) a a′ t t′ p q h = refl
+told-lent s s′ (file f v) a a′ t t′ p q h = refl
 told-lent s s′ (ask x) a a′ t t′ p q h = refl
 told-lent s s′ (reopen x names first second) a a′ t t′ p q h =
     let y = reopened x names first second s t a p in

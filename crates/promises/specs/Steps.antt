@@ -13,7 +13,7 @@ use mathlib.Core.List.{List, [], _∷_}
 use denote.Ref.{RefT}
 use Rattle.trees.specs.Plain.{refused, gives}
 use Rattle.trees.specs.Opening.{Numbers}
-use Rattle.trees.specs.Runs.{feed, close, fed, closedLane}
+use Rattle.trees.specs.Runs.{feed, hand, close, fed, closedLane}
 use Rattle.answers.specs.declared.Fed.{Fed}
 use Rattle.answers.specs.declared.Finish.{Finish}
 use Rattle.answers.specs.declared.Number.{Number}
@@ -37,7 +37,8 @@ use Rattle.consensus.proofs.write_accepted.Reads as writes
 use Rattle.feeding.proofs.feed.Reads as feeds
 use Rattle.feeding.proofs.close.Reads as closes
 use Rattle.feeding.proofs.batch.Reads as batches
-use Rattle.promises.specs.Calls.{Question, tree-count, split-count, one-split, split-list, tree-splits, one-sided, doubled, matrix, collisions, strict, majority, both, write-accepted, Reply, number, split, filled, bothFilled, eachFilled, Made, one, many, ask, reopen, Told, heard, batched, replied, notOpened}
+use Rattle.nexus.proofs.feed_file.Reads as files
+use Rattle.promises.specs.Calls.{Question, tree-count, split-count, one-split, split-list, tree-splits, one-sided, doubled, matrix, collisions, strict, majority, both, write-accepted, Reply, number, split, filled, bothFilled, eachFilled, Made, one, many, file, ask, reopen, Told, heard, batched, replied, notOpened}
 
 abbrev pub lent : List ℕ → RefT (List ℕ)
 lent s = record { ptr = (0, 0); name = 0; now = s }
@@ -100,11 +101,17 @@ unfolding progressGiven finishGiven numberGiven Asked
 Step s (one (feed l p)) a t =
     (r : Fed) × feeds.Post ([], ([], tt)) (lent s, (record { 0 = l }, (lent p, tt))) r (lent t, (record { 0 = l }, (lent p, tt)))
     × (a ≡ heard (fed (r .taken) (progressGiven (r .progress))))
+-- a text is handed in by a file alone
+Step s (one (hand x)) a t = ⊥
 Step s (one (close l)) a t =
     (r : Finish) × closes.Post ([], tt) (lent s, (record { 0 = l }, tt)) r (lent t, (record { 0 = l }, tt)) × (a ≡ heard (closedLane (finishGiven r)))
 Step s (many l p v) a t =
     (r : Number) × (w : List ℕ)
     × batches.Post ([], ([], ([], tt))) (lent s, (record { 0 = l }, (lent p, (lent v, tt)))) r (lent t, (record { 0 = l }, (lent p, (lent w, tt))))
+    × (a ≡ batched (numberGiven r) w)
+Step s (file f v) a t =
+    (r : Number) × (w : List ℕ)
+    × files.Post ([], ([], ([], tt))) (lent s, (lent f, (lent v, tt))) r (lent t, (lent f, (lent w, tt)))
     × (a ≡ batched (numberGiven r) w)
 -- a question has the store as a `&[u8]`, which stays
 Step s (ask q) a t = (x : Reply) × Asked s q x × (a ≡ replied x) × (t ≡ s)

@@ -9,10 +9,10 @@ use mathlib.Core.Bool.{Bool, true, false}
 use mathlib.Core.List.{List}
 use Rattle.trees.specs.Plain.{if_then_else_}
 use Rattle.trees.specs.Held.{closing}
+use Rattle.trees.specs.Batch.{noneAccepted}
 use Rattle.answers.specs.declared.Number.{Number}
 use Rattle.layout.specs.Store.{heldAt}
 use Rattle.layout.specs.WholeStore.{wholeAt}
-use Rattle.feeding.specs.Feeding.{noneAccepted}
 use Rattle.summary.specs.declared.Taken.{Taken}
 use Rattle.summary.specs.FirstLine.{Kept, TakenAs}
 use Rattle.summary.specs.Texts.{textsFed, TextsAs, ClosedAs}

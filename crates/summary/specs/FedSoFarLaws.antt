@@ -15,7 +15,7 @@ use lib.ListN.{length, length-replicate}
 use Rattle.trees.specs.Plain.{Answer, refused, gives}
 use Rattle.trees.specs.Opening.{Opening}
 use Rattle.trees.specs.Held.{Held, holding, Fed, opened, laneOf, withLane, longer, closing}
-use Rattle.trees.specs.Batch.{semicolons, Batched, batching}
+use Rattle.trees.specs.Batch.{semicolons, isRefusal, Batched, batching}
 use Rattle.theorems.specs.ListLaws.{keep-most}
 use Rattle.theorems.specs.PieceLaws.{set-replicate, getD-all}
 use Rattle.answers.specs.declared.Number.{Number}
@@ -26,7 +26,6 @@ use Rattle.layout.specs.Store.{heldAt}
 use Rattle.layout.specs.WholeStore.{wholeAt}
 use Rattle.store.specs.Lent.{Holds}
 use Rattle.store.specs.LentLaws.{when-whole}
-use Rattle.feeding.specs.Feeding.{isRefusal}
 use Rattle.feeding.specs.BatchLaws.{batching-length}
 use Rattle.feeding.specs.CutLaws.{LaneThere, fed-open, joined, batching-opening}
 use Rattle.summary.specs.declared.Summing.{Summing}

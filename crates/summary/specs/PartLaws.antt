@@ -22,7 +22,7 @@ use borrow.Author.Tests.{lt-ltb, le-ltb}
 use Rattle.trees.specs.Plain.{keep, Answer, refused, gives}
 use Rattle.trees.specs.Opening.{Numbers}
 use Rattle.trees.specs.Held.{Held}
-use Rattle.trees.specs.Batch.{semicolons, Batched, batching, batch}
+use Rattle.trees.specs.Batch.{semicolons, isRefusal, Batched, batching, batch}
 use Rattle.theorems.specs.ListLaws.{keep-append, keep-most}
 use Rattle.answers.specs.declared.Number.{Number}
 use Rattle.answers.specs.declared.Number.the-variants as number
@@ -34,7 +34,7 @@ use Rattle.layout.specs.WholeStore.{wholeAt}
 use Rattle.store.specs.HeldWholeLaws.{held-numbers, texts-length, opening-facts}
 use Rattle.store.specs.Lent.{Holds}
 use Rattle.store.specs.LentLaws.{not-whole, when-whole}
-use Rattle.feeding.specs.Feeding.{batchOf, isRefusal, BatchedAs}
+use Rattle.feeding.specs.Feeding.{batchOf, BatchedAs}
 use Rattle.feeding.specs.BatchLaws.{none-front, none-back}
 use Rattle.feeding.specs.EndLaws.{semicolons-append}
 use Rattle.feeding.specs.CutLaws.{LaneThere, joined, batching-opening, batching-append}

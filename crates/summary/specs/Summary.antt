@@ -19,9 +19,8 @@ use lib.ListN.{length}
 use Rattle.trees.specs.Plain.{if_then_else_, keep, bytes, byte, Answer, refused, gives}
 use Rattle.trees.specs.Opening.{Numbers, Opening, opening}
 use Rattle.trees.specs.Held.{opened, closing}
-use Rattle.trees.specs.Batch.{semicolons, Batched, batching}
+use Rattle.trees.specs.Batch.{semicolons, isRefusal, Batched, batching}
 use Rattle.head.specs.Head.{upTo}
-use Rattle.feeding.specs.Feeding.{isRefusal}
 use Rattle.sheet.specs.Sheet.{sheetLines, refusalLine}
 use Rattle.sheet.specs.Asked.{bytesOf}
 

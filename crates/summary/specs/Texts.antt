@@ -14,13 +14,13 @@ use mathlib.Core.List.{List}
 use lib.Dec.{ltb}
 use Rattle.trees.specs.Plain.{if_then_else_, Answer, gives}
 use Rattle.trees.specs.Held.{Held, closing}
-use Rattle.trees.specs.Batch.{semicolons, Batched, batching}
+use Rattle.trees.specs.Batch.{semicolons, noneAccepted, Batched, batching}
 use Rattle.answers.specs.declared.Number.{Number}
 use Rattle.answers.specs.Answers.{numberGiven}
 use Rattle.layout.specs.Store.{heldAt}
 use Rattle.layout.specs.WholeStore.{wholeAt}
 use Rattle.store.specs.Lent.{ifWhole, Holds}
-use Rattle.feeding.specs.Feeding.{SameOutside, noneAccepted}
+use Rattle.feeding.specs.Feeding.{SameOutside}
 use Rattle.summary.specs.Summary.{refusedIn, refusedAfter}
 
 abbrev pub part : ℕ

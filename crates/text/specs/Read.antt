@@ -18,7 +18,7 @@ use lib.Dec.{eqb, ltb}
 use lib.ListN.{length, getD, drop}
 use lib.Seq.{slice}
 use Rattle.trees.specs.Plain.{if_then_else_}
-use Rattle.trees.specs.Text.{Symbol, Kind, blank, label, mark, kind, openBracket, closeBracket, comma, colon, stray, token, symbols, symbolsAfter, ended}
+use Rattle.trees.specs.Text.{Symbol, Kind, blank, label, mark, kind, isLabelByte, openBracket, closeBracket, comma, colon, stray, token, symbols, symbolsAfter, ended}
 use Rattle.trees.specs.Length.{isDigit}
 use Rattle.trees.specs.Tree.{Nodes, nil, inner, width}
 use Rattle.trees.specs.Reading.{Read, readLength, readClosing}
@@ -58,6 +58,8 @@ pub record RunEnd (s : List ℕ) (i r : ℕ) : Type 0 where
   pub past : i ≤ r
   pub within : r ≤ length s
   pub tokens : (w : List ℕ) → symbolsAfter w (drop i s) ≡ ended (w ++ slice i r s) (symbolsAt s r)
+  pub each : (j : ℕ) → i ≤ j → j < r → isLabelByte (getD s j 0) ≡ true
+  pub stop : r < length s → isLabelByte (getD s r 0) ≡ false
 
 -- the bytes from i up to r are digits, and there are none where the byte before is not of the class 0, a digit
 pub record DigitsEnd (s : List ℕ) (i k r : ℕ) : Type 0 where

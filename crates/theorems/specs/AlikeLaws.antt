@@ -2,6 +2,7 @@
 --
 --   verdict-alike                  the verdict on a lane's text
 --   feeding-alike, closing-alike   feeding and closing a lane that holds the same
+--   judged-alike, recorded-alike   a text that is handed in
 --   questions-alike                every question but that for the collision number
 --   closing-by                     what closing does, from its test
 use Prim.Native.Nat.{ℕ, suc, _+_}
@@ -14,6 +15,7 @@ use Rattle.trees.specs.Plain.{if_then_else_, keep, member, Answer, refused, giv
 use Rattle.trees.specs.Consensus.{recorded}
 use Rattle.trees.specs.Verdict.{judged}
 use Rattle.trees.specs.Held.{Held, Lane, holding, overrun, laneOf, withLane, withTree, longer, newSplits, roomFor, withRoom, verdict, accepted, beforeSemicolon, finished, recording, finishing, feeding, Closed, closed, closing}
+use Rattle.trees.specs.NexusCall.{onText}
 use Rattle.trees.specs.Questions.{treesHeld, splitsHeld, splitList, splitNumber, treeNumber, oneSidedOf, doubledOf, matrixOf, strictOf, majorityOf, bothOf, writtenOf}
 use Rattle.theorems.specs.WrittenFedLaws.{feedingBy, feeding-by}
 use Rattle.theorems.specs.Alike.{Alike, SameFed, SameClosed, SameAnswers}
@@ -87,6 +89,28 @@ module _ (h k : Held) (a : Alike h k) where
       let forth : feeding k l p ≡ feedingBy (ltb l (h .opening .numbers .lanes)) (member 59 p) k l p = feeding-by k l p ∙ ap (λ n. feedingBy (ltb l n) (member 59 p) k l p) (sym (a .lanes)) in
       subst (λ f. SameFed f (feeding k l p)) (sym (feeding-by h l p))
       (subst (SameFed (feedingBy (ltb l (h .opening .numbers .lanes)) (member 59 p) h l p)) (sym forth) (fed-alike l p (ltb l (h .opening .numbers .lanes)) (member 59 p) e))
+
+  -- ---- a text that is handed in
+
+  recording-alike : (v : Answer (List ℕ)) → Alike (recording h v) (recording k v)
+  unfolding recording withTree
+  recording-alike (refused n) = a
+  recording-alike (gives t) = record { names = a .names; lanes = a .lanes; treeRoom = a .treeRoom; splitRoom = a .splitRoom; trees = λ i. a .trees i ++ t ∷ [] }
+
+  finished-alike : (v : Answer (List ℕ)) → finished h v ≡ finished k v
+  unfolding finished
+  finished-alike (refused n) = refl
+  finished-alike (gives t) = λ i. gives (accepted (length (a .trees i)))
+
+  text-alike : (t : List ℕ) → onText h t ≡ onText k t
+  unfolding onText
+  text-alike t = verdict-alike (longer (holding []) t)
+
+  pub judged-alike : (t : List ℕ) → finished h (onText h t) ≡ finished k (onText k t)
+  judged-alike t = finished-alike (onText h t) ∙ ap (finished k) (text-alike t)
+
+  pub recorded-alike : (t : List ℕ) → Alike (recording h (onText h t)) (recording k (onText k t))
+  recorded-alike t = subst (λ (v : Answer (List ℕ)). Alike (recording h (onText h t)) (recording k v)) (text-alike t) (recording-alike (onText h t))
 
   -- ---- closing
 

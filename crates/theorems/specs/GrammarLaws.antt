@@ -4,6 +4,7 @@
 --   reading-sound      what is read is a tree of the grammar
 --   reading-complete   every tree of the grammar is read
 --   one-tree           a text is at most one tree
+--   reading-symbols    texts with the same symbols are read the same
 --   no-tree            nothing is read exactly where no tree is: "7 exactly when the text is no tree"
 use Prim.Native.Nat.{ℕ, zero, suc, _+_, _*_, _≤_, _<_, max}
 use native.Mathlib.Omega.{arith}
@@ -254,6 +255,13 @@ no-tree s = (λ e t p. none-some t (sym e ∙ reading-complete s t p), λ f. go 
     go : (o : Option Nodes) → reading s ≡ o → ((t : Nodes) → IsTree s t → ⊥) → reading s ≡ none
     go none e f = e
     go (some t) e f = absurd (f t (reading-sound s t e))
+
+pub reading-symbols : (v w : List ℕ) → symbols v ≡ symbols w → reading v ≡ reading w
+reading-symbols v w q = go (reading w) refl
+  where
+    go : (o : Option Nodes) → reading w ≡ o → reading v ≡ reading w
+    go none e = no-tree v .1 (λ t p. no-tree w .0 e t (subst (λ x. IsNode 63 x t) q p)) ∙ sym e
+    go (some t) e = reading-complete v t (subst (λ x. IsNode 63 x t) (sym q) (reading-sound w t e)) ∙ sym e
 
 -- ---- nesting
 

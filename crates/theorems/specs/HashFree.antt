@@ -3,19 +3,20 @@
 --
 --   alike-run                      alike collections with the same unfinished texts answer every run of calls the same
 --   constants-make-no-difference   so do two openings that differ in the number of places and in the constants
-use Prim.Native.Nat.{ℕ}
+use Prim.Native.Nat.{ℕ, suc}
 use mathlib.Core.Path.{_≡_, refl, ap, ap₂, sym, _∙_}
 use mathlib.Core.List.{List, [], _∷_}
 use lib.Dec.{ltb}
-use lib.ListN.{getD, replicate}
+use lib.ListN.{length, getD, replicate}
 use Rattle.trees.specs.Plain.{gives}
 use Rattle.trees.specs.Opening.{Numbers, Opening, opening}
-use Rattle.trees.specs.Held.{Held, Lane, holding, opened, laneOf, feeding, closing}
+use Rattle.trees.specs.Held.{Held, Lane, holding, opened, laneOf, recording, feeding, closing}
+use Rattle.trees.specs.NexusCall.{onText}
 use Rattle.theorems.specs.HeldLaws.{Accepted, opening-accepted}
-use Rattle.trees.specs.Runs.{Call, feed, close, Heard, fed, closedLane, answer, next, answers, ending}
+use Rattle.trees.specs.Runs.{Call, feed, hand, close, Heard, fed, closedLane, answer, next, answers, ending}
 use Rattle.theorems.specs.Alike.{Alike, withPlaces, SameRun}
-use Rattle.theorems.specs.AlikeLaws.{feeding-alike, closing-alike, questions-alike}
-use Rattle.theorems.specs.OwnLaneLaws.{laneAfter, lanesAfter, feeding-texts, closing-texts}
+use Rattle.theorems.specs.AlikeLaws.{feeding-alike, judged-alike, recorded-alike, closing-alike, questions-alike}
+use Rattle.theorems.specs.OwnLaneLaws.{laneAfter, lanesAfter, recording-texts, feeding-texts, closing-texts}
 
 -- ---- one call
 
@@ -54,18 +55,28 @@ module _ (h k : Held) (s : Same h k) (l : ℕ) where
   unfolding answer
   closing-heard = ap closedLane (closing-alike h k (s .alike) l same-lane .answer)
 
+module _ (h k : Held) (s : Same h k) (t : List ℕ) where
+  handed-same : Same (recording h (onText h t)) (recording k (onText k t))
+  handed-same = record { alike = recorded-alike h k (s .alike) t; texts = recording-texts h (onText h t) ∙ s .texts ∙ sym (recording-texts k (onText k t)) }
+
+  handed-heard : answer h (hand t) ≡ answer k (hand t)
+  unfolding answer
+  handed-heard = ap (fed (suc (length t))) (judged-alike h k (s .alike) t)
+
 -- ---- a run of calls
 
 run-answers : (h k : Held) → Same h k → (cs : List Call) → answers h cs ≡ answers k cs
 unfolding answers next
 run-answers h k s [] = refl
 run-answers h k s (feed l p ∷ cs) = ap₂ (λ (a : Heard) (r : List Heard). a ∷ r) (feeding-heard h k s l p) (run-answers (feeding h l p .after) (feeding k l p .after) (feeding-same h k s l p) cs)
+run-answers h k s (hand t ∷ cs) = ap₂ (λ (a : Heard) (r : List Heard). a ∷ r) (handed-heard h k s t) (run-answers (recording h (onText h t)) (recording k (onText k t)) (handed-same h k s t) cs)
 run-answers h k s (close l ∷ cs) = ap₂ (λ (a : Heard) (r : List Heard). a ∷ r) (closing-heard h k s l) (run-answers (closing h l .after) (closing k l .after) (closing-same h k s l) cs)
 
 run-same : (h k : Held) → Same h k → (cs : List Call) → Same (ending h cs) (ending k cs)
 unfolding ending next
 run-same h k s [] = s
 run-same h k s (feed l p ∷ cs) = run-same (feeding h l p .after) (feeding k l p .after) (feeding-same h k s l p) cs
+run-same h k s (hand t ∷ cs) = run-same (recording h (onText h t)) (recording k (onText k t)) (handed-same h k s t) cs
 run-same h k s (close l ∷ cs) = run-same (closing h l .after) (closing k l .after) (closing-same h k s l) cs
 
 pub alike-run : (h k : Held) → Alike h k → h .texts ≡ k .texts → (cs : List Call) → SameRun h k cs

@@ -3,7 +3,7 @@
 --   Whole h             what the test of a whole collection says, as facts
 --   verdict-fits        a tree that a verdict gives is in order, and there is room for it
 --   opening-accepted    what an accepted opening fixes
---   opened-whole, feeding-whole, closing-whole    the calls keep "whole"
+--   opened-whole, feeding-whole, handed-whole, closing-whole    the calls keep "whole"
 use Prim.Native.Nat.{ℕ, zero, suc, _+_, _≤_, _<_}
 use native.Mathlib.Omega.{arith}
 use mathlib.Core.Path.{_≡_, refl, _∙_, subst}
@@ -18,6 +18,7 @@ use Rattle.trees.specs.Consensus.{recorded}
 use Rattle.trees.specs.Verdict.{judged}
 use Rattle.trees.specs.Opening.{Numbers, Opening, inRange, goodConstants, storeSize, opening}
 use Rattle.trees.specs.Held.{Held, Lane, holding, overrun, mostText, opened, laneOf, withLane, withTree, longer, newSplits, roomFor, withRoom, verdict, Fed, beforeSemicolon, recording, finishing, feeding, Closed, closing}
+use Rattle.trees.specs.NexusCall.{onText}
 use Rattle.trees.specs.Whole.{goodTree, goodLane, goodOpening}
 use Rattle.theorems.specs.WholeHeld.{whole}
 use Rattle.theorems.specs.ListLaws.{by-test, and-left, and-right, and-true}
@@ -208,6 +209,12 @@ feeding-facts h l p w =
 
 pub feeding-whole : (h : Held) (l : ℕ) (p : List ℕ) → whole h ≡ true → whole (feeding h l p .after) ≡ true
 feeding-whole h l p e = facts-whole (feeding h l p .after) (feeding-facts h l p (whole-facts h e))
+
+pub handed-whole : (h : Held) (t : List ℕ) → whole h ≡ true → whole (recording h (onText h t)) ≡ true
+unfolding onText
+handed-whole h t e =
+    let w = whole-facts h e in
+    facts-whole (recording h (onText h t)) (recording-whole h (onText h t) w (verdict-fits h w (longer (holding []) t)))
 
 pub closing-whole : (h : Held) (l : ℕ) → whole h ≡ true → whole (closing h l .after) ≡ true
 unfolding closing

@@ -22,12 +22,12 @@ use Rattle.trees.specs.Held.{Held, Lane, opened, longer, beforeSemicolon, finis
 use Rattle.theorems.specs.ListLaws.{if-true, if-false}
 use Rattle.theorems.specs.OpeningLaws.{every-getD}
 use Rattle.theorems.specs.HeldLaws.{every-set, every-replicate}
-use Rattle.trees.specs.Runs.{Call, feed, close, answers, ending, closedWith, finals, textsAfter, wholeTexts, onLane, onOneLane}
+use Rattle.trees.specs.Runs.{Call, feed, hand, close, answers, ending, closedWith, finals, textsAfter, wholeTexts, onLane, onOneLane}
 use Rattle.theorems.specs.RunLaws.{ending-opening}
 use Rattle.theorems.specs.Alike.{SameAnswers}
 use Rattle.theorems.specs.AlikeLaws.{questions-alike}
 use Rattle.theorems.specs.PieceLaws.{text, map-replicate, set-replicate, getD-all, unended, unended-append, before-unended, before-end, has-end}
-use Rattle.theorems.specs.OutcomeLaws.{Outcome, outcome, noted, shut, state, grown, judgement, outcome-text, outcome-more, outcome-no-lane, outcome-closed, outcome-not-closed}
+use Rattle.theorems.specs.OutcomeLaws.{Outcome, outcome, noted, shut, state, grown, judgement, outcome-hand, outcome-text, outcome-more, outcome-no-lane, outcome-closed, outcome-not-closed}
 
 module _ (o : Opening) where
   -- ---- a whole text, all lanes being empty
@@ -129,7 +129,7 @@ module _ (o : Opening) where
           ∙ ap (λ (ds : List Call). outcome (state o ts empty) (moved ds)) (sym (if-false _ _ (is-lane false e)))
 
     same-run : (cs : List Call) → AsWhole cs
-    unfolding outcome textsAfter
+    unfolding outcome textsAfter onLane
     same-run [] ts us d = refl
     same-run (feed l p ∷ cs) ts us d = go (ltb l (o .numbers .lanes)) (member 59 p) refl refl (same-run cs)
       where
@@ -137,6 +137,11 @@ module _ (o : Opening) where
         go true true e f r = run-text l cs r ts us d p e f
         go true false e f r = run-more l cs r ts us d p e f
         go false c e f r = run-no-lane l cs r ts us d p e
+    same-run (hand t ∷ cs) ts us d =
+        let v = judgement o ts t in
+        outcome-hand o ts us t cs
+        ∙ ap (noted (finished (state o ts []) v)) (same-run cs (grown o ts v) us d)
+        ∙ sym (outcome-hand o ts empty t (moved (textsAfter us cs)))
     same-run (close l ∷ cs) ts us d = go (ltb l (o .numbers .lanes)) refl (same-run cs)
       where
         go : (b : Bool) → ltb l (o .numbers .lanes) ≡ b → AsWhole cs → outcome (state o ts us) (close l ∷ cs) ≡ outcome (state o ts empty) (moved (textsAfter us (close l ∷ cs)))
@@ -162,6 +167,7 @@ own-lanes : (cs : List Call) → map (onLane (λ l. l)) cs ≡ cs
 unfolding onLane
 own-lanes [] = refl
 own-lanes (feed l p ∷ cs) = ap (λ (ds : List Call). feed l p ∷ ds) (own-lanes cs)
+own-lanes (hand t ∷ cs) = ap (λ (ds : List Call). hand t ∷ ds) (own-lanes cs)
 own-lanes (close l ∷ cs) = ap (λ (ds : List Call). close l ∷ ds) (own-lanes cs)
 
 module _ (o : Opening) (cs : List Call) where

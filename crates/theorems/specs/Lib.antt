@@ -48,3 +48,15 @@ pub mod Unrooted
 pub mod UnrootedLaws
 pub mod Longest
 pub mod LongestLaws
+pub mod RunOfLaws
+pub mod TokenLaws
+pub mod CommandLaws
+pub mod NexusLeft
+pub mod NexusSoundLaws
+pub mod NexusLaws
+pub mod NexusTextLaws
+pub mod NexusFedLaws
+pub mod NexusCallLaws
+pub mod NexusFile
+pub mod NexusFileLaws
+pub mod NexusWrittenLaws

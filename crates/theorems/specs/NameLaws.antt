@@ -1,5 +1,7 @@
 -- Laws of names that pass the opening's check.
 --
+--   markBytes        the bytes that part labels
+--   label-no-blank   a label byte is no blank
 --   LabelBytes w     every byte of w is a label byte, as a type
 --   Token w          w is a token, as a type: one label byte or more
 --   good-count       there are as many as there are taxa
@@ -24,7 +26,7 @@ use Rattle.theorems.specs.ListLaws.{if-true, if-false, and-left, and-rig
 -- ---- label bytes
 
 -- the bytes that part labels
-abbrev markBytes : List ℕ
+abbrev pub markBytes : List ℕ
 markBytes = 40 ∷ 41 ∷ 91 ∷ 93 ∷ 39 ∷ 58 ∷ 59 ∷ 44 ∷ []
 
 colon-mark : Mem 58 markBytes
@@ -69,7 +71,7 @@ module _ (b : ℕ) (h : isLabelByte b ≡ true) where
   label-not : (c : ℕ) → Mem c markBytes → eqb b c ≡ false
   label-not c m = ne-eqb b c (λ e. not-member b markBytes label-no-mark (subst (λ (x : ℕ). Mem x markBytes) (sym e) m))
 
-  label-no-blank : isBlank b ≡ false
+  pub label-no-blank : isBlank b ≡ false
   unfolding isBlank
   label-no-blank = member-not b (32 ∷ 9 ∷ 13 ∷ 10 ∷ []) (above-blanks b label-above)
 
@@ -131,7 +133,7 @@ getD-mem [] i h = absurd (omega arith)
 getD-mem (v ∷ vs) zero h = inl refl
 getD-mem (v ∷ vs) (suc i) h = inr (getD-mem vs i (omega arith))
 
-test-fails : (b : Bool) → (b ≡ true → ⊥) → b ≡ false
+pub test-fails : (b : Bool) → (b ≡ true → ⊥) → b ≡ false
 test-fails true f = absurd (f refl)
 test-fails false f = refl
 

@@ -3,6 +3,7 @@
 --   outcome h cs        the final answers of a run, and the trees at its end
 --   state o ts us       a collection with the trees ts, each lane of which was empty and got its bytes of us
 --   judgement o ts w    the verdict on the text w: it does not depend on what the lanes hold
+--   outcome-hand        a text that is handed in
 --   outcome-text, outcome-more, outcome-closed    one call to a lane
 --   outcome-no-lane, outcome-not-closed           one call to a lane that does not exist
 use Prim.Native.Nat.{ℕ, suc}
@@ -14,8 +15,9 @@ use lib.ListN.{length, getD, set, List·getD-map}
 use Rattle.trees.specs.Plain.{member, Answer, refused, gives}
 use Rattle.trees.specs.Opening.{Opening}
 use Rattle.trees.specs.Held.{Held, Lane, holding, laneOf, withLane, withTree, longer, verdict, Progress, moreWanted, accepted, beforeSemicolon, Fed, finished, recording, finishing, feeding, Closed, closed, closing}
+use Rattle.trees.specs.NexusCall.{onText}
 use Rattle.theorems.specs.WrittenFedLaws.{feedingBy, feeding-by}
-use Rattle.trees.specs.Runs.{Call, feed, close, fed, answer, next, answers, ending, Final, acceptedAs, refusedWith, closedWith, finals}
+use Rattle.trees.specs.Runs.{Call, feed, hand, close, fed, answer, next, answers, ending, Final, acceptedAs, refusedWith, closedWith, finals}
 use Rattle.theorems.specs.Alike.{Alike}
 use Rattle.theorems.specs.AlikeLaws.{closingBy, closing-by, verdict-alike}
 use Rattle.theorems.specs.PieceLaws.{longer-longer, text, map-set}
@@ -99,6 +101,38 @@ module _ (o : Opening) where
   state-verdict ts us l q =
       verdict-alike (state ts us) (state ts []) (state-alike ts us []) (longer (laneOf (state ts us) l) q)
       ∙ ap (verdict (state ts [])) (ap (λ (x : Lane). longer x q) (state-lane ts us l) ∙ longer-longer (holding []) (getD us l []) q)
+
+  -- a text that is handed in, and then the rest of the run
+  module _ (ts us : List (List ℕ)) where
+    state-recording : (v : Answer (List ℕ)) → recording (state ts us) v ≡ state (grown ts v) us
+    unfolding recording withTree
+    state-recording (refused k) = refl
+    state-recording (gives t) = refl
+
+    state-finished : (v : Answer (List ℕ)) → finished (state ts us) v ≡ finished (state ts []) v
+    unfolding finished
+    state-finished (refused k) = refl
+    state-finished (gives t) = refl
+
+    handed-verdict : (t : List ℕ) → onText (state ts us) t ≡ judgement ts t
+    unfolding onText judgement
+    handed-verdict t = verdict-alike (state ts us) (state ts []) (state-alike ts us []) (text t)
+
+    handed-noted : (h : Held) (t : List ℕ) (cs : List Call) → outcome h (hand t ∷ cs) ≡ noted (finished h (onText h t)) (outcome (recording h (onText h t)) cs)
+    unfolding outcome noted answer next
+    handed-noted h t cs = go (finished h (onText h t))
+      where
+        go : (a : Answer Progress) → (finals (fed (suc (length t)) a ∷ answers (recording h (onText h t)) cs), ending (recording h (onText h t)) cs .trees) ≡ noted a (outcome (recording h (onText h t)) cs)
+        go (gives moreWanted) = refl
+        go (gives (accepted n)) = refl
+        go (refused k) = refl
+
+    pub outcome-hand : (t : List ℕ) (cs : List Call)
+        → outcome (state ts us) (hand t ∷ cs) ≡ noted (finished (state ts []) (judgement ts t)) (outcome (state (grown ts (judgement ts t)) us) cs)
+    outcome-hand t cs =
+        handed-noted (state ts us) t cs
+        ∙ ap (λ (v : Answer (List ℕ)). noted (finished (state ts us) v) (outcome (recording (state ts us) v) cs)) (handed-verdict t)
+        ∙ ap₂ (λ (a : Answer Progress) (h : Held). noted a (outcome h cs)) (state-finished (judgement ts t)) (state-recording (judgement ts t))
 
   module _ (ts us : List (List ℕ)) (l : ℕ) where
     feeding-as : (p : List ℕ) (b c : Bool) → ltb l (o .numbers .lanes) ≡ b → member 59 p ≡ c → feeding (state ts us) l p ≡ feedingBy b c (state ts us) l p

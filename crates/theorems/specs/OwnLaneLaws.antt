@@ -1,5 +1,6 @@
 -- Unfinished text touches only its own lane.
 --
+--   recording-opening, recording-texts     a verdict changes neither the opening nor a lane
 --   feeding-texts, closing-texts      which lane a call changes, and how
 --   unfinished-keeps-trees            a piece without a semicolon leaves the trees as they were
 --   other-lanes-kept                  feeding a lane leaves every other lane as it was
@@ -31,12 +32,12 @@ laneAfter x p = if member 59 p then holding [] else longer x p
 abbrev pub lanesAfter : Bool → List Lane → ℕ → Lane → List Lane
 lanesAfter b xs l x = if b then set xs l x else xs
 
-recording-opening : (h : Held) (v : Answer (List ℕ)) → recording h v .opening ≡ h .opening
+pub recording-opening : (h : Held) (v : Answer (List ℕ)) → recording h v .opening ≡ h .opening
 unfolding recording withTree
 recording-opening h (refused k) = refl
 recording-opening h (gives t) = refl
 
-recording-texts : (h : Held) (v : Answer (List ℕ)) → recording h v .texts ≡ h .texts
+pub recording-texts : (h : Held) (v : Answer (List ℕ)) → recording h v .texts ≡ h .texts
 unfolding recording withTree
 recording-texts h (refused k) = refl
 recording-texts h (gives t) = refl

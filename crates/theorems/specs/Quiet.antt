@@ -10,12 +10,13 @@ use lib.ListN.{length}
 use Rattle.trees.specs.Plain.{member}
 use Rattle.trees.specs.Text.{semicolon}
 use Rattle.trees.specs.Held.{Held, laneOf}
-use Rattle.trees.specs.Runs.{Call, feed, close}
+use Rattle.trees.specs.Runs.{Call, feed, hand, close}
 
--- a piece to lane j has no semicolon, and lane j is not closed; calls to other lanes are free
+-- a piece to lane j has no semicolon, and lane j is not closed; calls to other lanes and NEXUS files are free
 unfoldable pub Quiet : ℕ → List Call → Type 0
 Quiet j [] = Unit {0}
 Quiet j (feed l p ∷ cs) = (l ≡ j → member semicolon p ≡ false) × Quiet j cs
+Quiet j (hand t ∷ cs) = Quiet j cs
 Quiet j (close l ∷ cs) = (l ≡ j → ⊥) × Quiet j cs
 
 -- the same opening, trees and number of lanes, and every other lane holds the same

@@ -5,22 +5,23 @@
 --   quiet-run            a run that does not end or close the text of lane j has the same answers on both, which differ afterwards only there
 --   save-questions, save-collisions      such collections answer every question alike, that for the collision number too
 --   quiet-questions, quiet-collisions    and so they do after the run
-use Prim.Native.Nat.{ℕ}
+use Prim.Native.Nat.{ℕ, suc}
 use mathlib.Core.Path.{_≡_, refl, ap, ap₂, sym, _∙_, subst}
 use mathlib.Core.Bool.{Bool, true, false}
 use mathlib.Core.List.{List, [], _∷_, _++_}
 use lib.Dec.{ltb, eqb}
-use lib.ListN.{length, length-set}
+use lib.ListN.{length, getD, length-set}
 use borrow.Author.Tests.{eqb-true, eqb-false}
 use Rattle.trees.specs.Plain.{member, Answer}
 use Rattle.trees.specs.Text.{semicolon}
-use Rattle.trees.specs.Held.{Held, Progress, laneOf, Fed, feeding, closing}
+use Rattle.trees.specs.Held.{Held, Lane, holding, Progress, laneOf, recording, Fed, feeding, closing}
+use Rattle.trees.specs.NexusCall.{onText}
 use Rattle.trees.specs.Questions.{collisionsOf}
-use Rattle.trees.specs.Runs.{Call, feed, close, Heard, fed, closedLane, answer, next, answers, ending}
-use Rattle.theorems.specs.Alike.{SaveOthers, SameAnswers}
-use Rattle.theorems.specs.AlikeLaws.{questions-alike}
+use Rattle.trees.specs.Runs.{Call, feed, hand, close, Heard, fed, closedLane, answer, next, answers, ending}
+use Rattle.theorems.specs.Alike.{Alike, SaveOthers, SameAnswers}
+use Rattle.theorems.specs.AlikeLaws.{judged-alike, recorded-alike, questions-alike}
 use Rattle.theorems.specs.WrittenFedLaws.{feedingBy, feeding-by}
-use Rattle.theorems.specs.OwnLaneLaws.{laneAfter, lanesAfter, feeding-opening, feeding-texts, unfinished-keeps-trees, other-lanes-kept, other-lanes-kept-closing, own-lane-only, own-lane-only-closing}
+use Rattle.theorems.specs.OwnLaneLaws.{laneAfter, lanesAfter, recording-opening, recording-texts, feeding-opening, feeding-texts, unfinished-keeps-trees, other-lanes-kept, other-lanes-kept-closing, own-lane-only, own-lane-only-closing}
 use Rattle.theorems.specs.Quiet.{Quiet, SaveLane}
 
 -- two numbers are equal or they are not
@@ -35,6 +36,7 @@ pub quiet-append : (j : ℕ) (cs ds : List Call) → Quiet j (cs ++ ds) → Quie
 unfolding Quiet
 quiet-append j [] ds q = (tt, q)
 quiet-append j (feed l p ∷ cs) ds q = let r = quiet-append j cs ds (q .1) in ((q .0, r .0), r .1)
+quiet-append j (hand t ∷ cs) ds q = quiet-append j cs ds q
 quiet-append j (close l ∷ cs) ds q = let r = quiet-append j cs ds (q .1) in ((q .0, r .0), r .1)
 
 -- the same answer, and afterwards the same but for the text of lane j
@@ -111,6 +113,34 @@ module _ (j : ℕ) (h k : Held) (s : SaveLane j h k) where
     },
   )
 
+-- ---- a text that is handed in
+
+save-alike : (j : ℕ) (h k : Held) → SaveLane j h k → Alike h k
+save-alike j h k s = record {
+  names = λ i. s .opening i .names;
+  lanes = λ i. s .opening i .numbers .lanes;
+  treeRoom = λ i. s .opening i .numbers .treeRoom;
+  splitRoom = λ i. s .opening i .numbers .splitRoom;
+  trees = s .trees;
+}
+
+module _ (j : ℕ) (h k : Held) (s : SaveLane j h k) (t : List ℕ) where
+  lane-kept : (x : Held) (i : ℕ) → laneOf (recording x (onText x t)) i ≡ laneOf x i
+  unfolding laneOf
+  lane-kept x i = ap (λ (xs : List Lane). getD xs i (holding [])) (recording-texts x (onText x t))
+
+  unseen-handed : Unseen j h k (hand t)
+  unfolding answer next
+  unseen-handed = (
+    ap (fed (suc (length t))) (judged-alike h k (save-alike j h k s) t),
+    record {
+      opening = recording-opening h (onText h t) ∙ s .opening ∙ sym (recording-opening k (onText k t));
+      trees = recorded-alike h k (save-alike j h k s) t .trees;
+      lanes = ap length (recording-texts h (onText h t)) ∙ s .lanes ∙ sym (ap length (recording-texts k (onText k t)));
+      others = λ i g. lane-kept h i ∙ s .others i g ∙ sym (lane-kept k i);
+    },
+  )
+
 -- ---- a run
 
 unseen : (j : ℕ) (h k : Held) → SaveLane j h k → (c : Call) → Quiet j (c ∷ []) → Unseen j h k c
@@ -119,6 +149,7 @@ unseen j h k s (feed l p) q =
     by-equal (Unseen j h k (feed l p)) l j
     (λ e. subst (λ (x : ℕ). Unseen j h k (feed x p)) (sym e) (unseen-unfinished j h k s p (q .0 e)))
     (λ f. unseen-fed j h k s l f p)
+unseen j h k s (hand t) q = unseen-handed j h k s t
 unseen j h k s (close l) q = unseen-closed j h k s l (q .0)
 
 pub quiet-run : (j : ℕ) (cs : List Call) (h k : Held) → SaveLane j h k → Quiet j cs → (answers h cs ≡ answers k cs) × SaveLane j (ending h cs) (ending k cs)
@@ -133,14 +164,7 @@ quiet-run j (c ∷ cs) h k s q =
 -- ---- the questions
 
 pub save-questions : (j : ℕ) (h k : Held) → SaveLane j h k → SameAnswers h k
-save-questions j h k s =
-    questions-alike h k (record {
-      names = λ i. s .opening i .names;
-      lanes = λ i. s .opening i .numbers .lanes;
-      treeRoom = λ i. s .opening i .numbers .treeRoom;
-      splitRoom = λ i. s .opening i .numbers .splitRoom;
-      trees = s .trees;
-    })
+save-questions j h k s = questions-alike h k (save-alike j h k s)
 
 pub save-collisions : (j : ℕ) (h k : Held) → SaveLane j h k → collisionsOf h ≡ collisionsOf k
 unfolding collisionsOf

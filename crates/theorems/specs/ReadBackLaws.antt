@@ -1,6 +1,7 @@
 -- What is written of a whole collection, fed to an empty lane of a whole collection over the same names, is accepted with exactly the
 -- splits that it was written from, or there is no room for it.
 --
+--   names-good           the names of a whole collection are good
 --   strict-whole, majority-whole, tree-whole     the splits of a consensus tree and of an accepted tree are in order
 --   ReadBack k s n f     the feeding f, to the collection k, of a text of n bytes with the splits s: what it answers and leaves
 --   reads-back           feeding what is written is such a feeding
@@ -49,7 +50,7 @@ module _ (h : Held) (w : whole h ≡ true) where
   unfolding tree goodTree
   tree-whole i = every-getD (goodTree taxa) (h .trees) [] refl (facts .trees-good) i
 
-  names-good : goodNames taxa (h .opening .names) ≡ true
+  pub names-good : goodNames taxa (h .opening .names) ≡ true
   unfolding goodOpening
   names-good =
       and-right (goodConstants (h .opening .numbers) (h .opening .first) (h .opening .second)) _

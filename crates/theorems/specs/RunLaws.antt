@@ -17,13 +17,14 @@ use lib.Seq.{set-out}
 use borrow.Author.Tests.{ltb-false}
 use Rattle.trees.specs.Plain.{if_then_else_, member, Answer, refused, gives}
 use Rattle.trees.specs.Opening.{Numbers, Opening, opening}
-use Rattle.trees.specs.Held.{Held, Lane, holding, opened, laneOf, longer, verdict, Progress, moreWanted, accepted, beforeSemicolon, Fed, finished, finishing, feeding, closing}
+use Rattle.trees.specs.Held.{Held, Lane, holding, opened, laneOf, longer, verdict, Progress, moreWanted, accepted, beforeSemicolon, Fed, finished, recording, finishing, feeding, closing}
+use Rattle.trees.specs.NexusCall.{onText}
 use Rattle.theorems.specs.WholeHeld.{whole}
-use Rattle.theorems.specs.HeldLaws.{opened-whole, feeding-whole, closing-whole}
+use Rattle.theorems.specs.HeldLaws.{opened-whole, feeding-whole, handed-whole, closing-whole}
 use Rattle.theorems.specs.WrittenFedLaws.{feedingBy, feeding-by}
-use Rattle.theorems.specs.OwnLaneLaws.{laneAfter, lanesAfter, feeding-opening, feeding-texts, closing-opening, closing-texts}
+use Rattle.theorems.specs.OwnLaneLaws.{laneAfter, lanesAfter, recording-opening, recording-texts, feeding-opening, feeding-texts, closing-opening, closing-texts}
 use Rattle.theorems.specs.PieceLaws.{longer-longer, text, map-set, map-replicate}
-use Rattle.trees.specs.Runs.{Call, feed, close, Heard, answer, next, answers, ending, pendingAfter}
+use Rattle.trees.specs.Runs.{Call, feed, hand, close, Heard, answer, next, answers, ending, pendingAfter}
 
 -- ---- which answers are verdicts
 
@@ -68,12 +69,14 @@ pub ending-opening : (h : Held) (cs : List Call) → ending h cs .opening ≡ h 
 unfolding ending next
 ending-opening h [] = refl
 ending-opening h (feed l p ∷ cs) = ending-opening (feeding h l p .after) cs ∙ feeding-opening h l p
+ending-opening h (hand t ∷ cs) = ending-opening (recording h (onText h t)) cs ∙ recording-opening h (onText h t)
 ending-opening h (close l ∷ cs) = ending-opening (closing h l .after) cs ∙ closing-opening h l
 
 pub ending-whole : (h : Held) (cs : List Call) → whole h ≡ true → whole (ending h cs) ≡ true
 unfolding ending next
 ending-whole h [] w = w
 ending-whole h (feed l p ∷ cs) w = ending-whole (feeding h l p .after) cs (feeding-whole h l p w)
+ending-whole h (hand t ∷ cs) w = ending-whole (recording h (onText h t)) cs (handed-whole h t w)
 ending-whole h (close l ∷ cs) w = ending-whole (closing h l .after) cs (closing-whole h l w)
 
 pub run-whole : (x : Numbers) (nameList first second : List ℕ) (lent : ℕ) (o : Opening) → opening x nameList first second lent ≡ gives o → (cs : List Call) → whole (ending (opened o) cs) ≡ true
@@ -118,10 +121,18 @@ module _ (h : Held) (us : List (List ℕ)) (d : Holds h us) (l : ℕ) where
   unfolding longer
   holds-closed = record { many = length-set us l [] ∙ d .many ∙ λ i. sym (closing-opening h l) i .numbers .lanes; lanes = closing-texts h l ∙ holds-set [] }
 
+holds-handed : (h : Held) (us : List (List ℕ)) → Holds h us → (t : List ℕ) → Holds (recording h (onText h t)) us
+holds-handed h us d t =
+    record {
+      many = d .many ∙ λ i. sym (recording-opening h (onText h t)) i .numbers .lanes;
+      lanes = recording-texts h (onText h t) ∙ d .lanes;
+    }
+
 holds-after : (h : Held) (us : List (List ℕ)) → Holds h us → (cs : List Call) → Holds (ending h cs) (pendingAfter us cs)
 unfolding ending next pendingAfter
 holds-after h us d [] = d
 holds-after h us d (feed l p ∷ cs) = holds-after (feeding h l p .after) (set us l (if member 59 p then [] else getD us l [] ++ p)) (holds-fed h us d l p) cs
+holds-after h us d (hand t ∷ cs) = holds-after (recording h (onText h t)) us (holds-handed h us d t) cs
 holds-after h us d (close l ∷ cs) = holds-after (closing h l .after) (set us l []) (holds-closed h us d l) cs
 
 pub lanes-hold-pending : (o : Opening) (cs : List Call) → ending (opened o) cs .texts ≡ map (longer (holding [])) (pendingAfter (replicate (o .numbers .lanes) []) cs)

@@ -4,12 +4,14 @@
 --   symbolsOf t          the symbols of t, as a tree
 --   shown-symbols        what is shown of t has the symbols of t
 --   shown-reading        what is shown of a tree reads back as it
---   shown-no-semicolon   what is shown has no semicolon
+--   NotShown x           the byte x is no label byte, no bracket and no comma
+--   shown-lacks          what is shown has no such byte
+--   shown-no-semicolon, shown-no-comment     so it has no semicolon, and no comment
 use Prim.Native.Nat.{ℕ, suc, _≤_, _<_}
 use native.Mathlib.Omega.{arith}
 use mathlib.Core.Path.{_≡_, refl, ap, sym, _∙_, subst}
-use mathlib.Core.Logic.{_⊎_, inl, inr}
-use mathlib.Core.Bool.{true≢false}
+use mathlib.Core.Logic.{inl, inr, ⊎-elim}
+use mathlib.Core.Bool.{false, true≢false}
 use mathlib.Core.List.{List, [], _∷_, _++_, append-assoc, append-nil}
 use mathlib.Core.Option.{some}
 use Rattle.trees.specs.Text.{Symbol, mark, kind, openBracket, closeBracket, comma, token, symbols, symbolsAfter, ended, isLabelByte}
@@ -139,33 +141,46 @@ shown-reading c g =
     reading-complete (shown (inner c nil)) (inner c nil)
     (subst (λ x. IsNode 63 x (inner c nil)) (sym (ap symbols (sym (append-nil (shown (inner c nil)))) ∙ shown-symbols g [] ends-nil ∙ append-nil (symbolsOf (inner c nil)))) (symbols-node g))
 
--- ---- no semicolon
+-- ---- bytes that are not shown
 
-label-semicolon : (w : List ℕ) → LabelBytes w → Mem 59 w → ⊥
+-- no label byte, no bracket and no comma
+pub record NotShown (x : ℕ) : Type 0 where
+  pub no-label-byte : isLabelByte x ≡ false
+  pub no-open : x ≡ 40 → ⊥
+  pub no-close : x ≡ 41 → ⊥
+  pub no-comma : x ≡ 44 → ⊥
+
+module _ (x : ℕ) (n : NotShown x) where
+  label-lacks : (w : List ℕ) → LabelBytes w → Mem x w → ⊥
+  label-lacks (b ∷ w) h (inl e) = true≢false (sym (ap isLabelByte e ∙ h .0) ∙ n .no-label-byte)
+  label-lacks (b ∷ w) h (inr k) = label-lacks w (h .1) k
+
+  parted-lacks : (r : Nodes) → (Mem x (shown r) → ⊥) → Mem x (parted r (shown r)) → ⊥
+  unfolding parted
+  parted-lacks nil f h = f h
+  parted-lacks (leaf w r) f (inl e) = n .no-comma e
+  parted-lacks (leaf w r) f (inr h) = f h
+  parted-lacks (inner c r) f (inl e) = n .no-comma e
+  parted-lacks (inner c r) f (inr h) = f h
+
+  pub shown-lacks : {d : ℕ} {t : Nodes} → Readable d t → Mem x (shown t) → ⊥
+  unfolding shown
+  shown-lacks readable-nil h = h
+  shown-lacks (readable-leaf {b = b} {w = w} {r = r} l g) h = ⊎-elim (label-lacks (b ∷ w) l) (parted-lacks r (shown-lacks g)) (mem-cases x (b ∷ w) (parted r (shown r)) h)
+  shown-lacks (readable-inner {c = c} {r = r} k g g′) (inl e) = n .no-open e
+  shown-lacks (readable-inner {c = c} {r = r} k g g′) (inr h) =
+      ⊎-elim (shown-lacks g) (λ m. ⊎-elim (n .no-close) (parted-lacks r (shown-lacks g′)) m) (mem-cases x (shown c) (41 ∷ parted r (shown r)) h)
+
+semicolon-not-shown : NotShown 59
 unfolding isLabelByte
-label-semicolon (b ∷ w) h (inl e) = true≢false (sym (ap isLabelByte e ∙ h .0))
-label-semicolon (b ∷ w) h (inr k) = label-semicolon w (h .1) k
+semicolon-not-shown = record { no-label-byte = refl; no-open = λ e. omega arith; no-close = λ e. omega arith; no-comma = λ e. omega arith }
 
-parted-semicolon : (r : Nodes) → (Mem 59 (shown r) → ⊥) → Mem 59 (parted r (shown r)) → ⊥
-unfolding parted
-parted-semicolon nil f h = f h
-parted-semicolon (leaf w r) f (inl e) = omega arith
-parted-semicolon (leaf w r) f (inr h) = f h
-parted-semicolon (inner c r) f (inl e) = omega arith
-parted-semicolon (inner c r) f (inr h) = f h
+bracket-not-shown : NotShown 91
+unfolding isLabelByte
+bracket-not-shown = record { no-label-byte = refl; no-open = λ e. omega arith; no-close = λ e. omega arith; no-comma = λ e. omega arith }
 
 pub shown-no-semicolon : {d : ℕ} {t : Nodes} → Readable d t → Mem 59 (shown t) → ⊥
-unfolding shown
-shown-no-semicolon readable-nil h = h
-shown-no-semicolon (readable-leaf {b = b} {w = w} {r = r} l g) h = go (mem-cases 59 (b ∷ w) (parted r (shown r)) h) (shown-no-semicolon g)
-  where
-    go : Mem 59 (b ∷ w) ⊎ Mem 59 (parted r (shown r)) → (Mem 59 (shown r) → ⊥) → ⊥
-    go (inl k) f = label-semicolon (b ∷ w) l k
-    go (inr k) f = parted-semicolon r f k
-shown-no-semicolon (readable-inner {c = c} {r = r} k g g′) (inl e) = omega arith
-shown-no-semicolon (readable-inner {c = c} {r = r} k g g′) (inr h) = go (mem-cases 59 (shown c) (41 ∷ parted r (shown r)) h) (shown-no-semicolon g) (shown-no-semicolon g′)
-  where
-    go : Mem 59 (shown c) ⊎ Mem 59 (41 ∷ parted r (shown r)) → (Mem 59 (shown c) → ⊥) → (Mem 59 (shown r) → ⊥) → ⊥
-    go (inl m) p q = p m
-    go (inr (inl e)) p q = omega arith
-    go (inr (inr m)) p q = parted-semicolon r q m
+shown-no-semicolon g = shown-lacks 59 semicolon-not-shown g
+
+pub shown-no-comment : {d : ℕ} {t : Nodes} → Readable d t → Mem 91 (shown t) → ⊥
+shown-no-comment g = shown-lacks 91 bracket-not-shown g

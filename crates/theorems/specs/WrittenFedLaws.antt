@@ -1,5 +1,6 @@
 -- Feeding what is written: it is taken whole, and the verdict is on the splits that it was written from.
 --
+--   written-more        what is written has one byte more than what is shown
 --   written-taken       feeding takes every byte of what is written
 --   written-fed         so the text that ends is what is shown, behind what the lane held
 --   written-accepted    fed to an empty lane of a collection with these names, the tree is accepted where there is room for it
@@ -26,7 +27,7 @@ pub written-semicolon : (ns : List (List ℕ)) (s : List ℕ) → member 59 (wri
 unfolding written
 written-semicolon ns s = mem-member 59 (shown (treeOf ns s) ++ 59 ∷ []) (mem-right 59 (shown (treeOf ns s)) (59 ∷ []) (inl refl))
 
-written-more : (ns : List (List ℕ)) (s : List ℕ) → length (written ns s) ≡ suc (length (shown (treeOf ns s)))
+pub written-more : (ns : List (List ℕ)) (s : List ℕ) → length (written ns s) ≡ suc (length (shown (treeOf ns s)))
 unfolding written
 written-more ns s = length-append (shown (treeOf ns s)) (59 ∷ []) ∙ omega arith
 

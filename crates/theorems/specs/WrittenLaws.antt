@@ -3,6 +3,7 @@
 --   tree-has-splits            the tree made of splits has exactly these splits
 --   majority-tree-splits, strict-tree-splits     so the consensus trees have exactly the consensus splits
 --   written-tree-reads-back    the verdict on what is written gives the splits that it was written from
+--   written-no-semicolon, written-no-comment   without its semicolon it has no semicolon and no comment
 --   written-before-semicolon   so what is written, up to its semicolon, is what is shown
 --   written-short              35 bytes for each of n taxa, less 4, are enough
 --   written-length             so at most 2,236 bytes are written
@@ -35,7 +36,7 @@ use Rattle.theorems.specs.MaskLaws.{every-on, side-even}
 use Rattle.theorems.specs.SplitLaws.{cluster-sub, counted-mem, mem-counted, counted-rising}
 use Rattle.theorems.specs.ConsensusLaws.{AllGood, good-rising, majority-good, strict-good}
 use Rattle.theorems.specs.NameLaws.{good-count}
-use Rattle.theorems.specs.ShownLaws.{Readable, readable-nil, readable-inner, shown-reading, shown-no-semicolon}
+use Rattle.theorems.specs.ShownLaws.{Readable, readable-nil, readable-inner, shown-reading, shown-no-semicolon, shown-no-comment}
 use Rattle.theorems.specs.ProperLaws.{every-ones, one-taxon, proper-even, proper-two, proper-most, proper-sub}
 use Rattle.theorems.specs.BranchLaws.{Done, split-proper, parted-length}
 use Rattle.theorems.specs.TreeOfLaws.{branches-done}
@@ -131,12 +132,15 @@ module _ (n : ℕ) (ns : List (List ℕ)) (s : List ℕ) (names : goodNames n ns
 
   -- ---- its one semicolon ends it
 
-  no-semicolon : 2 ≤ n → Mem 59 (shown (treeOf ns s)) → ⊥
-  no-semicolon h m = shown-no-semicolon (root-readable h n (omega arith)) (subst (λ t. Mem 59 (shown t)) tree-root m)
+  pub written-no-semicolon : 2 ≤ n → Mem 59 (shown (treeOf ns s)) → ⊥
+  written-no-semicolon h m = shown-no-semicolon (root-readable h n (omega arith)) (subst (λ t. Mem 59 (shown t)) tree-root m)
+
+  pub written-no-comment : 2 ≤ n → Mem 91 (shown (treeOf ns s)) → ⊥
+  written-no-comment h m = shown-no-comment (root-readable h n (omega arith)) (subst (λ t. Mem 91 (shown t)) tree-root m)
 
   pub written-before-semicolon : 2 ≤ n → beforeSemicolon (written ns s) ≡ shown (treeOf ns s)
   unfolding written
-  written-before-semicolon h = before-semicolon (shown (treeOf ns s)) (no-semicolon h)
+  written-before-semicolon h = before-semicolon (shown (treeOf ns s)) (written-no-semicolon h)
 
   -- ---- its length
 

@@ -1,7 +1,6 @@
 // What the calls answer, in a few numbers and the two consensus trees.
 use crate::opened;
 use answers::Both;
-use answers::Lane;
 use answers::Number;
 use libc::STDOUT_FILENO;
 
@@ -21,7 +20,7 @@ pub(crate) fn write_answers(
 // How many texts, trees and splits there are, and the verdicts.
 fn write_batch(s: &mut [u8], texts: &[u8]) {
     let mut verdicts = [0u32; 2048];
-    let n = given(feeding::batch(s, Lane(0), texts, &mut verdicts));
+    let n = given(opened::take_texts(s, texts, &mut verdicts));
     write_number(b"texts ", n as u64);
     write_counts(s);
     write_number(b"verdicts ", verdict_sum(&verdicts, n));

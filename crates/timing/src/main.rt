@@ -1,4 +1,5 @@
-// Makes the library's calls on a whole collection, for bench/run. Input: a line that says what is wanted, a line of names, then texts.
+// Makes the library's calls on a whole collection, for bench/run. Input: a line that says what is wanted, a line of names, then texts or
+// a NEXUS file.
 // For the line `answers` every call is made once, and what they answered is written. For a line `PART N` the collection is filled, a part
 // is made N times, and the nanoseconds of one time are written. docs/BENCH.md says what the parts are.
 mod answered;

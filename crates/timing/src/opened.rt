@@ -2,12 +2,21 @@
 // store has 253,960 bytes.
 use crate::lines;
 use answers::Lane;
+use answers::Number;
 
 // Opens the collection and takes every text, in one call.
 pub(crate) fn fill(s: &mut [u8], names: &[u8], texts: &[u8]) {
     let mut verdicts = [0u32; 2048];
     open(s, names);
-    feeding::batch(s, Lane(0), texts, &mut verdicts);
+    take_texts(s, texts, &mut verdicts);
+}
+
+// Takes every text in one call: as a batch, or as a NEXUS file where the first byte is `#`, with which no text of a collection begins.
+pub(crate) fn take_texts(s: &mut [u8], texts: &[u8], verdicts: &mut [u32]) -> Number {
+    if lines::first_byte(texts) == b'#' {
+        return nexus::feed_file(s, texts, verdicts);
+    }
+    feeding::batch(s, Lane(0), texts, verdicts)
 }
 
 // Opens the collection and takes each text by a call of its own.

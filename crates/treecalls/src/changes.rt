@@ -1,4 +1,4 @@
-// Calls that change the lent memory: `lend`, `poke`, `feed`, `close` and `batch`.
+// Calls that change the lent memory: `lend`, `poke`, `feed`, `close`, `batch` and `nexus`.
 use crate::kinds;
 use crate::parse::Call;
 use crate::parts;
@@ -35,6 +35,7 @@ pub(crate) fn make(
         kinds::POKE => poke(lent, call.a, bytes),
         kinds::FEED => feed(lent, call.a, bytes),
         kinds::BATCH => batch(lent, call.a, bytes, verdicts, room),
+        kinds::NEXUS => nexus(lent, bytes, verdicts, room),
         _ => replies::finish(feeding::close(lent, Lane(call.a))),
     }
 }
@@ -84,4 +85,11 @@ fn batch(lent: &mut [u8], lane: usize, piece: &[u8], verdicts: &mut [u32], room:
     let mut reply = replies::number(replies::BATCH, answer);
     reply.b = piece.len() as u64;
     reply
+}
+
+// `nexus HEX`.
+fn nexus(lent: &mut [u8], file: &[u8], verdicts: &mut [u32], room: usize) -> Reply {
+    let n = parts::least(room, verdicts.len());
+    let answer = nexus::feed_file(lent, file, &mut verdicts[..n]);
+    replies::number(replies::NEXUS, answer)
 }

@@ -1,5 +1,6 @@
 // The calls, each with its number: calls whose words are of the same kinds stand together.
 use crate::parts;
+ghost use Prim.Native.Nat.{_≤_};
 
 // A call's word alone.
 pub(crate) const TREES: usize = 0;
@@ -43,18 +44,20 @@ pub(crate) const POKE: usize = 18;
 pub(crate) const FEED: usize = 19;
 
 pub(crate) const BATCH: usize = 20;
+// Bytes.
+pub(crate) const NEXUS: usize = 21;
 // Five numbers.
-pub(crate) const SIZE: usize = 21;
+pub(crate) const SIZE: usize = 22;
 // Five numbers, bytes and two lists.
-pub(crate) const OPEN: usize = 22;
+pub(crate) const OPEN: usize = 23;
 // A line that is no call.
-pub(crate) const NO_CALL: usize = 23;
+pub(crate) const NO_CALL: usize = 24;
 
 // The call of a word.
 pub(crate) fn of_word(word: &[u8]) -> usize {
     parts::place(
         word,
-        b"trees count collisions splits matrix strict majority both close split tree write lend room one two agree peek poke feed batch size open ",
+        b"trees count collisions splits matrix strict majority both close split tree write lend room one two agree peek poke feed batch nexus size open ",
     )
 }
 
@@ -62,7 +65,7 @@ pub(crate) fn of_word(word: &[u8]) -> usize {
 pub(crate) fn last_word(kind: usize) -> usize {
     match kind {
         TREES..=BOTH => 0,
-        CLOSE..=ROOM => 1,
+        CLOSE..=ROOM | NEXUS => 1,
         ONE..=BATCH => 2,
         SIZE => 5,
         OPEN => 8,
@@ -71,7 +74,9 @@ pub(crate) fn last_word(kind: usize) -> usize {
 }
 
 // How many numbers follow the word.
-pub(crate) fn numbers_of(kind: usize) -> usize {
+pub(crate) fn numbers_of(kind: usize) -> usize
+    ensures { λ r. ⌜ r ≤ 5 ⌝ }
+{
     match kind {
         CLOSE..=ROOM | POKE..=BATCH => 1,
         ONE..=PEEK => 2,
@@ -83,7 +88,7 @@ pub(crate) fn numbers_of(kind: usize) -> usize {
 // Whether bytes follow the numbers.
 pub(crate) fn takes_bytes(kind: usize) -> bool {
     match kind {
-        POKE..=BATCH | OPEN => true,
+        POKE..=NEXUS | OPEN => true,
         _ => false,
     }
 }
@@ -102,7 +107,7 @@ pub(crate) fn writes(kind: usize) -> usize {
     match kind {
         SPLITS | TREE | MATRIX => A_LIST,
         STRICT | MAJORITY | BOTH | WRITE => A_TEXT,
-        CLOSE | POKE..=BATCH => MEMORY,
+        CLOSE | POKE..=NEXUS => MEMORY,
         _ => NOTHING,
     }
 }

@@ -106,8 +106,7 @@ fn number(line: &[u8], i: usize, kind: usize) -> Number {
 
 // The call with the bytes that it takes, `-` for none.
 fn with_bytes(line: &mut [u8], call: Call) -> Call {
-    let i = if call.kind == kinds::OPEN { 6 } else { 2 };
-    let part = word(line, i);
+    let part = word(line, kinds::numbers_of(call.kind) + 1);
     let mut next = call;
     next.from = part.from;
     next.to = part.from;

@@ -39,14 +39,16 @@ pub(crate) const SPLITS: usize = 10;
 pub(crate) const TREE: usize = 11;
 
 pub(crate) const MATRIX: usize = 12;
-// A list of a elements, and the number b.
-pub(crate) const BATCH: usize = 13;
+// A list of a verdicts.
+pub(crate) const NEXUS: usize = 13;
+// A list of a verdicts, and the number b.
+pub(crate) const BATCH: usize = 14;
 
 // The word of a form.
 fn word(out: &mut [u8], form: usize, state: State) -> State {
     nth_word(
         out,
-        b"bad line,done,refused,number,bytes,agree,more,split,accepted,refused,splits,tree,matrix,batch",
+        b"bad line,done,refused,number,bytes,agree,more,split,accepted,refused,splits,tree,matrix,nexus,batch",
         form,
         state,
     )
@@ -233,7 +235,7 @@ fn item(
     if form == MATRIX {
         return output::spaced(out, at, 32, at16(distances, i));
     }
-    if form == BATCH {
+    if NEXUS <= form {
         return verdict(out, at, at32(counts, i));
     }
     let masked = output::spaced(out, at, 32, at64(masks, i));
@@ -243,7 +245,7 @@ fn item(
     output::spaced(out, masked, 58, at32(counts, i))
 }
 
-// Puts a verdict at `at` and answers where it ends: a refusal's number behind a minus, or a tree's, which a batch gives with 256 added.
+// Puts a verdict at `at` and answers where it ends: a refusal's number behind a minus, or a tree's, which the library gives with 256 added.
 fn verdict(out: &mut [u8], at: usize, v: u64) -> usize {
     if v < 256 {
         let place = output::mark(out, at, 32);

@@ -2,14 +2,17 @@
 --
 --   semicolons p          how many texts the piece p ends
 --   verdictNumber a       a verdict as a number: the refusal's, or 256 more than the tree's
+--   isRefusal v           the verdict v is a refusal's number
+--   noneAccepted vs       so are all the verdicts vs
 --   Batched               the verdicts, and what is held afterwards
 --   batching n h l p      feeding the piece p to lane l again and again, each time the rest: n texts, and what is behind them
 --   batch h l p room      the same as a call, with room for so many verdicts
 use Prim.Native.Nat.{ℕ, zero, suc, _+_}
+use mathlib.Core.Bool.{Bool}
 use mathlib.Core.List.{List, [], _∷_}
 use lib.Dec.{ltb, eqb}
 use lib.ListN.{length, drop}
-use Rattle.trees.specs.Plain.{if_then_else_, keep, Answer, refused, gives}
+use Rattle.trees.specs.Plain.{if_then_else_, every, keep, Answer, refused, gives}
 use Rattle.trees.specs.Text.{semicolon}
 use Rattle.trees.specs.Held.{Held, Progress, moreWanted, accepted, feeding}
 
@@ -17,11 +20,19 @@ unfoldable pub semicolons : List ℕ → ℕ
 unfolding keep
 semicolons p = length (keep (eqb semicolon) p)
 
--- refusals go from 1 to 14
+-- refusals are below 256
 unfoldable pub verdictNumber : Answer Progress → ℕ
 verdictNumber (refused k) = k
 verdictNumber (gives moreWanted) = 0
 verdictNumber (gives (accepted t)) = 256 + t
+
+-- an accepted tree's number counts from 256
+abbrev pub isRefusal : ℕ → Bool
+isRefusal v = ltb v 256
+
+unfoldable pub noneAccepted : List ℕ → Bool
+unfolding every
+noneAccepted vs = every isRefusal vs
 
 pub record Batched : Type 0 where
   pub verdicts : List ℕ

@@ -15,7 +15,7 @@ use Rattle.trees.specs.Names.{namesIn}
 use Rattle.trees.specs.Held.{Held, Lane, holding, overrun, moreWanted, accepted, opened, feeding}
 use Rattle.trees.specs.Whole.{goodLane}
 use Rattle.trees.specs.Batch.{Batched, batch}
-use Rattle.trees.specs.Runs.{Call, feed, close, Heard, fed, closedLane, answers, ending, acceptedAs, refusedWith, closedWith, finals, pendingAfter, wholeTexts, onLane, onOneLane}
+use Rattle.trees.specs.Runs.{Call, feed, hand, close, Heard, fed, closedLane, answers, ending, acceptedAs, refusedWith, closedWith, finals, pendingAfter, wholeTexts, onLane, onOneLane}
 
 -- two lanes, room for two trees and two splits
 abbrev shop : Held
@@ -122,14 +122,14 @@ batches-hold = refl
 
 abbrev cut : List Call
 cut =
-    feed 0 (bytes "A") ∷ feed 1 (bytes "C") ∷ feed 0 (bytes ";x") ∷ feed 2 (bytes "D;") ∷ feed 0 (bytes "B") ∷ close 1 ∷ close 2
+    feed 0 (bytes "A") ∷ hand (bytes "F") ∷ feed 1 (bytes "C") ∷ feed 0 (bytes ";x") ∷ feed 2 (bytes "D;") ∷ feed 0 (bytes "B") ∷ close 1 ∷ close 2
     ∷ feed 1 (bytes "E") ∷ []
 
 pub runs-hold :
     (finals (fed 3 (gives moreWanted) ∷ fed 4 (gives (accepted 2)) ∷ fed 1 (refused 7) ∷ closedLane (refused 6) ∷ closedLane (gives tt) ∷ [])
     ≡ acceptedAs 2 ∷ refusedWith 7 ∷ closedWith (refused 6) ∷ closedWith (gives tt) ∷ [])
-    × (wholeTexts 2 cut ≡ feed 0 (bytes "A;") ∷ feed 2 (bytes "D;") ∷ feed 1 (bytes "C") ∷ close 1 ∷ close 2 ∷ [])
+    × (wholeTexts 2 cut ≡ hand (bytes "F") ∷ feed 0 (bytes "A;") ∷ feed 2 (bytes "D;") ∷ feed 1 (bytes "C") ∷ close 1 ∷ close 2 ∷ [])
     × (pendingAfter ([] ∷ [] ∷ []) cut ≡ bytes "B" ∷ bytes "E" ∷ [])
-    × (map (onLane (onOneLane 2)) (feed 1 [] ∷ close 1 ∷ feed 2 [] ∷ close 3 ∷ []) ≡ feed 0 [] ∷ close 0 ∷ feed 2 [] ∷ close 3 ∷ [])
+    × (map (onLane (onOneLane 2)) (feed 1 [] ∷ close 1 ∷ hand [] ∷ feed 2 [] ∷ close 3 ∷ []) ≡ feed 0 [] ∷ close 0 ∷ hand [] ∷ feed 2 [] ∷ close 3 ∷ [])
 unfolding finals wholeTexts pendingAfter onLane onOneLane bytes
 runs-hold = (refl, refl, refl, refl)

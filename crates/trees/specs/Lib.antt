@@ -17,9 +17,13 @@ pub mod Held
 pub mod Questions
 pub mod Whole
 pub mod Batch
+pub mod Nexus
+pub mod NexusReading
+pub mod NexusCall
 pub mod Runs
 pub mod Samples
 pub mod FurtherTexts
 pub mod FurtherOpenings
 pub mod FurtherCalls
+pub mod FurtherFiles
 pub mod FurtherQuestions

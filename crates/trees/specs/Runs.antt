@@ -1,6 +1,6 @@
--- Runs of calls: pieces fed to lanes, and closings, one after another.
+-- Runs of calls: pieces fed to lanes, plain texts handed in by NEXUS files, and closings, one after another.
 --
---   Call                 feed l p: the piece p to lane l; close l: closing lane l
+--   Call                 feed l p: the piece p to lane l; hand t: the plain text t of a NEXUS file, to no real lane; close l: closing lane l
 --   Heard                what a call answers: fed, with how many bytes it took and the answer; or closedLane, with the answer
 --   answers h cs         what the calls cs answer, in order, on the collection h
 --   ending h cs          what is held after them
@@ -10,32 +10,37 @@
 --   wholeTexts n cs      the calls cs on n lanes with every text fed whole: at its semicolon, or at its lane's closing
 --   onLane g c           the call c, on lane g l in place of l
 --   onOneLane n l        lane 0 for each of n lanes; a lane that does not exist stays
-use Prim.Native.Nat.{ℕ}
+use Prim.Native.Nat.{ℕ, suc}
 use mathlib.Core.List.{List, [], _∷_, _++_}
 use lib.Dec.{ltb}
 use lib.ListN.{length, getD, set, replicate}
 use Rattle.trees.specs.Plain.{if_then_else_, member, Answer, refused, gives}
 use Rattle.trees.specs.Text.{semicolon}
-use Rattle.trees.specs.Held.{Held, Progress, moreWanted, accepted, beforeSemicolon, feeding, closing}
+use Rattle.trees.specs.Held.{Held, Progress, moreWanted, accepted, beforeSemicolon, finished, recording, feeding, closing}
+use Rattle.trees.specs.NexusCall.{onText}
 
 -- ---- calls and what they answer
 
 pub data Call : Type 0 where
   feed : ℕ → List ℕ → Call
+  hand : List ℕ → Call
   close : ℕ → Call
 
 pub data Heard : Type 0 where
   fed : ℕ → Answer Progress → Heard
   closedLane : Answer (Unit {0}) → Heard
 
+-- a text that is handed in is "judged as its plain text handed whole to an empty lane", its semicolon taken with it
 unfoldable pub answer : Held → Call → Heard
-unfolding feeding closing
+unfolding feeding finished onText closing
 answer h (feed l p) = fed (feeding h l p .taken) (feeding h l p .answer)
+answer h (hand t) = fed (suc (length t)) (finished h (onText h t))
 answer h (close l) = closedLane (closing h l .answer)
 
 unfoldable pub next : Held → Call → Held
-unfolding feeding closing
+unfolding feeding recording onText closing
 next h (feed l p) = feeding h l p .after
+next h (hand t) = recording h (onText h t)
 next h (close l) = closing h l .after
 
 unfoldable pub answers : Held → List Call → List Heard
@@ -71,10 +76,11 @@ unfoldable pub pendingAfter : List (List ℕ) → List Call → List (List ℕ)
 unfolding member
 pendingAfter pending [] = pending
 pendingAfter pending (feed l p ∷ cs) = pendingAfter (set pending l (if member semicolon p then [] else getD pending l [] ++ p)) cs
+pendingAfter pending (hand t ∷ cs) = pendingAfter pending cs
 pendingAfter pending (close l ∷ cs) = pendingAfter (set pending l []) cs
 
 -- A piece with a semicolon ends a text, which is fed whole; one without only adds to the pending bytes. A closing finds them all fed.
--- A call to a lane that does not exist stays as it is.
+-- A text that is handed in is whole, and a call to a lane that does not exist stays as it is.
 unfoldable pub textsAfter : List (List ℕ) → List Call → List Call
 unfolding member beforeSemicolon
 textsAfter pending [] = []
@@ -83,6 +89,7 @@ textsAfter pending (feed l p ∷ cs) =
     if member semicolon p then feed l (getD pending l [] ++ beforeSemicolon p ++ semicolon ∷ []) ∷ textsAfter (set pending l []) cs
     else textsAfter (set pending l (getD pending l [] ++ p)) cs
     else feed l p ∷ textsAfter pending cs
+textsAfter pending (hand t ∷ cs) = hand t ∷ textsAfter pending cs
 textsAfter pending (close l ∷ cs) =
     if ltb l (length pending) then feed l (getD pending l []) ∷ close l ∷ textsAfter (set pending l []) cs
     else close l ∷ textsAfter pending cs
@@ -96,6 +103,7 @@ wholeTexts n cs = textsAfter (replicate n []) cs
 
 unfoldable pub onLane : (ℕ → ℕ) → Call → Call
 onLane g (feed l p) = feed (g l) p
+onLane g (hand t) = hand t
 onLane g (close l) = close (g l)
 
 unfoldable pub onOneLane : ℕ → ℕ → ℕ

@@ -60,10 +60,20 @@ returns-14 : tie.Need-returns-14
 unfolding refusalNumber
 returns-14 c = rw (c .enum-told14 .given .1)
 
+returns-15 : tie.Need-returns-15
+unfolding refusalNumber
+returns-15 c = rw (c .enum-told15 .given .1)
+
+returns-16 : tie.Need-returns-16
+unfolding refusalNumber
+returns-16 c = rw (c .enum-told16 .given .1)
+
 pub refusal-number-spec : {M : Type 1} → statement M
 refusal-number-spec =
     tie.close
     (tie.spec
+    (λ c. search needs)
+    (λ c. search needs)
     (λ c. search needs)
     (λ c. search needs)
     (λ c. search needs)
@@ -91,4 +101,6 @@ refusal-number-spec =
     returns-11
     returns-12
     returns-13
-    returns-14)
+    returns-14
+    returns-15
+    returns-16)

@@ -27,7 +27,7 @@ is-label-byte-requires : tie.Need-is-label-byte-requires Inv-loop μ-loop
 is-label-byte-requires c κs = search needs
 
 returns : tie.Need-returns Inv-loop μ-loop
-returns c = run-stop _ _ _ (c .before .before .before .before .loop .inv) (search needs) (λ e. eqb-false _ 1 (sym (c .before .is-label-byte .ensures .1) ∙ not-true _ (c .if1 .taken)) (ap kindNo e))
+returns c = run-stop _ _ _ (c .before .before .before .before .loop .inv) (search needs) (λ e. eqb-false _ 1 (sym (c .before .is-label-byte .ensures .1) ∙ not-true _ (c .if1 .taken)) (ap kindNo e)) (sym (c .before .is-label-byte .ensures .0) ∙ not-true _ (c .if1 .taken))
 
 add-end : tie.Need-add-end Inv-loop μ-loop
 add-end c = search needs
@@ -36,7 +36,7 @@ loop-less : tie.Need-loop-less Inv-loop μ-loop
 loop-less c = search needs
 
 loop-again : tie.Need-loop-again Inv-loop μ-loop
-loop-again c = run-more _ _ _ (c .before .before .before .before .loop .inv) (search needs) (kind-is 1 (sym (eqb-true _ 1 (sym (c .before .is-label-byte .ensures .1) ∙ not-false _ (c .if1 .left)))) (omega arith))
+loop-again c = run-more _ _ _ (c .before .before .before .before .loop .inv) (search needs) (kind-is 1 (sym (eqb-true _ 1 (sym (c .before .is-label-byte .ensures .1) ∙ not-false _ (c .if1 .left)))) (omega arith)) (sym (c .before .is-label-byte .ensures .0) ∙ not-false _ (c .if1 .left))
 
 returns-2 : tie.Need-returns-2 Inv-loop μ-loop
 returns-2 c = run-end _ _ _ (c .before .loop .inv) (search needs)

@@ -3,7 +3,7 @@ use Prim.Native.Nat.{_-_}
 use mathlib.Core.Path.{sym, subst, _∙_}
 use native.Mathlib.Omega.{arith}
 use borrow.Author.Needs.{needs}
-use Rattle.feeding.specs.Texts.{Small}
+use Rattle.answers.specs.Answers.{Small}
 use Rattle.feeding.specs.BatchLaws.{small-answer, Going, going-none, going-lane, going-index, going-part, taken-fits, going-more, gone-holds, gone-verdicts, gone-outside}
 use Rattle.feeding.proofs.texts.feed_texts.Statement.{statement}
 use Rattle.feeding.proofs.texts.feed_texts.Tie as tie

@@ -1,12 +1,11 @@
--- `feeding::texts::verdict_number` meets its contract: case by case. Assumes nothing.
+-- `answers::verdict_number` meets its contract: case by case. Assumes nothing.
 use mathlib.Core.Path.{sym, ap, subst, _∙_}
 use native.Mathlib.Omega.{arith}
 use borrow.Author.Needs.{needs}
 use Rattle.trees.specs.Batch.{verdictNumber}
-use Rattle.answers.specs.Answers.{progressGiven}
-use Rattle.feeding.specs.Texts.{Small}
-use Rattle.feeding.proofs.texts.verdict_number.Statement.{statement}
-use Rattle.feeding.proofs.texts.verdict_number.Tie as tie
+use Rattle.answers.specs.Answers.{progressGiven, Small}
+use Rattle.answers.proofs.verdict_number.Statement.{statement}
+use Rattle.answers.proofs.verdict_number.Tie as tie
 
 few : tie.Need-cast-result
 unfolding Small progressGiven

@@ -1,0 +1,87 @@
+-- Places in a file, or in a command of it: each stands for the bytes from there on, with a blank for each comment.
+--
+--   part i r s            the bytes of s from i up to r
+--   plainAt s i           the bytes of s from place i on, with a blank for each comment
+--   commandsAt s i        their commands, and what stands behind the last semicolon
+--   CommentEnd s i r      the comment whose bytes begin at i ends before r; r is past s where it never ends
+--   BlankEnd s i r        the blank or the comment at i ends before r; r is i where neither stands there
+--   Skipped s i r         blanks and comments stand from i up to r, and none at r
+--   TokenAt s i t         the first token from i on
+--   NameEnd s i r         the bytes of a tree's name stand from i up to r, and none at r
+--   plain b               the byte b neither ends a command nor begins a comment
+--   PlainRun s i r        such bytes stand from i up to r
+--   PlainEnd s i r        such bytes stand from i up to r, and none at r
+--   CommandEnd s i r      the command that begins at i ends at r, at its semicolon or behind s
+use Prim.Native.Nat.{ℕ, _+_, _-_, _≤_, _<_}
+use mathlib.Core.Path.{_≡_}
+use mathlib.Core.Bool.{Bool, true, false, not, _&&_}
+use mathlib.Core.List.{List, [], _∷_, _++_}
+use lib.Dec.{ltb, eqb}
+use lib.ListN.{length, getD, take, drop}
+use Rattle.trees.specs.Plain.{byte}
+use Rattle.trees.specs.Text.{semicolon, isBlank}
+use Rattle.trees.specs.Nexus.{behindRun, begins, uncommented, behindComment, parts, isNameByte}
+use Rattle.trees.specs.NexusReading.{firstToken, behindFirst}
+use Rattle.nexus.specs.declared.tokens.Token.{Token}
+
+abbrev pub part : ℕ → ℕ → List ℕ → List ℕ
+part i r s = take (r - i) (drop i s)
+
+abbrev pub plainAt : List ℕ → ℕ → List ℕ
+plainAt s i = uncommented (drop i s)
+
+abbrev pub commandsAt : List ℕ → ℕ → List (List ℕ)
+commandsAt s i = parts semicolon (plainAt s i)
+
+-- "ends at the first `]` and reads as a blank"
+pub record CommentEnd (s : List ℕ) (i r : ℕ) : Type 0 where
+  pub closed : r ≤ length s → (i < r) × (behindComment (drop i s) ≡ byte " " ∷ plainAt s r)
+  pub unclosed : length s < r → (r ≡ length s + 1) × (behindComment (drop i s) ≡ byte "[" ∷ [])
+  -- whatever stands behind it
+  pub alone : r ≤ length s → (t : List ℕ) → behindComment (part i r s ++ t) ≡ byte " " ∷ uncommented t
+
+pub record Skipped (s : List ℕ) (i r : ℕ) : Type 0 where
+  pub past : i ≤ r
+  pub within : r ≤ length s
+  pub plain : behindRun isBlank (plainAt s i) ≡ plainAt s r
+  pub stop : begins isBlank (plainAt s r) ≡ false
+
+-- behind the blank or the comment at i; at i where neither stands there
+pub record BlankEnd (s : List ℕ) (i r : ℕ) : Type 0 where
+  pub within : r ≤ length s
+  pub past : (r ≡ i → ⊥) → (i < r) × (behindRun isBlank (plainAt s i) ≡ behindRun isBlank (plainAt s r))
+  pub stop : r ≡ i → begins isBlank (plainAt s i) ≡ false
+
+pub record TokenAt (s : List ℕ) (i : ℕ) (t : Token) : Type 0 where
+  pub past : i ≤ t .from
+  pub order : t .from ≤ t .end
+  pub within : t .end ≤ length s
+  pub blanks : behindRun isBlank (plainAt s i) ≡ plainAt s (t .from)
+  pub token : firstToken (plainAt s i) ≡ part (t .from) (t .end) s
+  pub behind : behindFirst (plainAt s i) ≡ plainAt s (t .end)
+
+pub record NameEnd (s : List ℕ) (i r : ℕ) : Type 0 where
+  pub past : i ≤ r
+  pub within : r ≤ length s
+  pub begun : begins isNameByte (plainAt s i) ≡ ltb i r
+  pub behind : behindRun isNameByte (plainAt s i) ≡ plainAt s r
+
+abbrev pub plain : ℕ → Bool
+plain b = not (eqb b semicolon) && not (eqb b (byte "["))
+
+pub record PlainRun (s : List ℕ) (i r : ℕ) : Type 0 where
+  pub past : i ≤ r
+  pub within : r ≤ length s
+  pub each : (j : ℕ) → i ≤ j → j < r → plain (getD s j 0) ≡ true
+
+pub record PlainEnd (s : List ℕ) (i r : ℕ) : Type 0 where
+  pub past : i ≤ r
+  pub within : r ≤ length s
+  pub each : (j : ℕ) → i ≤ j → j < r → plain (getD s j 0) ≡ true
+  pub stop : r < length s → plain (getD s r 0) ≡ false
+
+pub record CommandEnd (s : List ℕ) (i r : ℕ) : Type 0 where
+  pub past : i ≤ r
+  pub within : r ≤ length s
+  pub more : r < length s → commandsAt s i ≡ uncommented (part i r s) ∷ commandsAt s (r + 1)
+  pub last : r ≡ length s → commandsAt s i ≡ plainAt s i ∷ []

@@ -1,0 +1,122 @@
+-- The plain NEXUS file around trees that we write reads back: every tree is judged to exactly the splits that it was written from.
+--
+--   judged-blank               a blank before a text changes no verdict of its own
+--   treeText ns s              the tree with the splits s, without its semicolon
+--   written-file               the file around written trees is a NEXUS file
+--   written-file-reads-back    it gives no pairs, and as texts the written trees without their semicolons, behind a blank
+--   written-file-accepted      handed in, each of its trees is accepted with exactly its splits where there is room
+--   written-file-fed           as the written trees are, fed one after another to an empty lane
+use Prim.Native.Nat.{ℕ, _≤_}
+use native.Mathlib.Omega.{arith}
+use mathlib.Core.Path.{_≡_, refl, ap, sym, _∙_, subst}
+use mathlib.Core.Logic.{inl, inr}
+use mathlib.Core.Bool.{true}
+use mathlib.Core.List.{List, [], _∷_, map}
+use mathlib.Core.Option.{Option, none, some}
+use lib.ListN.{length, length-map}
+use borrow.Author.Tests.{le-ltb}
+use Rattle.trees.specs.Plain.{every, Answer, refused, gives}
+use Rattle.trees.specs.Text.{kind, symbols}
+use Rattle.trees.specs.Tree.{Nodes}
+use Rattle.trees.specs.Names.{goodNames, different}
+use Rattle.trees.specs.Verdict.{judgedTree, judged}
+use Rattle.trees.specs.Written.{treeOf, shown, written}
+use Rattle.trees.specs.Held.{Held, roomFor, withRoom, verdict, finished, recording}
+use Rattle.trees.specs.Whole.{goodTree}
+use Rattle.trees.specs.Batch.{verdictNumber, Batched, withVerdict}
+use Rattle.trees.specs.Nexus.{File, IsNexus}
+use Rattle.trees.specs.NexusReading.{readFile}
+use Rattle.trees.specs.NexusCall.{keysOf, onText, handing, handedIn, nexus}
+use Rattle.theorems.specs.ListLaws.{if-false, and-left, and-right, every-intro}
+use Rattle.theorems.specs.TextLaws.{byKind, symbols-cons}
+use Rattle.theorems.specs.GrammarLaws.{reading-symbols}
+use Rattle.theorems.specs.WrittenLaws.{written-tree-reads-back, written-no-semicolon, written-no-comment, written-length}
+use Rattle.theorems.specs.WrittenFedLaws.{written-more}
+use Rattle.theorems.specs.PieceLaws.{unended, text-held}
+use Rattle.theorems.specs.OwnLaneLaws.{recording-opening}
+use Rattle.theorems.specs.NexusLaws.{read-exactly}
+use Rattle.theorems.specs.NexusTextLaws.{is-unended}
+use Rattle.theorems.specs.NexusFedLaws.{EmptyLane, FedAs, handing-as-feeding}
+use Rattle.theorems.specs.NexusFile.{fileAround, accepting}
+use Rattle.theorems.specs.NexusFileLaws.{Plain, AllPlain, withEnd, behindBlank, around-file, around-plain}
+
+-- ---- a blank before a text
+
+blank-symbols : (w : List ℕ) → symbols (32 ∷ w) ≡ symbols w
+unfolding byKind kind
+blank-symbols w = symbols-cons [] 32 w
+
+pub judged-blank : (ns : List (List ℕ)) (w : List ℕ) → judged ns (32 ∷ w) ≡ judged ns w
+unfolding judged
+judged-blank ns w = ap (λ (o : Option Nodes). elim o as (λ _. Answer (List ℕ)) [ none ↦ refused 7 | some t ↦ judgedTree ns t ]) (reading-symbols (32 ∷ w) w (blank-symbols w))
+
+-- ---- the file
+
+map-twice : (f g : List ℕ → List ℕ) (l : List (List ℕ)) → map f (map g l) ≡ map (λ x. f (g x)) l
+map-twice f g [] = refl
+map-twice f g (x ∷ l) = ap (λ (r : List (List ℕ)). f (g x) ∷ r) (map-twice f g l)
+
+-- the tree with the splits s, without its semicolon
+abbrev pub treeText : List (List ℕ) → List ℕ → List ℕ
+treeText ns s = shown (treeOf ns s)
+
+written-texts : (ns ss : List (List ℕ)) → map (written ns) ss ≡ map withEnd (map (treeText ns) ss)
+unfolding written
+written-texts ns [] = refl
+written-texts ns (s ∷ ss) = ap (λ (ts : List (List ℕ)). withEnd (treeText ns s) ∷ ts) (written-texts ns ss)
+
+module _ (n : ℕ) (ns : List (List ℕ)) (names : goodNames n ns ≡ true) (least : 3 ≤ n) (most : n ≤ 64) where
+  written-plain : (ss : List (List ℕ)) → every (goodTree n) ss ≡ true → AllPlain (map (treeText ns) ss)
+  unfolding every
+  written-plain (s ∷ ss) e w (inl q) =
+      let good = and-left (goodTree n s) (every (goodTree n) ss) e in
+      subst Plain (sym q) (written-no-semicolon n ns s names good (omega arith), written-no-comment n ns s names good (omega arith))
+  written-plain (s ∷ ss) e w (inr m) = written-plain ss (and-right (goodTree n s) (every (goodTree n) ss) e) w m
+
+  pub written-file : (ss : List (List ℕ)) → every (goodTree n) ss ≡ true → IsNexus (fileAround (map (written ns) ss)) (behindBlank (map (treeText ns) ss))
+  written-file ss e =
+      subst (λ (ts : List (List ℕ)). IsNexus (fileAround ts) (behindBlank (map (treeText ns) ss))) (sym (written-texts ns ss))
+      (around-file (map (treeText ns) ss) (written-plain ss e))
+
+  pub written-file-reads-back : (ss : List (List ℕ)) → every (goodTree n) ss ≡ true → readFile (fileAround (map (written ns) ss)) ≡ some (behindBlank (map (treeText ns) ss))
+  written-file-reads-back ss e = read-exactly (fileAround (map (written ns) ss)) (behindBlank (map (treeText ns) ss)) .1 (written-file ss e)
+
+  -- ---- its trees
+
+  module _ (h : Held) (same : h .opening .names ≡ ns) (s : List ℕ) (good : goodTree n s ≡ true) where
+    shown-judged : (t : List ℕ) → length t ≤ 4096 → judged ns t ≡ gives s → onText h t ≡ roomFor h s
+    unfolding onText verdict withRoom
+    shown-judged t l e = ap (verdict h) (text-held t l) ∙ ap (λ (x : List (List ℕ)). withRoom h (judged x t)) same ∙ ap (withRoom h) e
+
+    written-judged : onText h (treeText ns s) ≡ roomFor h s
+    written-judged = shown-judged (treeText ns s) (omega (arith, written-more ns s, written-length n ns s names good least most)) (written-tree-reads-back n ns s names good (omega arith) most)
+
+    blank-judged : onText h (32 ∷ treeText ns s) ≡ roomFor h s
+    blank-judged =
+        shown-judged (32 ∷ treeText ns s) (omega (arith, written-more ns s, written-length n ns s names good least most))
+        (judged-blank ns (treeText ns s) ∙ written-tree-reads-back n ns s names good (omega arith) most)
+
+  -- texts that are judged to their splits
+  abbrev Judged : (List ℕ → List ℕ) → Type 0
+  Judged f = (h : Held) → h .opening .names ≡ ns → (s : List ℕ) → goodTree n s ≡ true → onText h (f s) ≡ roomFor h s
+
+  handing-accepts : (f : List ℕ → List ℕ) → Judged f → (h : Held) → h .opening .names ≡ ns → (ss : List (List ℕ)) → every (goodTree n) ss ≡ true → handing h (map f ss) ≡ accepting h ss
+  unfolding handing accepting every
+  handing-accepts f j h same [] e = refl
+  handing-accepts f j h same (s ∷ ss) e =
+      let kept : recording h (roomFor h s) .opening .names ≡ ns = ap (λ o. o .names) (recording-opening h (roomFor h s)) ∙ same in
+      ap (λ (v : Answer (List ℕ)). withVerdict (verdictNumber (finished h v)) (handing (recording h v) (map f ss))) (j h same s (and-left (goodTree n s) (every (goodTree n) ss) e))
+      ∙ ap (withVerdict (verdictNumber (finished h (roomFor h s)))) (handing-accepts f j (recording h (roomFor h s)) kept ss (and-right (goodTree n s) (every (goodTree n) ss) e))
+
+  module _ (h : Held) (same : h .opening .names ≡ ns) (ss : List (List ℕ)) (good : every (goodTree n) ss ≡ true) where
+    pub written-file-accepted : (room : ℕ) → length ss ≤ room → nexus h (fileAround (map (written ns) ss)) room ≡ gives (accepting h ss)
+    unfolding nexus handedIn keysOf different
+    written-file-accepted room r =
+        ap (λ (o : Option File). elim o as (λ _. Answer Batched) [ none ↦ refused 15 | some x ↦ handedIn h x room ]) (written-file-reads-back ss good)
+        ∙ if-false _ _ (le-ltb room (length (map (λ (w : List ℕ). 32 ∷ w) (map (treeText ns) ss))) (omega (arith, length-map (map (treeText ns) ss) (λ w. 32 ∷ w), length-map ss (treeText ns))))
+        ∙ ap gives (ap (handing h) (around-plain (map (treeText ns) ss) ∙ map-twice (λ w. 32 ∷ w) (treeText ns) ss) ∙ handing-accepts (λ s. 32 ∷ treeText ns s) blank-judged h same ss good)
+
+    pub written-file-fed : (l : ℕ) → EmptyLane h l → FedAs h l (map (treeText ns) ss) (accepting h ss)
+    written-file-fed l e =
+        subst (FedAs h l (map (treeText ns) ss)) (handing-accepts (treeText ns) written-judged h same ss good)
+        (handing-as-feeding h l e (map (treeText ns) ss) (every-intro unended (map (treeText ns) ss) (λ w m. is-unended w (written-plain ss good w m .0))))
