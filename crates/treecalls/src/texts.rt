@@ -17,9 +17,9 @@ pub(crate) fn trees(lent: &[u8], call: Call, out: &mut [u8], state: State) -> St
     tree(lent, call, out, state)
 }
 
-// The calls that write one tree. The longest text has 2,236 bytes.
+// The calls that write one tree. The longest text has 4,349 bytes.
 fn tree(lent: &[u8], call: Call, out: &mut [u8], state: State) -> State {
-    let mut text = [0u8; 2240];
+    let mut text = [0u8; 4352];
     let answer = written(lent, call, state.room, &mut text);
     told(&text, answer, out, state)
 }
@@ -67,8 +67,8 @@ fn told(text: &[u8], answer: Number, out: &mut [u8], state: State) -> State {
 
 // Answers `both`.
 fn both(lent: &[u8], out: &mut [u8], state: State) -> State {
-    let mut strict = [0u8; 2240];
-    let mut majority = [0u8; 2240];
+    let mut strict = [0u8; 4352];
+    let mut majority = [0u8; 4352];
     let answer = both_written(lent, state.room, &mut strict, &mut majority);
     both_told(&strict, &majority, answer, out, state)
 }
