@@ -5,7 +5,7 @@
  * consensus trees as treecalls writes them. */
 #include "small.h"
 
-enum { TAXA = 64, TREES = 1024, SPLITS = 4096, SLOTS = 8192, NAME_SLOTS = 256, TEXT = 4096, NESTING = 63 };
+enum { TAXA = 64, TREES = 1024, SPLITS = 4096, SLOTS = 8192, NAME_SLOTS = 256, TEXT = 4608, NESTING = 63, NAME = 32 };
 enum { INPUT = 4194304 };
 
 static u8 input[INPUT];
@@ -15,8 +15,13 @@ static u8 marks[SPLITS];
 
 static u32 taxa;
 static u64 every_taxon;
-static const u8 *names[TAXA];
-static u32 name_sizes[TAXA];
+struct label { /* as it reads; of a longer one than a name the bytes up to one more */
+    u8 bytes[NAME + 1];
+    u32 size, hash;
+};
+static struct label names[TAXA];
+static u8 written[TAXA][2 * NAME + 2];
+static u32 written_sizes[TAXA];
 static u8 name_slots[NAME_SLOTS]; /* a taxon's number and 1; 0 for none */
 
 static u32 trees, splits;
@@ -30,12 +35,14 @@ static u32 sizes[TREES];
 
 enum { BLANK, LABEL, OTHER };
 
-static u8 kinds[256];
+static u8 kinds[256], reads[256];
 
 static void set_kinds(void)
 {
-    for (int c = 0; c < 256; c++)
+    for (int c = 0; c < 256; c++) {
         kinds[c] = 33 <= c && c <= 126 ? LABEL : OTHER;
+        reads[c] = c == '_' ? ' ' : (u8)c;
+    }
     for (const char *p = "()[]':;,"; *p; p++)
         kinds[(u8)*p] = OTHER;
     for (const char *p = " \t\r\n"; *p; p++)
@@ -49,15 +56,44 @@ static const u8 *skip_blanks(const u8 *p, const u8 *end)
     return p;
 }
 
-static u32 hash_step(u32 h, u8 c) { return h * 31 + c; }
+static void add_byte(struct label *to, u8 c)
+{
+    to->hash = to->hash * 31 + c;
+    if (to->size <= NAME)
+        to->bytes[to->size++] = c;
+}
+
+/* Past the quoted label that begins here, or 0 where it is none. */
+static const u8 *read_quoted(const u8 *p, const u8 *end, struct label *to)
+{
+    while (++p < end) {
+        if (*p == '\'' && (++p == end || *p != '\''))
+            return to->size ? p : 0;
+        if (*p < 32 || 126 < *p)
+            return 0;
+        add_byte(to, *p);
+    }
+    return 0;
+}
+
+/* Past the label that begins here, or 0 where its quotes are bad; it is empty where none begins. */
+static const u8 *read_label(const u8 *p, const u8 *end, struct label *to)
+{
+    to->size = to->hash = 0;
+    if (p < end && *p == '\'')
+        return read_quoted(p, end, to);
+    for (; p < end && kinds[*p] == LABEL; p++)
+        add_byte(to, reads[*p]);
+    return p;
+}
 
 static u32 name_slot(u32 h) { return (h * 2654435761u) >> 24; }
 
-static int find_taxon(const u8 *name, u32 size, u32 h)
+static int find_taxon(const struct label *label)
 {
-    for (u32 k = name_slot(h); name_slots[k]; k = (k + 1) % NAME_SLOTS) {
+    for (u32 k = name_slot(label->hash); name_slots[k]; k = (k + 1) % NAME_SLOTS) {
         u32 t = name_slots[k] - 1u;
-        if (name_sizes[t] == size && !memcmp(names[t], name, size))
+        if (names[t].size == label->size && !memcmp(names[t].bytes, label->bytes, label->size))
             return (int)t;
     }
     return -1;
@@ -105,6 +141,7 @@ static u32 judge(const u8 *p, const u8 *end, u64 *list, u32 *found)
     u64 seen = 0;
     u32 depth = 0, clusters = 0, root_kids = 0, fault = 0;
     u64 node[TAXA];
+    struct label label;
     for (;;) {
         p = skip_blanks(p, end);
         while (p < end && *p == '(') {
@@ -114,13 +151,10 @@ static u32 judge(const u8 *p, const u8 *end, u64 *list, u32 *found)
             kids[depth++] = 0;
             p = skip_blanks(p + 1, end);
         }
-        const u8 *name = p;
-        u32 h = 0;
-        while (p < end && kinds[*p] == LABEL)
-            h = hash_step(h, *p++);
-        if (p == name)
+        p = read_label(p, end, &label);
+        if (!p || !label.size)
             return 7;
-        int t = find_taxon(name, (u32)(p - name), h);
+        int t = find_taxon(&label);
         u64 mask = t < 0 ? 0 : 1ul << t;
         if (!fault)
             fault = t < 0 ? 8 : seen & mask ? 9 : 0;
@@ -150,9 +184,9 @@ static u32 judge(const u8 *p, const u8 *end, u64 *list, u32 *found)
                 root_kids = kids[0];
             else if (clusters < TAXA)
                 node[clusters++] = mask;
-            p = skip_blanks(p + 1, end);
-            while (p < end && kinds[*p] == LABEL)
-                p++;
+            p = read_label(skip_blanks(p + 1, end), end, &label);
+            if (!p)
+                return 7;
         }
         if (p == end || *p != ',')
             return 7;
@@ -219,13 +253,27 @@ static u32 record(const u64 *list, u32 n)
     return 256 + trees++;
 }
 
+/* The semicolon that ends the text, which stands behind an even number of apostrophes; 0 where there is none. */
+static const u8 *text_end(const u8 *p, const u8 *end)
+{
+    const u8 *semicolon = memchr(p, ';', (u64)(end - p));
+    while (semicolon && (p = memchr(p, '\'', (u64)(semicolon - p)))) {
+        p = memchr(p + 1, '\'', (u64)(end - p - 1));
+        if (!p)
+            return 0;
+        if (semicolon < ++p)
+            semicolon = memchr(p, ';', (u64)(end - p));
+    }
+    return semicolon;
+}
+
 /* Reads and records every text of the piece; answers how many there were. */
 static u32 batch(const u8 *p, const u8 *end)
 {
     u64 list[TAXA];
     u32 n = 0;
     const u8 *semicolon;
-    while (n < 2 * TREES && (semicolon = memchr(p, ';', (u64)(end - p)))) {
+    while (n < 2 * TREES && (semicolon = text_end(p, end))) {
         u32 k = 0;
         u32 verdict = TEXT < semicolon - p ? 6 : judge(p, semicolon, list, &k);
         verdicts[n++] = verdict ? verdict : record(list, k);
@@ -270,8 +318,8 @@ static u8 first[NODES], next[NODES];
 static char *write_node(char *to, u32 node)
 {
     if (node < TAXA) {
-        memcpy(to, names[node], name_sizes[node]);
-        return to + name_sizes[node];
+        memcpy(to, written[node], written_sizes[node]);
+        return to + written_sizes[node];
     }
     *to++ = '(';
     for (u32 k = first[node]; k != NONE; k = next[k]) {
@@ -342,7 +390,7 @@ static u32 consensus(u32 least, char *to)
 
 /* ---- the program */
 
-static char strict_text[4096], majority_text[4096];
+static char strict_text[4352], majority_text[4352];
 static u32 strict_size, majority_size;
 
 static void both_trees(void)
@@ -421,27 +469,42 @@ static void time_part(u8 part, u64 n, const u8 *p, const u8 *end)
     put_char('\n');
 }
 
-static void add_name(const u8 *p, const u8 *end)
+/* The name as it is written: in quotes if it has a byte that needs them, else with underscores for blanks. */
+static void write_name(u32 t)
 {
-    u32 h = 0;
-    names[taxa] = p;
-    name_sizes[taxa] = (u32)(end - p);
-    while (p < end)
-        h = hash_step(h, *p++);
-    u32 k = name_slot(h);
+    u8 *to = written[t], quoted = 0;
+    for (u32 k = 0; k < names[t].size; k++)
+        quoted |= !!memchr("_()[]':;,", names[t].bytes[k], 9);
+    if (quoted)
+        *to++ = '\'';
+    for (u32 k = 0; k < names[t].size; k++) {
+        u8 c = names[t].bytes[k];
+        if (c == '\'')
+            *to++ = c;
+        *to++ = c == ' ' && !quoted ? '_' : c;
+    }
+    if (quoted)
+        *to++ = '\'';
+    written_sizes[t] = (u32)(to - written[t]);
+}
+
+static void add_name(void)
+{
+    u32 k = name_slot(names[taxa].hash);
     while (name_slots[k])
         k = (k + 1) % NAME_SLOTS;
+    write_name(taxa);
     name_slots[k] = (u8)++taxa;
 }
 
-/* Takes the line of names; answers the place behind it. */
+/* Takes the line of names; answers the place behind it, or 0 where it is no such line. */
 static const u8 *take_names(const u8 *p, const u8 *end)
 {
     while (p < end && taxa < TAXA) {
-        const u8 *from = p;
-        while (p < end && *p != ' ' && *p != '\n')
-            p++;
-        add_name(from, p);
+        p = read_label(p, end, names + taxa);
+        if (!p || !names[taxa].size || NAME < names[taxa].size)
+            return 0;
+        add_name();
         if (p == end)
             break;
         if (*p++ == '\n')
@@ -472,6 +535,8 @@ int main(void)
             times = times * 10 + *q - '0';
     set_kinds();
     p = take_names(p + 1, end);
+    if (!p)
+        return 1;
     if (input[0] != 'a' && input[0] != 't') {
         time_part(input[0], times, p, end);
     } else {

@@ -36,7 +36,7 @@ int main(void)
     u32 taxa = 1;
     for (const u8 *p = input; p < line; p++)
         taxa += *p == ' ';
-    put_text("lend 253960\nopen ");
+    put_text("lend 254472\nopen ");
     put_number(taxa);
     put_text(" 1 1024 4096 8192 ");
     put_hex(input, line);

@@ -1,13 +1,15 @@
 /* Writes a collection of 1,024 trees over 64 taxa, the same for the same kind and seed: a line of names, then a text a line.
  *
- *     collection equal|random|mixed|posterior SEED
+ *     collection equal|random|mixed|posterior|quoted SEED
  *
  * equal: one tree, its branches turned about in each text. random: each tree is a base tree after some exchanges of neighbouring
  * branches, as many as keep the collection's splits growing evenly to just below 4,096. mixed: the two in turn. Of these, two texts in
  * four have lengths, and of the random trees one in eight has nodes of more than two children.
  *
  * posterior: trees as a Bayesian analysis samples them. Each is a few exchanges away from the one before; an exchange that loses splits
- * of the base tree is mostly taken back, nearly always where they are firm, as every other one is. All texts have lengths. */
+ * of the base tree is mostly taken back, nearly always where they are firm, as every other one is. All texts have lengths.
+ *
+ * quoted: the same, and in every other text all names are in quotes, with blanks where the others have underscores. */
 #include "small.h"
 
 enum { TAXA = 64, TREES = 1024, SPLITS = 4096, NODES = 2 * TAXA - 1, ROOT = NODES - 1, MOST_MOVES = 200, SLOTS = 16384 };
@@ -130,6 +132,20 @@ static void make_names(void)
     }
 }
 
+static int quoted; /* whether names are in quotes */
+
+static void put_name(const char *name)
+{
+    if (!quoted) {
+        put_text(name);
+        return;
+    }
+    put_char('\'');
+    for (; *name; name++)
+        put_char(*name == '_' ? ' ' : *name);
+    put_char('\'');
+}
+
 static u64 least = 100; /* the smallest number that stands behind the point of a length */
 
 static void put_length(void)
@@ -158,7 +174,7 @@ static void write_kids(const struct tree *t, u32 node, int lengths)
 static void write_node(const struct tree *t, u32 node, int lengths)
 {
     if (node < TAXA) {
-        put_text(names[node]);
+        put_name(names[node]);
     } else {
         put_char('(');
         write_kids(t, node, lengths);
@@ -248,7 +264,7 @@ int main(int count, char **words)
     if (count != 3)
         return 1;
     char kind = words[1][0];
-    int sampled = kind == 'p';
+    int sampled = kind == 'p' || kind == 'q';
     state = seed_of(words[2]);
     if (sampled) {
         least = 100000;
@@ -271,6 +287,7 @@ int main(int count, char **words)
             tree = base;
         if (kind == 'r' || (kind == 'm' && i % 2))
             make_near(&tree, &base, TAXA + (SPLITS - TAXA) * (i + 1) / TREES);
+        quoted = kind == 'q' && i % 2;
         write_node(&tree, ROOT, sampled || i % 4 < 2);
         put_text(";\n");
     }

@@ -1,5 +1,5 @@
 /* Writes a collection, as bench/collection.c makes it, as a NEXUS file such as MrBayes writes: a list of keys and names, then a tree a
- * command with keys for names. Nothing else of a text is changed; `[&U]` stands before it. */
+ * command with keys for names, in quotes or not. Nothing else of a text is changed; `[&U]` stands before it. */
 #include "small.h"
 
 enum { INPUT = 4194304, MOST_TAXA = 64 };
@@ -51,10 +51,25 @@ static void put_token(const u8 *from, u64 size)
     put_bytes((const char *)from, size);
 }
 
+/* A name in quotes, which has none itself: its key. Answers the place behind it. */
+static const u8 *put_quoted(const u8 *from)
+{
+    u8 name[32];
+    u64 size = 0;
+    for (from++; *from != '\'' && size < 32; from++)
+        name[size++] = *from == ' ' ? '_' : *from;
+    put_token(name, size);
+    return from + 1;
+}
+
 /* A text up to and with its semicolon; lengths, which stand behind a colon, are no names. */
 static const u8 *put_tree(const u8 *from, const u8 *end)
 {
     while (from < end && *from != ';') {
+        if (*from == '\'') {
+            from = put_quoted(from);
+            continue;
+        }
         const u8 *to = from;
         while (to < end && is_label_byte(*to))
             to++;

@@ -1,6 +1,7 @@
 //! Changes of a store's fields: such that leave it whole, mostly, and faults that break one rule of "Whole means".
 
-use crate::layout::RUN_OVER;
+use crate::labels::written_names;
+use crate::layout::{RUN_OVER, RUN_OVER_ODD};
 use crate::parts::Parts;
 use crate::random::Random;
 use crate::sets::{agree, is_proper, taxa_of};
@@ -8,8 +9,10 @@ use crate::sets::{agree, is_proper, taxa_of};
 pub type Change = fn(&mut Random, &mut Parts);
 
 /// Another collection, with all that hangs on it.
-pub const CHANGES: [Change; 9] = [
+pub const CHANGES: [Change; 12] = [
     other_names,
+    name_with_any_quoted_byte,
+    name_of_apostrophes,
     other_constants,
     trees_exchanged,
     tree_repeated,
@@ -17,6 +20,7 @@ pub const CHANGES: [Change; 9] = [
     split_left_out,
     lane_with_any_bytes,
     lane_run_over,
+    lane_with_open_quotes,
     lane_with_text,
 ];
 
@@ -24,7 +28,7 @@ pub const CHANGES: [Change; 9] = [
 pub const FAULTS: [Change; 28] = [
     name_repeated,
     name_empty,
-    name_with_any_byte,
+    name_with_a_bad_byte,
     first_constant_too_large,
     mask_of_one_taxon,
     mask_of_all_but_one,
@@ -67,6 +71,23 @@ fn other_names(_: &mut Random, parts: &mut Parts) {
     parts.names.rotate_left(1);
 }
 
+/// "1 to 32 bytes from 32 to 126": marks and blanks among them, as names are kept as they read.
+fn name_with_any_quoted_byte(random: &mut Random, parts: &mut Parts) {
+    let name = some_name(random, parts);
+    let at = random.below(name.len());
+    let byte = random.between(32, 126) as u8;
+    name[at] = *random.pick(&[b' ', b' ', b'_', b'\'', b'(', b';', b'~', byte, byte, byte]);
+}
+
+fn name_of_apostrophes(random: &mut Random, parts: &mut Parts) {
+    *some_name(random, parts) = vec![b'\''; 32];
+}
+
+fn some_name<'a>(random: &mut Random, parts: &'a mut Parts) -> &'a mut Vec<u8> {
+    let at = random.below(parts.names.len());
+    &mut parts.names[at]
+}
+
 fn other_constants(random: &mut Random, parts: &mut Parts) {
     let places = parts.numbers.places;
     parts.first.iter_mut().for_each(|c| *c = random.next() % places);
@@ -107,12 +128,19 @@ fn lane_with_any_bytes(random: &mut Random, parts: &mut Parts) {
 }
 
 fn lane_run_over(random: &mut Random, parts: &mut Parts) {
-    set_lane(random, parts, RUN_OVER, Vec::new());
+    let long = *random.pick(&[RUN_OVER, RUN_OVER_ODD]);
+    set_lane(random, parts, long, Vec::new());
+}
+
+/// Some hold semicolons too, though no lane comes to that by itself.
+fn lane_with_open_quotes(random: &mut Random, parts: &mut Parts) {
+    let text = *random.pick(&[&b"('a;"[..], b"'", b"''", b"(A,'b''", b";'", b"';'", b"('''"]);
+    set_lane(random, parts, text.len() as u64, text.to_vec());
 }
 
 /// A text up to its last bracket, for the next feeding to end.
 fn lane_with_text(_: &mut Random, parts: &mut Parts) {
-    let text = [&b"("[..], &parts.names.join(&b','), b")"].concat();
+    let text = [&b"("[..], &written_names(&parts.names, b','), b")"].concat();
     parts.lanes[0] = (text.len() as u64, text);
 }
 
@@ -129,14 +157,14 @@ fn name_repeated(random: &mut Random, parts: &mut Parts) {
 }
 
 fn name_empty(random: &mut Random, parts: &mut Parts) {
-    let at = random.below(parts.names.len());
-    parts.names[at].clear();
+    some_name(random, parts).clear();
 }
 
-fn name_with_any_byte(random: &mut Random, parts: &mut Parts) {
-    let at = random.below(parts.names.len());
-    let byte = *random.pick(&[0, 9, 10, 32, 39, 40, 41, 44, 58, 59, 91, 93, 127, 128, 255]);
-    *parts.names[at].last_mut().expect("a name has a byte") = byte;
+fn name_with_a_bad_byte(random: &mut Random, parts: &mut Parts) {
+    let byte = *random.pick(&[0, 9, 10, 13, 30, 31, 127, 128, 160, 255]);
+    let name = some_name(random, parts);
+    let at = random.below(name.len());
+    name[at] = byte;
 }
 
 fn first_constant_too_large(random: &mut Random, parts: &mut Parts) {
@@ -327,6 +355,6 @@ fn no_such_row(random: &mut Random, parts: &mut Parts) {
 }
 
 fn lane_too_long(random: &mut Random, parts: &mut Parts) {
-    let long = *random.pick(&[RUN_OVER + 1, 8192, 32768, 65535]);
+    let long = *random.pick(&[RUN_OVER_ODD + 1, RUN_OVER_ODD + 2, 8192, 32768, 65535]);
     set_lane(random, parts, long, Vec::new());
 }

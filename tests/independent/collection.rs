@@ -2,6 +2,7 @@
 
 use crate::consensus::{majority, strict, written, Counts};
 use crate::hash::{identifier, place};
+use crate::labels::{first_outside, is_odd, split_outside};
 use crate::nexus::plain_texts;
 use crate::opening::Opening;
 use crate::text::is_blank;
@@ -20,7 +21,10 @@ pub struct Collection {
 #[derive(PartialEq)]
 pub enum Lane {
     Holding(Vec<u8>),
-    RunOver,
+    /// It drops bytes; `odd` is whether an odd number of apostrophes came so far in the text.
+    RunOver {
+        odd: bool,
+    },
 }
 
 pub enum Fed {
@@ -43,13 +47,20 @@ impl Lane {
         Lane::Holding(Vec::new())
     }
 
-    /// "Past 4,096 held bytes, blanks counted, the lane drops bytes."
+    /// Whether the text so far has an odd number of apostrophes.
+    fn is_odd(&self) -> bool {
+        match self {
+            Lane::Holding(held) => is_odd(held),
+            Lane::RunOver { odd } => *odd,
+        }
+    }
+
+    /// "Past 4,608 held bytes, blanks counted, the lane drops bytes", and counts the apostrophes among them.
     fn hold(&mut self, bytes: &[u8]) {
-        if let Lane::Holding(held) = self {
-            held.extend(bytes);
-            if held.len() > MOST_BYTES {
-                *self = Lane::RunOver;
-            }
+        let odd = self.is_odd() != is_odd(bytes);
+        match self {
+            Lane::Holding(held) if held.len() + bytes.len() <= MOST_BYTES => held.extend(bytes),
+            _ => *self = Lane::RunOver { odd },
         }
     }
 }
@@ -68,12 +79,13 @@ impl Collection {
 
     // Feeding
 
-    /// "Takes bytes up to the first semicolon and that semicolon, or all if there is none."
+    /// "Takes bytes up to the first semicolon and that semicolon, or all if there is none"; such a one counts "only if an
+    /// even number of apostrophes stands before it in that text".
     pub fn feed(&mut self, lane: u64, piece: &[u8]) -> Fed {
         let Some(at) = self.lane_index(lane) else {
             return Fed::Refused { taken: 0, refusal: 5 };
         };
-        let Some(semicolon) = piece.iter().position(|b| *b == b';') else {
+        let Some(semicolon) = first_outside(self.lanes[at].is_odd(), piece, b';') else {
             self.lanes[at].hold(piece);
             return Fed::More { taken: piece.len() };
         };
@@ -87,10 +99,8 @@ impl Collection {
 
     /// As many feedings as take the whole piece; 4 if there are more texts than the room for verdicts.
     pub fn batch(&mut self, lane: u64, piece: &[u8], room: usize) -> Result<Batch, u32> {
-        if self.lane_index(lane).is_none() {
-            return Err(5);
-        }
-        if piece.iter().filter(|b| **b == b';').count() > room {
+        let at = self.lane_index(lane).ok_or(5u32)?;
+        if self.texts_in(at, piece) > room {
             return Err(4);
         }
         let mut batch = Batch { verdicts: Vec::new(), taken: 0 };
@@ -111,6 +121,14 @@ impl Collection {
         Ok(batch)
     }
 
+    /// How many texts end in a piece for a lane that there is.
+    pub fn texts_in(&self, lane: usize, piece: &[u8]) -> usize {
+        match first_outside(self.lanes[lane].is_odd(), piece, b';') {
+            None => 0,
+            Some(at) => split_outside(&piece[at + 1..], b';').len(),
+        }
+    }
+
     /// The verdicts on the trees of a NEXUS file, each "judged as its plain text handed whole to an empty lane; no real
     /// lane is touched". 15, 16 and 4 feed no tree.
     pub fn nexus(&mut self, file: &[u8], room: usize) -> Result<Vec<Verdict>, u32> {
@@ -122,7 +140,7 @@ impl Collection {
     pub fn close(&mut self, lane: u64) -> Result<(), u32> {
         let at = self.lane_index(lane).ok_or(5u32)?;
         match std::mem::replace(&mut self.lanes[at], Lane::empty()) {
-            Lane::RunOver => Err(6),
+            Lane::RunOver { .. } => Err(6),
             Lane::Holding(held) if held.iter().any(|b| !is_blank(*b)) => Err(7),
             Lane::Holding(_) => Ok(()),
         }
@@ -135,7 +153,7 @@ impl Collection {
     /// "After a semicolon the lane is empty either way."
     fn judge_lane(&mut self, at: usize) -> Verdict {
         match std::mem::replace(&mut self.lanes[at], Lane::empty()) {
-            Lane::RunOver => Err(6),
+            Lane::RunOver { .. } => Err(6),
             Lane::Holding(text) => self.judge_text(&text),
         }
     }

@@ -1,5 +1,6 @@
 //! Strict and majority splits, and the written tree.
 
+use crate::labels::written_name;
 use crate::sets::{every_taxon, taxa_of, Taxa};
 use crate::verdict::Masks;
 use std::collections::BTreeMap;
@@ -32,7 +33,7 @@ pub fn written(names: &[Vec<u8>], splits: &Masks) -> Vec<u8> {
 /// A node with these taxa below it.
 fn written_node(names: &[Vec<u8>], taxa: &Taxa, clusters: &[Taxa]) -> Vec<u8> {
     if taxa.len() == 1 {
-        return names[*taxa.first().expect("one taxon") as usize].clone();
+        return written_name(&names[*taxa.first().expect("one taxon") as usize]);
     }
     let children = children(taxa, clusters);
     let parts: Vec<Vec<u8>> = children.iter().map(|child| written_node(names, child, clusters)).collect();

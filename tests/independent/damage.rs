@@ -1,8 +1,10 @@
 //! Texts at and past the limits, and texts with a fault of each kind.
 
 use crate::grow::{
-    any_dress, any_label_byte, blanks, joined, ladder, shape, text, text_of, tokens, Name, Shape, Tokens,
+    any_dress, any_quoted_byte, blanks, joined, ladder, shape, spelled, text, text_of, tokens, Name, Shape, Tokens,
+    BARE,
 };
+use crate::labels::{label, quoted};
 use crate::random::Random;
 use crate::verdict::MOST_BYTES;
 
@@ -12,7 +14,7 @@ const BAD_LENGTHS: [&str; 15] =
     [".", "e5", "1e", "1.2.3", "1e+", "--1", "+", "-.", "1e5.0", "0x10", "1_0", "inf", "nan", "1f", ".e1"];
 
 /// Every kind of text; those at a limit are accepted in part, the others are faulty or nearly so.
-pub const KINDS: [Maker; 26] = [
+pub const KINDS: [Maker; 30] = [
     one_child,
     missing_bracket,
     extra_bracket,
@@ -33,10 +35,14 @@ pub const KINDS: [Maker; 26] = [
     lost_token,
     doubled_token,
     empty_bracket,
+    odd_leaf,
+    odd_inner_label,
+    quoted_length,
+    underscores_and_blanks,
     nesting_63,
     nesting_64,
-    bytes_4096,
-    bytes_4097,
+    bytes_4608,
+    bytes_4609,
     little,
     two_faults,
 ];
@@ -90,8 +96,8 @@ fn two_labels(random: &mut Random, names: &[Name]) -> Vec<u8> {
     let mut tokens = plain_tokens(random, names);
     let labels = places(&tokens, |token| !is_sign(token));
     let at = *random.pick(&labels);
-    let label = random.pick(names).clone();
-    tokens.insert(at, label);
+    let name = random.pick(names);
+    tokens.insert(at, spelled(random, name, 2));
     finished(random, &tokens)
 }
 
@@ -112,12 +118,16 @@ fn second_length(random: &mut Random, names: &[Name]) -> Vec<u8> {
 /// Tokens put behind a leaf, in place of what stood there.
 fn after_a_leaf(random: &mut Random, names: &[Name], more: Tokens) -> Vec<u8> {
     let mut tokens = plain_tokens(random, names);
-    let leaves = places(&tokens, |token| names.iter().any(|name| name == token));
-    let at = random.pick(&leaves) + 1;
+    let at = random.pick(&leaves(&tokens, names)) + 1;
     let had_length = tokens.get(at).is_some_and(|token| token == b":");
     let end = if had_length { at + 2 } else { at };
     tokens.splice(at..end, more);
     finished(random, &tokens)
+}
+
+/// Where names stand.
+fn leaves(tokens: &Tokens, names: &[Name]) -> Vec<usize> {
+    places(tokens, |token| label(token).is_some_and(|label| names.contains(&label)))
 }
 
 fn lost_token(random: &mut Random, names: &[Name]) -> Vec<u8> {
@@ -135,6 +145,64 @@ fn doubled_token(random: &mut Random, names: &[Name]) -> Vec<u8> {
 
 fn empty_bracket(random: &mut Random, names: &[Name]) -> Vec<u8> {
     with_token(random, names, b"()")
+}
+
+// Faults in quotes
+
+/// A name in quotes that are odd, or nearly so.
+fn odd_quotes(random: &mut Random, names: &[Name]) -> Vec<u8> {
+    let mut odd = quoted(random.pick::<Name>(names));
+    let (other, at) = (quoted(random.pick::<Name>(names)), random.below(odd.len()));
+    match random.below(12) {
+        0 => odd = random.pick(&[&b"''"[..], b"' '", b"''''", b"'_'", b"_"]).to_vec(),
+        1 => odd.push(b'x'),
+        2 => odd.insert(0, b'x'),
+        3 => odd = [odd, other].join(&b' '),
+        4 => odd.extend(other),
+        5 => odd.extend(b"''"),
+        6 => odd.insert(at, *random.pick(&[0, 9, 10, 13, 31, 127, 128, 255])),
+        7 => drop(odd.remove(at)),
+        8 => drop(odd.pop()),
+        9 => drop(odd.remove(0)),
+        10 => odd = odd[1..odd.len() - 1].to_vec(),
+        _ => odd.insert(at, b'\''),
+    }
+    odd
+}
+
+fn odd_leaf(random: &mut Random, names: &[Name]) -> Vec<u8> {
+    let mut tokens = plain_tokens(random, names);
+    let at = *random.pick(&leaves(&tokens, names));
+    tokens[at] = odd_quotes(random, names);
+    finished(random, &tokens)
+}
+
+fn odd_inner_label(random: &mut Random, names: &[Name]) -> Vec<u8> {
+    let mut tokens = plain_tokens(random, names);
+    let brackets = places(&tokens, |token| token == b")");
+    let at = random.pick(&brackets) + 1;
+    tokens.insert(at, odd_quotes(random, names));
+    finished(random, &tokens)
+}
+
+fn quoted_length(random: &mut Random, names: &[Name]) -> Vec<u8> {
+    let length = *random.pick(&[&b"'1'"[..], b"1'2'", b"'1'2", b"''", b"'1' 2", b"1 '2'", b"1_0"]);
+    after_a_leaf(random, names, vec![b":".to_vec(), length.to_vec()])
+}
+
+/// Underscores for blanks and blanks for underscores, whether they stand in quotes or not.
+fn underscores_and_blanks(random: &mut Random, names: &[Name]) -> Vec<u8> {
+    let mut tokens = plain_tokens(random, names);
+    let at = *random.pick(&leaves(&tokens, names));
+    let often = random.between(1, 3);
+    for b in &mut tokens[at] {
+        match *b {
+            b'_' if random.one_in(often) => *b = b' ',
+            b' ' if random.one_in(often) => *b = b'_',
+            _ => (),
+        }
+    }
+    finished(random, &tokens)
 }
 
 // Faults in leaves and brackets of the tree
@@ -166,16 +234,16 @@ fn with_leaf(random: &mut Random, names: &[Name], leaf: Name) -> Vec<u8> {
 fn unknown_leaf(random: &mut Random, names: &[Name]) -> Vec<u8> {
     let mut leaf = random.pick(names).clone();
     match random.below(3) {
-        0 => leaf.push(any_label_byte(random)),
+        0 => leaf.push(any_quoted_byte(random)),
         1 if leaf.len() > 1 => drop(leaf.pop()),
-        _ => *leaf.last_mut().expect("a name has a byte") = any_label_byte(random),
+        _ => *leaf.last_mut().expect("a name has a byte") = any_quoted_byte(random),
     }
     with_leaf(random, names, leaf)
 }
 
 fn long_leaf(random: &mut Random, names: &[Name]) -> Vec<u8> {
     let long = *random.pick(&[33, 64, 300]);
-    let leaf = (0..long).map(|_| any_label_byte(random)).collect();
+    let leaf = (0..long).map(|_| any_quoted_byte(random)).collect();
     with_leaf(random, names, leaf)
 }
 
@@ -215,7 +283,8 @@ fn stray_byte(random: &mut Random, names: &[Name]) -> Vec<u8> {
 
 fn insert_a_byte(random: &mut Random, bytes: &mut Vec<u8>) {
     let at = random.between(0, bytes.len());
-    bytes.insert(at, random.below(256) as u8);
+    let byte = if random.one_in(4) { b'\'' } else { random.below(256) as u8 };
+    bytes.insert(at, byte);
 }
 
 fn changed_byte(random: &mut Random, names: &[Name]) -> Vec<u8> {
@@ -263,25 +332,26 @@ fn nesting_64(random: &mut Random, names: &[Name]) -> Vec<u8> {
     text_of(random, &tree)
 }
 
-fn bytes_4096(random: &mut Random, names: &[Name]) -> Vec<u8> {
+fn bytes_4608(random: &mut Random, names: &[Name]) -> Vec<u8> {
     filled(random, names, MOST_BYTES)
 }
 
-fn bytes_4097(random: &mut Random, names: &[Name]) -> Vec<u8> {
+fn bytes_4609(random: &mut Random, names: &[Name]) -> Vec<u8> {
     filled(random, names, MOST_BYTES + 1)
 }
 
-/// A text filled up to a length with blanks in front or behind, with an inner label, or with a length's digits.
+/// A text filled up to a length with blanks in front or behind, with an inner label, in quotes or not, or with a
+/// length's digits.
 fn filled(random: &mut Random, names: &[Name], long: usize) -> Vec<u8> {
     let shape = shape(random, names, 3);
-    let bare = crate::grow::Dress { lengths: usize::MAX, labels: usize::MAX, blanks: usize::MAX };
-    let parts = tokens(random, &shape, bare);
-    let mut bytes = joined(random, &parts, bare);
-    let more = long.saturating_sub(bytes.len());
-    match random.below(4) {
+    let parts = tokens(random, &shape, BARE);
+    let mut bytes = joined(random, &parts, BARE);
+    let more = long.saturating_sub(bytes.len()).max(4);
+    match random.below(5) {
         0 => bytes.splice(0..0, vec![b' '; more]).for_each(drop),
         1 => bytes.extend(vec![b'\n'; more]),
         2 => bytes.extend(vec![b'L'; more]),
+        3 => bytes.extend([&b"'"[..], &vec![*random.pick(b"L;"); more - 2], b"'"].concat()),
         _ => bytes.extend(b":".iter().copied().chain(vec![b'7'; more - 1])),
     }
     bytes
@@ -292,8 +362,8 @@ fn little(random: &mut Random, names: &[Name]) -> Vec<u8> {
     match random.below(5) {
         0 => Vec::new(),
         1 => blanks(random),
-        2 => random.pick(names).clone(),
+        2 => quoted(random.pick::<Name>(names)),
         3 => b"nobody".to_vec(),
-        _ => random.pick(&[&b"("[..], b")", b",", b":", b"()", b"(,)", b":1", b"[", b"'"]).to_vec(),
+        _ => random.pick(&[&b"("[..], b")", b",", b":", b"()", b"(,)", b":1", b"[", b"'", b"''"]).to_vec(),
     }
 }

@@ -1,7 +1,7 @@
 //! Damages to the bytes of stores that our program made: one or a few fields at a time, then mended and asked again.
 
 use crate::layout::{
-    first_constant, head_number, name_bytes, name_length, second_constant, Field, HEAD_SPARE, MOST_LISTED,
+    first_constant, head_number, name_bytes, name_length, second_constant, Field, HEAD_SPARE, MOST_LISTED, RUN_OVER,
 };
 use crate::maker::{every_call, joined, QUESTIONS};
 use crate::opening::Numbers;
@@ -61,7 +61,8 @@ impl Lent {
         let mut lines: Vec<String> = damages.iter().map(Damage::line).collect();
         let writes = random.one_in(4);
         if writes {
-            lines.extend(every_call(b"(A,B,C,D,E);"));
+            let piece = *random.pick(&[&b"(A,B,C,D,E);"[..], b"x';(A,B,C);", b"'A;';", b"'';"]);
+            lines.extend(every_call(piece));
         } else {
             lines.extend((0..random.between(1, 3)).map(|_| random.pick(&QUESTIONS).to_string()));
         }
@@ -107,7 +108,14 @@ impl Lent {
         let (field, other) = (self.field(random, kind), self.field(random, kind));
         let old = field.get(&self.bytes);
         let bit = 1u64 << random.below(8 * field.width);
+        let chosen = match kind {
+            NAME_BYTE => *random.pick(&[31, 32, 39, 95, 126, 127]),
+            LANE_LENGTH => *random.pick(&[RUN_OVER - 1, RUN_OVER, RUN_OVER, RUN_OVER + 1, RUN_OVER + 1, RUN_OVER + 2]),
+            _ => 0,
+        };
         let values = [
+            chosen,
+            chosen,
             old.wrapping_add(1),
             old.wrapping_add(1),
             old.wrapping_sub(1),
@@ -115,7 +123,6 @@ impl Lent {
             old ^ bit,
             old ^ bit,
             other.get(&self.bytes),
-            0,
             random.next(),
             u64::MAX,
         ];
@@ -132,11 +139,11 @@ impl Lent {
         match kind {
             0 => head_number(random.below(8)),
             1 => name_length(taxon),
-            2 => self.name_byte(random, taxon),
+            NAME_BYTE => self.name_byte(random, taxon),
             3 => first_constant(taxon),
             4 => second_constant(taxon),
             5 => byte_of(random, HEAD_SPARE),
-            6 => numbers.lane_length(lane),
+            LANE_LENGTH => numbers.lane_length(lane),
             7 => self.lane_byte(random, lane),
             8 => numbers.tree_length(tree),
             9 => self.tree_row(random, numbers, tree),
@@ -171,6 +178,8 @@ impl Lent {
 }
 
 const KINDS: usize = 16;
+const NAME_BYTE: usize = 2;
+const LANE_LENGTH: usize = 6;
 
 /// Mostly below the number used, else below the most.
 fn some_of(random: &mut Random, used: usize, most: usize) -> usize {

@@ -1,15 +1,20 @@
 //! The limits of NEXUS files: keys, bytes of a plain text, trees, and long parts of every kind.
 
+use crate::files::Pairs;
 use crate::grow::{ladder, text_of, Name};
-use crate::limits::{bare_text, opened};
+use crate::labels::{quoted, written_name, written_names};
+use crate::limits::{bare_text, opened, opened_plain};
 use crate::maker::Maker;
 use crate::nexus::with_labels;
 use crate::random::Random;
 use crate::verdict::MOST_BYTES;
 use crate::words::hex;
 
+/// A key, and a name as it is written.
+type Pair = (Vec<u8>, Vec<u8>);
+
 /// A file of a TRANSLATE list, if there are pairs, and these texts as they stand.
-fn file(pairs: &[(Name, Name)], texts: &[Vec<u8>]) -> Vec<u8> {
+fn file(pairs: &[Pair], texts: &[Vec<u8>]) -> Vec<u8> {
     let mut out = b"#NEXUS\nBEGIN TREES;\n".to_vec();
     let pairs: Vec<Vec<u8>> = pairs.iter().map(|(key, name)| [&key[..], b" ", name].concat()).collect();
     if !pairs.is_empty() {
@@ -23,20 +28,20 @@ fn file(pairs: &[(Name, Name)], texts: &[Vec<u8>]) -> Vec<u8> {
 }
 
 /// The text with each name's key in its place.
-fn keyed(pairs: &[(Name, Name)], text: &[u8]) -> Vec<u8> {
-    let key = |token: &[u8]| pairs.iter().find(|(_, name)| name == token).map_or(token, |(key, _)| key).to_vec();
-    with_labels(text, key)
+fn keyed(pairs: &[Pair], text: &[u8]) -> Vec<u8> {
+    let key = |part: &[u8]| pairs.iter().find(|(_, name)| name == part).map_or(part, |(key, _)| key).to_vec();
+    with_labels(text, |_, part| key(part))
 }
 
-fn numbered(names: &[Name]) -> Vec<(Name, Name)> {
-    names.iter().enumerate().map(|(i, name)| (format!("{}", i + 1).into_bytes(), name.clone())).collect()
+fn numbered(names: &[Name]) -> Pairs {
+    names.iter().enumerate().map(|(i, name)| (format!("{}", i + 1).into_bytes(), written_name(name))).collect()
 }
 
 // Keys
 
 /// 1, 63, 64 and 65 keys; one of them twice, at either end; each name the key of another.
 pub fn numbers_of_keys(random: Random) -> Vec<u8> {
-    let mut maker = opened(random, 64, 2, 60, 500);
+    let mut maker = opened_plain(random, 64, 2, 60, 500);
     let names = [&maker.names[..], &[b"no-taxon".to_vec()]].concat();
     let all = numbered(&names);
     with_pairs(&mut maker, &all[..1]);
@@ -48,9 +53,9 @@ pub fn numbers_of_keys(random: Random) -> Vec<u8> {
         }
     }
     for by in [1, 31, 63] {
-        let names = maker.names.clone();
+        let names: Vec<Vec<u8>> = maker.names.iter().map(|name| written_name(name)).collect();
         let keys = names.iter().cycle().skip(by).cloned();
-        let pairs: Vec<(Name, Name)> = keys.zip(names.iter().cloned()).collect();
+        let pairs: Pairs = keys.zip(names.iter().cloned()).collect();
         with_pairs(&mut maker, &pairs);
     }
     maker.questions();
@@ -58,7 +63,7 @@ pub fn numbers_of_keys(random: Random) -> Vec<u8> {
 }
 
 /// Two trees written with the keys, and one with names.
-fn with_pairs(maker: &mut Maker, pairs: &[(Name, Name)]) {
+fn with_pairs(maker: &mut Maker, pairs: &[Pair]) {
     let texts = [(); 3].map(|()| bare_text(&mut maker.random, &maker.names, 3));
     let [a, b, c] = texts;
     maker.nexus(&file(pairs, &[keyed(pairs, &a), keyed(pairs, &b), c]));
@@ -67,17 +72,19 @@ fn with_pairs(maker: &mut Maker, pairs: &[(Name, Name)]) {
 
 /// Keys of up to 5,000 bytes for names, and names of more than 32 bytes, which are no taxa.
 pub fn long_keys_and_names(random: Random) -> Vec<u8> {
-    let mut maker = opened(random, 5, 1, 60, 100);
+    let mut maker = opened_plain(random, 5, 1, 60, 100);
     for long in [31, 32, 33, 64, 65, 255, 256, 257, 5000] {
         let keys = (0..5).map(|i| [vec![b'k'; long - 1], vec![b'0' + i]].concat());
-        let pairs: Vec<(Name, Name)> = keys.zip(maker.names.clone()).collect();
+        let pairs: Pairs = keys.zip(maker.names.iter().map(|name| written_name(name))).collect();
         with_pairs(&mut maker, &pairs);
         // One byte longer or shorter, or other in its last byte, it is another token.
-        let text = maker.names.join(&b',');
+        let text = written_names(&maker.names, b',');
         for key in [&pairs[0].0[1..], &[b'k'; 1000][..long.min(1000)], &[&pairs[0].0[..], b"x"].concat()] {
             maker.nexus(&file(&pairs, &[[b"(", key, b",", &text, b")"].concat()]));
         }
-        let pairs: Vec<(Name, Name)> = pairs.into_iter().map(|(key, name)| (name, key)).collect();
+        let quoted_keys: Pairs = pairs.iter().map(|(key, name)| (name.clone(), quoted(key))).collect();
+        with_pairs(&mut maker, &quoted_keys);
+        let pairs: Pairs = pairs.into_iter().map(|(key, name)| (name, key)).collect();
         with_pairs(&mut maker, &pairs);
     }
     maker.peek();
@@ -86,15 +93,14 @@ pub fn long_keys_and_names(random: Random) -> Vec<u8> {
 
 // Texts
 
-/// Plain texts of 4,095 to 4,098 bytes: as they stand, written longer with long keys, shorter with short ones, with
+/// Plain texts of 4,607 to 4,610 bytes: as they stand, written longer with long keys, shorter with short ones, with
 /// comments that are one byte each; good ones, and such with a fault of form or an unknown leaf beside.
 pub fn file_texts(random: Random) -> Vec<u8> {
     let mut maker = opened(random, 20, 2, 200, 400);
     let short = numbered(&maker.names);
-    let long: Vec<(Name, Name)> =
-        short.iter().map(|(key, name)| ([&[b'k'; 400][..], key].concat(), name.clone())).collect();
-    for bytes in [4000, 4095, 4096, 4097, 4098, 9000] {
-        for fault in [&b""[..], b"(", b")", b"nobody", b"]", b"\0"] {
+    let long: Pairs = short.iter().map(|(key, name)| ([&[b'k'; 400][..], key].concat(), name.clone())).collect();
+    for bytes in [MOST_BYTES - 100, MOST_BYTES - 1, MOST_BYTES, MOST_BYTES + 1, MOST_BYTES + 2, 9000] {
+        for fault in [&b""[..], b"(", b")", b"nobody", b"]", b"\0", b"''", b"'[;'"] {
             let text = filled(&mut maker, fault, bytes);
             for pairs in [&[][..], &short, &long] {
                 let standing = keyed(pairs, &text);
@@ -123,33 +129,39 @@ fn filled(maker: &mut Maker, fault: &[u8], bytes: usize) -> Vec<u8> {
     }
 }
 
-/// Every tenth blank is a comment.
+/// Every tenth blank outside quotes is a comment.
 fn with_comments(text: &[u8]) -> Vec<u8> {
-    let byte = |(i, b): (usize, &u8)| match b {
-        b' ' | b'\t' | b'\r' | b'\n' if i % 10 == 0 => b"[&prob=1]".to_vec(),
-        _ => vec![*b],
+    let mut odd = false;
+    let byte = |(i, b): (usize, &u8)| {
+        odd ^= *b == b'\'';
+        match b {
+            b' ' | b'\t' | b'\r' | b'\n' if i % 10 == 0 && !odd => b"[&prob=1]".to_vec(),
+            _ => vec![*b],
+        }
     };
     text.iter().enumerate().flat_map(byte).collect()
 }
 
 /// What stands before a token that is a key.
-const BEFORE: [&[u8]; 20] = [
+const BEFORE: [&[u8]; 29] = [
     b"", b" ", b"[x]", b"(", b",", b")", b") ", b")\r\n", b")[x]", b":", b": ", b":\t[x]", b"x ", b")x ", b":x ",
-    b")k ", b"]", b"'", b"=", b"\0",
+    b")k ", b"]", b"'", b"=", b"\0", b"''", b"'x'", b"'x' ", b"'k' ", b")'x'", b")'x' ", b":'x'", b"')'", b"')':",
 ];
 
 /// Whether a token is replaced that is an inner label, or stands in a faulty text, only 6 can tell: such tokens, in
-/// texts about as long as the limit, with names one byte longer and one byte shorter than their keys.
+/// texts about as long as the limit, with names one byte longer and one byte shorter than their keys, and with names
+/// in quotes that may meet others.
 pub fn keys_at_the_limit(random: Random) -> Vec<u8> {
     let mut maker = opened(random, 5, 1, 60, 100);
     let star = maker.star(&maker.names);
-    for (key, name) in [(&b"k"[..], &b"kk"[..]), (b"kk", b"k")] {
+    for (key, name) in [(&b"k"[..], &b"kk"[..]), (b"kk", b"k"), (b"k", b"'k'"), (b"kkkk", b"'k'")] {
         for before in BEFORE {
             let token = [before, key].concat();
             let counted = if before.ends_with(b"[x]") { token.len() - 2 } else { token.len() };
             let alone = |long: usize| [&token[..], &vec![b' '; long - counted]].concat();
             let label = |long: usize| [&vec![b' '; long - counted - star.len()], &star[..], &token].concat();
-            let texts: Vec<Vec<u8>> = (4094..4100).flat_map(|long| [alone(long), label(long)]).collect();
+            let longs = MOST_BYTES - 2..MOST_BYTES + 4;
+            let texts: Vec<Vec<u8>> = longs.flat_map(|long| [alone(long), label(long)]).collect();
             maker.nexus(&file(&[(key.to_vec(), name.to_vec())], &texts));
         }
     }
@@ -182,7 +194,7 @@ pub fn numbers_of_trees(random: Random) -> Vec<u8> {
     maker.script()
 }
 
-/// Long comments, blanks, blocks, names and texts, before keys, behind them and inside; and what is malformed behind.
+/// Long comments, quotes, blanks, blocks, names and texts, before keys, behind them and inside; and what is malformed behind.
 pub fn long_files(random: Random) -> Vec<u8> {
     let mut maker = opened(random, 5, 1, 200, 100);
     let pairs = numbered(&maker.names);
@@ -198,7 +210,8 @@ pub fn long_files(random: Random) -> Vec<u8> {
         let comment = [&b"["[..], &many(b'['), b"]"].concat();
         let inside: Vec<u8> =
             keyed(&pairs, &text).split_inclusive(|b| *b == b',').collect::<Vec<&[u8]>>().join(&comment[..]);
-        maker.nexus(&file(&pairs, &[inside, many(b'1'), many(b' ')]));
+        maker.nexus(&file(&pairs, &[inside, many(b'1'), many(b' '), quoted(&many(b';')), quoted(&many(b'\''))]));
+        maker.nexus(&file(&[(b"1".to_vec(), quoted(&many(b'[')))], &[b"(1,2)".to_vec(), text.clone()]));
         maker.nexus(&[&b"#NEXUS BEGIN TREES; TREE "[..], &many(b'n'), b"=", &text, b"; END;"].concat());
         maker.nexus(&many(b'#'));
     }
@@ -219,5 +232,9 @@ fn long_parts(long: usize) -> Vec<(Vec<u8>, Vec<u8>)> {
         behind(b" BEGIN ", many(b'x')),
         behind(b" ", many(b']')),
         behind(b" [", many(b'x')),
+        behind(b" BEGIN X;", quoted(&b"END;[".repeat(long / 5))),
+        behind(b" BEGIN X; '", many(b'x')),
+        behind(b" BEGIN X;", many(b'\'')),
+        behind(b" BEGIN X; '", many(b'\'')),
     ]
 }

@@ -2,6 +2,7 @@
 //! and after.
 
 use crate::files::file_of;
+use crate::labels::{written_name, written_names};
 use crate::maker::Maker;
 use crate::refusals::faulty_texts;
 use crate::verdict::MOST_BYTES;
@@ -28,15 +29,15 @@ pub fn files(maker: &mut Maker) {
     nexus_of(maker, &[]);
     maker.ask("room -");
     // A lane that was touched would come to another verdict.
-    let rest = maker.names.join(&b',');
+    let rest = written_names(&maker.names, b',');
     maker.feed(0, &[&rest[..], b");"].concat());
     maker.close(last);
     maker.peek();
 }
 
-/// The last lane ran over, if it is not the first, which holds the front of a text.
+/// The last lane ran over in open quotes, if it is not the first, which holds the front of a text.
 fn begin_lanes(maker: &mut Maker) {
-    maker.feed(maker.numbers.lanes - 1, &vec![b' '; MOST_BYTES + 1]);
+    maker.feed(maker.numbers.lanes - 1, &[&vec![b' '; MOST_BYTES], &b"'"[..]].concat());
     maker.close(0);
     maker.feed(0, b"(");
     maker.peek();
@@ -45,9 +46,9 @@ fn begin_lanes(maker: &mut Maker) {
 /// A file that is malformed, one with a key listed twice, and one that is both, each with trees that are good.
 pub fn refused_files(maker: &mut Maker) -> Vec<String> {
     let star = maker.star(&maker.names);
-    let [first, second] = [&maker.names[0], &maker.names[1]];
+    let [first, second] = [written_name(&maker.names[0]), written_name(&maker.names[1])];
     let pair = |key: &[u8], name: &[u8]| [key, b" ", name].concat();
-    let twice = [pair(b"1", first), pair(b"2", second), pair(b"1", second)].join(&b',');
+    let twice = [pair(b"1", &first), pair(b"2", &second), pair(b"1", &second)].join(&b',');
     let trees = [&b" TREE t="[..], &star, b"; TREE u=", &star, b"; "].concat();
     let file = |parts: &[&[u8]]| format!("nexus {}", hex(&parts.concat()));
     let head = b"#NEXUS BEGIN TREES; ";
@@ -59,6 +60,11 @@ pub fn refused_files(maker: &mut Maker) -> Vec<String> {
         file(&[head, b"TRANSLATE ", &twice, b",;", &trees, b"END;"]),
         file(&[head, b"TRANSLATE ", &twice, b";", &trees, b"TREE =A; END;"]),
         file(&[head, b"TRANSLATE ", &twice, b";", &trees, b"END; BEGIN x;"]),
+        file(&[head, b"TRANSLATE ", &twice, b";", &trees, b"END; BEGIN x; '; END;"]),
+        file(&[head, b"TRANSLATE ", &twice, b", 3 '';", &trees, b"END;"]),
+        file(&[head, b"TRANSLATE ", &twice, b", '1' A;", &trees, b"END;"]),
+        file(&[head, &trees, b"TREE 'v'=A; END;"]),
+        file(&[head, &trees, b"TREE v='A; END;"]),
     ]
 }
 

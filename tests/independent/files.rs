@@ -1,17 +1,18 @@
 //! NEXUS files by chance: every part optional, keys of every kind, blanks and comments at any place, words in any case.
 
 use crate::generator::one_text;
-use crate::grow::{any_label_byte, blanks, Name, Shape};
+use crate::grow::{any_label_byte, blanks, is_of_label, spelled, Name, Shape};
+use crate::labels::{first_outside, is_odd, unquoted};
 use crate::nexus::{with_labels, MOST_KEYS};
 use crate::random::Random;
 use crate::text::{is_blank, is_label_byte};
 
-/// Keys and names.
-pub type Pairs = Vec<(Name, Name)>;
+/// Keys, and names as they are written.
+pub type Pairs = Vec<(Vec<u8>, Vec<u8>)>;
 /// What stands in a file, between any two of which blanks and comments may stand.
 pub type FileParts = Vec<Vec<u8>>;
 
-const COMMENTS: [&[u8]; 12] = [
+const COMMENTS: [&[u8]; 13] = [
     b"[]",
     b"[&U]",
     b"[&R]",
@@ -21,13 +22,14 @@ const COMMENTS: [&[u8]; 12] = [
     b"[;]",
     b"[END;]",
     b"[']",
+    b"['';']",
     b"[(:=,)]",
     b"[\0\xff]",
     b"[#NEXUS\r\nBEGIN TREES;\r\n]",
 ];
 
 /// What another block may hold; none of it ends the block.
-const JUNK: [&[u8]; 12] = [
+const JUNK: [&[u8]; 17] = [
     b"DIMENSIONS NTAX=4;",
     b"TAXLABELS A 'B b' C_c D;",
     b"FORMAT datatype=DNA gap=- ;",
@@ -38,7 +40,12 @@ const JUNK: [&[u8]; 12] = [
     b"BEGIN TREES;",
     b"TREE t = (A,B);",
     b"]",
-    b"(')",
+    b"'['",
+    b"('END;')",
+    b"'it''s; END;'",
+    b"''",
+    b"END'x';",
+    b"'\t\n\0\xff'",
     b"\0\x80\xff",
 ];
 
@@ -75,9 +82,9 @@ pub fn any_file(random: &mut Random, names: &[Name], pool: &[Shape]) -> Vec<u8> 
     bytes
 }
 
-/// Whether a text can stand in a file: no bracket in it opens a comment.
+/// Whether a text can stand in a file: its quotes are closed, and no bracket outside them opens a comment.
 pub fn can_stand(text: &[u8]) -> bool {
-    !text.contains(&b'[') && !text.contains(&b';')
+    !is_odd(text) && [b'[', b';'].iter().all(|sign| first_outside(false, text, *sign).is_none())
 }
 
 /// A good file whose plain texts are exactly these.
@@ -150,8 +157,8 @@ pub fn joined(random: &mut Random, parts: &FileParts) -> Vec<u8> {
     let often = *random.pick(&[1, 2, 5, 1000]);
     let mut out: Vec<u8> = Vec::new();
     for part in parts {
-        let tokens_meet = is_label(out.last()) && is_label(part.first());
-        if tokens_meet || random.one_in(often) {
+        let labels_meet = is_of_label(out.last()) && is_of_label(part.first());
+        if labels_meet || random.one_in(often) {
             out.extend(gap(random));
         }
         out.extend(part);
@@ -160,10 +167,6 @@ pub fn joined(random: &mut Random, parts: &FileParts) -> Vec<u8> {
         out.extend(gap(random));
     }
     out
-}
-
-fn is_label(byte: Option<&u8>) -> bool {
-    byte.is_some_and(|b| is_label_byte(*b))
 }
 
 /// Blanks, a comment, or both.
@@ -190,7 +193,7 @@ fn some_pairs(random: &mut Random, names: &[Name], texts: &[Vec<u8>]) -> Pairs {
     for (i, name) in used.into_iter().enumerate() {
         let key = some_key(random, style, i);
         if is_free(&key, &pairs, names, texts) {
-            pairs.push((key, name));
+            pairs.push((key, spelled(random, &name, 2)));
         }
     }
     if random.one_in(4) {
@@ -199,10 +202,11 @@ fn some_pairs(random: &mut Random, names: &[Name], texts: &[Vec<u8>]) -> Pairs {
     pairs
 }
 
-/// Each name is the key of the next one.
+/// Each name that can be written without quotes is the key of the next one.
 fn exchanged(names: &[Name]) -> Pairs {
-    let keys = names.iter().cycle().skip(1);
-    keys.zip(names).map(|(key, name)| (key.clone(), name.clone())).collect()
+    let labels: Vec<Vec<u8>> = names.iter().filter_map(|name| unquoted(name)).collect();
+    let keys = labels.iter().cycle().skip(1);
+    keys.zip(&labels).map(|(key, name)| (key.clone(), name.clone())).collect()
 }
 
 fn some_key(random: &mut Random, style: usize, i: usize) -> Name {
@@ -219,7 +223,8 @@ fn some_key(random: &mut Random, style: usize, i: usize) -> Name {
 /// No key yet, no name, and nothing that a text means as it is.
 fn is_free(key: &Name, pairs: &Pairs, names: &[Name], texts: &[Vec<u8>]) -> bool {
     let is_in = |text: &Vec<u8>| text.split(|b| !is_label_byte(*b)).any(|token| token == key);
-    !pairs.iter().any(|(other, _)| other == key) && !names.contains(key) && !texts.iter().any(is_in)
+    let is_name = names.iter().any(|name| unquoted(name).as_ref() == Some(key));
+    !pairs.iter().any(|(other, _)| other == key) && !is_name && !texts.iter().any(is_in)
 }
 
 /// Keys that no text uses, up to the most that there may be.
@@ -227,7 +232,8 @@ fn fill_up(random: &mut Random, pairs: &mut Pairs, names: &[Name], texts: &[Vec<
     for i in 0..MOST_KEYS - pairs.len() {
         let key = format!("key{i}").into_bytes();
         if is_free(&key, pairs, names, texts) {
-            pairs.push((key, random.pick(names).clone()));
+            let name = random.pick(names);
+            pairs.push((key, spelled(random, name, 2)));
         }
     }
     random.shuffle(pairs);
@@ -237,7 +243,7 @@ fn fill_up(random: &mut Random, pairs: &mut Pairs, names: &[Name], texts: &[Vec<
 fn spoil(random: &mut Random, pairs: &mut Pairs) {
     let many = random.one_in(2);
     while many && pairs.len() <= MOST_KEYS {
-        pairs.push((format!("more{}", pairs.len()).into_bytes(), b"x".to_vec()));
+        pairs.push((format!("more{}", pairs.len()).into_bytes(), b"'x'".to_vec()));
     }
     if !pairs.is_empty() && (!many || random.one_in(2)) {
         let (from, to) = (random.below(pairs.len()), random.below(pairs.len()));
@@ -245,13 +251,16 @@ fn spoil(random: &mut Random, pairs: &mut Pairs) {
     }
 }
 
-/// The text with keys in place of names: wherever a name is itself a key, and mostly elsewhere.
+/// The text with keys in place of names: wherever a name is itself a key, and mostly elsewhere; but not for quotes that
+/// meet a label byte, as the key would.
 fn keyed(random: &mut Random, pairs: &Pairs, text: &[u8]) -> Vec<u8> {
-    with_labels(text, |token| {
-        let keys: Vec<&Name> = pairs.iter().filter(|(_, name)| name == token).map(|(key, _)| key).collect();
-        let is_key = pairs.iter().any(|(key, _)| key == token);
-        if keys.is_empty() || (!is_key && random.one_in(5)) {
-            token.to_vec()
+    let is_label = |at: Option<usize>| at.and_then(|at| text.get(at)).is_some_and(|b| is_label_byte(*b));
+    with_labels(text, |at, part| {
+        let meets = is_label(at.checked_sub(1)) || is_label(Some(at + part.len()));
+        let keys: Vec<&Vec<u8>> = pairs.iter().filter(|(_, name)| name == part).map(|(key, _)| key).collect();
+        let is_key = pairs.iter().any(|(key, _)| key == part);
+        if keys.is_empty() || (!is_key && random.one_in(5)) || (part[0] == b'\'' && meets) {
+            part.to_vec()
         } else {
             random.pick(&keys).to_vec()
         }
@@ -268,24 +277,30 @@ fn written(random: &mut Random, pairs: &Pairs, text: &[u8], comment: Comment) ->
     comment(random, &text)
 }
 
-/// Some blanks are comments, so that the plain text stays as long as it is.
+/// Some blanks outside quotes are comments, so that the plain text stays as long as it is.
 fn spaced(random: &mut Random, text: &[u8]) -> Vec<u8> {
     let often = *random.pick(&[1, 4, 1000]);
-    let byte = |b: &u8| match is_blank(*b) && random.one_in(often) {
-        true => random.pick(&COMMENTS).to_vec(),
-        false => vec![*b],
+    let mut odd = false;
+    let byte = |b: &u8| {
+        odd ^= *b == b'\'';
+        match is_blank(*b) && !odd && random.one_in(often) {
+            true => random.pick(&COMMENTS).to_vec(),
+            false => vec![*b],
+        }
     };
     text.iter().flat_map(byte).collect()
 }
 
-/// Comments anywhere, mostly beside signs.
+/// Comments anywhere, mostly beside signs; in quotes they are none.
 fn commented(random: &mut Random, text: &[u8]) -> Vec<u8> {
     let often = *random.pick(&[3, 20, 1000]);
+    let mut odd = false;
     let mut out = Vec::new();
     for b in text {
-        if random.one_in(if is_label_byte(*b) { 20 * often } else { often }) {
+        if random.one_in(if is_label_byte(*b) || odd { 20 * often } else { often }) {
             out.extend(*random.pick(&COMMENTS));
         }
+        odd ^= *b == b'\'';
         out.push(*b);
     }
     out
@@ -295,8 +310,26 @@ fn commented(random: &mut Random, text: &[u8]) -> Vec<u8> {
 
 /// A part lost, doubled, put elsewhere, or one that does not belong there.
 pub fn damage_parts(random: &mut Random, parts: &mut FileParts) {
-    let odd: [&[u8]; 16] = [
-        b";", b",", b"=", b"[", b"]", b"(", b"'", b"*", b":", b"x", b"END", b"END;", b"TREE", b"BEGIN", b"\0", b"\xe9",
+    let odd: [&[u8]; 19] = [
+        b";",
+        b",",
+        b"=",
+        b"[",
+        b"]",
+        b"(",
+        b"'",
+        b"*",
+        b":",
+        b"x",
+        b"END",
+        b"END;",
+        b"TREE",
+        b"BEGIN",
+        b"\0",
+        b"\xe9",
+        b"''",
+        b"'x'",
+        b"'; END;'",
     ];
     let (at, to) = (random.below(parts.len()), random.below(parts.len()));
     match random.below(5) {
@@ -313,7 +346,7 @@ pub fn damage_bytes(random: &mut Random, bytes: &mut Vec<u8>) {
     let byte = random.below(256) as u8;
     match random.below(5) {
         0 => bytes[at] = byte,
-        1 => bytes[at] = *random.pick(b"[]();:,=' \n"),
+        1 => bytes[at] = *random.pick(b"[]();:,='' \n"),
         2 => drop(bytes.remove(at)),
         3 => bytes.insert(at, bytes[at]),
         _ => bytes.truncate(at),

@@ -1,7 +1,7 @@
-//! NEXUS files with what they must give, written by hand from entry 2026-01 of document 02, rule by rule.
+//! NEXUS files with what they must give, written by hand from entries 2026-01 and 2026-02 of document 02, rule by rule.
 
 /// A file, and the plain texts of its trees.
-pub const GOOD_FILES: [(&str, &[&str]); 29] = [
+pub const GOOD_FILES: [(&str, &[&str]); 51] = [
     // Blanks, comments and case
     ("#NEXUS BEGIN TREES;END;", &[]),
     ("#NEXUS\nBEGIN TREES;\nTREE t1 = (A,B);\nEND;\n", &[" (A,B)"]),
@@ -20,8 +20,7 @@ pub const GOOD_FILES: [(&str, &[&str]); 29] = [
     ("#NEXUS BEGIN X; FRIEND; ENDBLOCK; END x; END, END=; =END; EN[]D; END ; BEGIN TREES; END;", &[]),
     ("#NEXUS BEGIN X; x END; BEGIN TREES; END;", &[]),
     ("#NEXUS BEGIN X; (END; BEGIN TREES; END;", &[]),
-    ("#NEXUS BEGIN X; 'END; BEGIN TREES; END;", &[]),
-    ("#NEXUS BEGIN X; ] BEGIN TREES; TREE t=(A,B); ' ( END; BEGIN TREES; TREE u=B; END;", &["B"]),
+    ("#NEXUS BEGIN X; ] BEGIN TREES; TREE t=(A,B); ( END; BEGIN TREES; TREE u=B; END;", &["B"]),
     ("#NEXUS BEGIN END; END; BEGIN TREE; END; BEGIN TREES2; END; BEGIN #NEXUS; END; BEGIN TREES; END;", &[]),
     // Trees
     ("#NEXUS BEGIN TREES; TREE t1=(A,B);TREE t1=;TREE TREE= \t;TREE END=END;END;", &["(A,B)", "", " \t", "END"]),
@@ -30,8 +29,8 @@ pub const GOOD_FILES: [(&str, &[&str]); 29] = [
         &["A", "B", "=C", "u=D", " = E"],
     ),
     (
-        "#NEXUS BEGIN TREES; TREE t=(A],B]; TREE u=('A,#NEXUS BEGIN\0; TREE v=A[x]B; END;",
-        &["(A],B]", "('A,#NEXUS BEGIN\0", "A B"],
+        "#NEXUS BEGIN TREES; TREE t=(A],B]; TREE u=(A,#NEXUS BEGIN\0; TREE v=A[x]B; END;",
+        &["(A],B]", "(A,#NEXUS BEGIN\0", "A B"],
     ),
     // Keys
     ("#NEXUS BEGIN TREES; TRANSLATE A B , B A; TREE t=(A,B); END;", &["(B,A)"]),
@@ -46,11 +45,55 @@ pub const GOOD_FILES: [(&str, &[&str]); 29] = [
         "#NEXUS BEGIN TREES; TRANSLATE END TREE,TREE END,TRANSLATE #NEXUS,BEGIN =; TREE t=(END,TREE,end,BEGIN); END;",
         &["(TREE,END,end,=)"],
     ),
-    ("#NEXUS BEGIN TREES; TRANSLATE 1 A; TREE t=11 1]1'1;TREE u=1[]1,[1]1; END;", &["11 A]A'A", "A A, A"]),
+    ("#NEXUS BEGIN TREES; TRANSLATE 1 A; TREE t=11 1]1=1;TREE u=1[]1,[1]1; END;", &["11 A]1=1", "A A, A"]),
+    // Quotes in other blocks and in comments
+    ("#NEXUS BEGIN X; 'END; BEGIN TREES;' END; BEGIN TREES; END;", &[]),
+    ("#NEXUS BEGIN X; 'a]b[c' '' '\t\0' END'x'; 'END'; 'it''s END;' END; BEGIN TREES; END;", &[]),
+    ("#NEXUS BEGIN X; 'x'END; BEGIN TREES; END;", &[]),
+    ("#NEXUS[']BEGIN TREES['';'];[don't]TREE t=(A[']B,['']C);END[it's];", &["(A B, C)"]),
+    // Quotes in texts
+    (
+        "#NEXUS BEGIN TREES; TREE t=('A;B',C'[x];'D); TREE u=';'; TREE v='[' ; END;",
+        &["('A;B',C'[x];'D)", "';'", "'[' "],
+    ),
+    (
+        "#NEXUS BEGIN TREES; TREE t=('A''B','',''''); TREE u=''; TREE v='\n\t\0'; END;",
+        &["('A''B','','''')", "''", "'\n\t\0'"],
+    ),
+    ("#NEXUS BEGIN TREES; TREE t='A'[x]'B'; TREE u='A[x]'[x]'B'; END;", &["'A' 'B'", "'A[x]' 'B'"]),
+    ("#NEXUS BEGIN TREES; TREE t=('A,B); TREE u=(B',C); END;", &["('A,B); TREE u=(B',C)"]),
+    ("#NEXUS BEGIN TREES; TREE t=(A_B,'A B',_); END;", &["(A_B,'A B',_)"]),
+    // Quotes and keys
+    ("#NEXUS BEGIN TREES; TRANSLATE 1 'A'; TREE t=(1,B); END;", &["('A',B)"]),
+    (
+        "#NEXUS BEGIN TREES; TRANSLATE 1 'L. lactis 12',2 L._lactis_14; TREE t=(1,2); END;",
+        &["('L. lactis 12',L._lactis_14)"],
+    ),
+    (
+        "#NEXUS BEGIN TREES; TRANSLATE 1 'a,b;c[d]''e', 2 '''', 3 ' '; TREE t=(1,2,3); END;",
+        &["('a,b;c[d]''e','''',' ')"],
+    ),
+    ("#NEXUS BEGIN TREES; TRANSLATE 1 A,2 B; TREE t=('1',1,'1 2',\"1\"); END;", &["('1',A,'1 2',\"1\")"]),
+    ("#NEXUS BEGIN TREES; TRANSLATE 1 A; TREE t=('(1,1)',')1',1)'1':1; END;", &["('(1,1)',')1',A)'1':1"]),
+    (
+        "#NEXUS BEGIN TREES; TRANSLATE 1 'A'; TREE t=((1,1)1:1)1; TREE u=((1,1) 1)[x]1; END;",
+        &["(('A','A')1:1)1", "(('A','A') 1) 1"],
+    ),
+    ("#NEXUS BEGIN TREES; TRANSLATE 1 'A'; TREE t=(1'B',1)'x'1; END;", &["('A''B','A')'x''A'"]),
+    ("#NEXUS BEGIN TREES; TRANSLATE 1 A; TREE t=('x'1,1'x',')'1,':' 1); END;", &["('x'A,A'x',')'A,':' A)"]),
+    ("#NEXUS BEGIN TREES; TRANSLATE 1 'END;', 2 'TREE t='; TREE t=(1,2); END;", &["('END;','TREE t=')"]),
+    ("#NEXUS BEGIN TREES; TRANSLATE 1[x]'A'[y],2['] 'B' ; TREE t=(1,2); END;", &["('A','B')"]),
+    ("#NEXUS BEGIN TREES; TRANSLATE 1 'B',B C; TREE t=(1,B,'B'); END;", &["('B',C,'B')"]),
+    ("#NEXUS BEGIN TREES; TREE t=('[x',B); END; BEGIN X; [']; END;", &["('[x',B)"]),
+    ("#NEXUS BEGIN TREES; TRANSLATE a_b 'A', a B; TREE t=(a_b,'a b',a); END;", &["('A','a b',B)"]),
+    (
+        "#NEXUS BEGIN TREES; TRANSLATE 1 'a name of more than 32 bytes, in quotes'; TREE t=1; END;",
+        &["'a name of more than 32 bytes, in quotes'"],
+    ),
 ];
 
 /// Malformed files.
-pub const BAD_FILES: [&str; 56] = [
+pub const BAD_FILES: [&str; 69] = [
     // No file at all
     "",
     " \r\n",
@@ -87,6 +130,20 @@ pub const BAD_FILES: [&str; 56] = [
     "#NEXUS BE[]GIN TREES; END;",
     "#NEXUS BEGIN TRE[]ES; END;",
     "#NEXUS TREES; END;",
+    // Quotes
+    "'#NEXUS' BEGIN TREES; END;",
+    "#NEXUS 'BEGIN' TREES; END;",
+    "#NEXUS BEGIN 'X'; END; BEGIN TREES; END;",
+    "#NEXUS BEGIN TREES; 'END';",
+    "#NEXUS BEGIN TREES; END; '",
+    "#NEXUS BEGIN TREES; END; 'x'",
+    "#NEXUS ' BEGIN TREES; END;",
+    "#NEXUS BEGIN X; 'END; BEGIN TREES; END;",
+    "#NEXUS BEGIN X; don't END; BEGIN TREES; END;",
+    "#NEXUS BEGIN TREES; END; BEGIN X; ''' END;",
+    "#NEXUS BEGIN TREES; END; BEGIN X; 'END;'",
+    "#NEXUS BEGIN TREES; END; BEGIN X; END';';",
+    "#NEXUS BEGIN TREES; TREE t=(A,B); END; ['] '",
     // The number of TREES blocks
     "#NEXUS BEGIN X; END;",
     "#NEXUS BEGIN TREE; END;",
@@ -116,7 +173,7 @@ pub const BAD_FILES: [&str; 56] = [
 ];
 
 /// What makes the file malformed where it stands between `BEGIN TREES;` and `END;`.
-pub const BAD_BLOCKS: [&str; 66] = [
+pub const BAD_BLOCKS: [&str; 89] = [
     // Commands
     ";",
     "x",
@@ -149,8 +206,25 @@ pub const BAD_BLOCKS: [&str; 66] = [
     "TRANSLATE 1=A;",
     "TRANSLATE 1:A;",
     "TRANSLATE 1 (A);",
-    "TRANSLATE 1 'A';",
+    "TRANSLATE 1 '';",
+    "TRANSLATE 1 ''; TREE t=(A,B);",
+    "TRANSLATE 1 'A\tB';",
+    "TRANSLATE 1 'A\n';",
+    "TRANSLATE 1 '\r';",
+    "TRANSLATE 1 '\0';",
+    "TRANSLATE 1 '\u{1f}';",
+    "TRANSLATE 1 '\u{7f}';",
+    "TRANSLATE 1 '\u{e9}';",
+    "TRANSLATE 1 'A'B;",
+    "TRANSLATE 1 A'B';",
+    "TRANSLATE 1 'A' 'B';",
+    "TRANSLATE 1 'A'[x]'B';",
+    "TRANSLATE 1 'A', '2' B;",
+    "TRANSLATE 1 'A;",
+    "TRANSLATE 1 ''';",
     "TRANSLATE '1' A;",
+    "TRANSLATE '1' 'A';",
+    "'TRANSLATE' 1 A;",
     "TRANSLATE 1 A: ;",
     "TRANSLATE 1 \0;",
     "TRANSLATE ]1 A;",
@@ -179,6 +253,12 @@ pub const BAD_BLOCKS: [&str; 66] = [
     "TREE t[]u=(A,B);",
     "TREE 't'=(A,B);",
     "TREE t'=(A,B);",
+    "TREE t'='(A,B);",
+    "TREE t'u'=(A,B);",
+    "TREE 't'u=(A,B);",
+    "TREE ''=(A,B);",
+    "TREE t=('A,B);",
+    "'TREE' t=(A,B);",
     "TREE t:=(A,B);",
     "TREE t,u=(A,B);",
     "TREE ]t=(A,B);",
@@ -189,7 +269,7 @@ pub const BAD_BLOCKS: [&str; 66] = [
 ];
 
 /// TRANSLATE lists, with what they give before `;` and a tree.
-pub const TWICE: [(&str, u32); 9] = [
+pub const TWICE: [(&str, u32); 13] = [
     ("1 A, 1 A", 16),
     ("1 A, 1 B", 16),
     ("1 A, 2 B, 1 C", 16),
@@ -199,6 +279,10 @@ pub const TWICE: [(&str, u32); 9] = [
     ("1 A, 1 B; TREE t=(A,B)", 16),
     ("1 A, 1 B; TREE =(A,B)", 15),
     ("1 A, 1 B; x", 15),
+    ("1 'A', 1 'B'", 16),
+    ("1 'A, 1 B'", 0),
+    ("1 A, 1 ''", 15),
+    ("1 A, 1 B, '1' C", 15),
 ];
 
 /// A file with this inside its TREES block.

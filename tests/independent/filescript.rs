@@ -60,7 +60,7 @@ const PARTS: [&str; 35] = [
     "BEGIN",
     "TAXA",
     ";",
-    "x",
+    "'x;['",
     "END",
     ";",
     "BEGIN",
@@ -68,7 +68,7 @@ const PARTS: [&str; 35] = [
     ";",
     "TRANSLATE",
     "1",
-    "A",
+    "'A'",
     ",",
     "2",
     "B",
@@ -81,7 +81,7 @@ const PARTS: [&str; 35] = [
     "TREE",
     "t2",
     "=",
-    "((1,C): 1,2:\t1,(D,E) 1)2",
+    "((1,'C'): 1,2:\t1,(D,E)'1;' )2",
     ";",
     "END",
     ";",
@@ -93,9 +93,9 @@ const PARTS: [&str; 35] = [
     "",
 ];
 
-const SIGNS: [&[u8]; 23] = [
+const SIGNS: [&[u8]; 27] = [
     b"[", b"]", b"[]", b";", b",", b"=", b":", b"(", b")", b"'", b"*", b"x", b"END", b"END;", b"TREE", b"BEGIN", b"\0",
-    b"\x0b", b"\x0c", b"\x7f", b"\x80", b"\xa0", b"\xff",
+    b"\x0b", b"\x0c", b"\x7f", b"\x80", b"\xa0", b"\xff", b"''", b"'x'", b"';['", b"'\t'",
 ];
 
 /// The file with a sign before each of its parts, by itself and at the part's front; and with each part left out.

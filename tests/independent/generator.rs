@@ -1,7 +1,8 @@
 //! Generated inputs: texts for `read` and sheets for `treesum`.
 
 use crate::damage::KINDS;
-use crate::grow::{names, shape, text, text_of, Name, Shape};
+use crate::grow::{names, shape, spelled, text, text_of, Name, Shape};
+use crate::labels::{is_odd, written_names};
 use crate::random::Random;
 use crate::words::{comma_list, hex};
 
@@ -10,7 +11,7 @@ pub fn texts(seed: u64, count: usize) -> Vec<u8> {
     let mut random = Random::new(seed);
     let names = some_names(&mut random);
     let places = some_places(&mut random, 4096);
-    let mut lines = vec![String::from_utf8(name_list(&names)).expect("names are ASCII")];
+    let mut lines = vec![String::from_utf8(any_name_list(&mut random, &names)).expect("names are ASCII")];
     lines.push(comma_list(&first_constants(&mut random, names.len(), places)));
     lines.push(places.to_string());
     lines.push(comma_list(&second_constants(&mut random, names.len())));
@@ -26,7 +27,7 @@ pub fn sheet(seed: u64, count: usize) -> Vec<u8> {
     let mut random = Random::new(seed);
     let names = some_names(&mut random);
     let pool = some_shapes(&mut random, &names);
-    let mut out = name_list(&names);
+    let mut out = any_name_list(&mut random, &names);
     if random.one_in(8) {
         damage_names(&mut random, &mut out);
     }
@@ -48,14 +49,22 @@ pub fn some_names(random: &mut Random) -> Vec<Name> {
     names(random, n)
 }
 
+/// With the names as they are written.
 pub fn name_list(names: &[Name]) -> Vec<u8> {
-    names.join(&b' ')
+    written_names(names, b' ')
+}
+
+/// With more quotes than must be.
+pub fn any_name_list(random: &mut Random, names: &[Name]) -> Vec<u8> {
+    let often = *random.pick(&[1, 3, 1000]);
+    let labels: Vec<Vec<u8>> = names.iter().map(|name| spelled(random, name, often)).collect();
+    labels.join(&b' ')
 }
 
 pub fn damage_names(random: &mut Random, list: &mut Vec<u8>) {
     let at = random.below(list.len());
     match random.below(3) {
-        0 => list.insert(at, *random.pick(b" \r,x")),
+        0 => list.insert(at, *random.pick(b" \r,x'\t")),
         1 => drop(list.remove(at)),
         _ => list.truncate(at),
     }
@@ -90,14 +99,19 @@ pub fn some_shapes(random: &mut Random, names: &[Name]) -> Vec<Shape> {
     (0..random.between(1, 5)).map(|_| shape(random, names, most_children)).collect()
 }
 
-/// Mostly one of the pool's trees, else a new one or a faulty text.
+/// Mostly one of the pool's trees, else a new one or a faulty text. Quotes that are left open are mostly closed at its
+/// end, as they would hide the texts behind it.
 pub fn one_text(random: &mut Random, names: &[Name], pool: &[Shape]) -> Vec<u8> {
-    match random.below(8) {
+    let mut text = match random.below(8) {
         0 => text(random, names),
         1 => random.pick(&KINDS)(random, names),
         _ => {
             let shape = random.pick(pool);
             text_of(random, shape)
         }
+    };
+    if is_odd(&text) && !random.one_in(5) {
+        text.push(b'\'');
     }
+    text
 }

@@ -1,10 +1,10 @@
 //! Scripts for a NEXUS file that is given, over names that are given: as it is, and damaged.
 
 use crate::files::damage_bytes;
-use crate::grow::Name;
+use crate::labels::split_outside;
 use crate::maker::Maker;
 use crate::nexus::plain_texts;
-use crate::opening::Numbers;
+use crate::opening::{names_of, Numbers};
 use crate::random::Random;
 
 /// The most damaged files for one collection, so that it is not soon full.
@@ -13,7 +13,10 @@ const MOST_DAMAGED: usize = 20;
 /// The plain texts of a file's trees between quotation marks, or the refusal, a line each.
 pub fn texts_of(file: &[u8]) -> Vec<String> {
     match plain_texts(file) {
-        Ok(texts) => texts.iter().map(|text| format!("\"{}\"", text.escape_ascii())).collect(),
+        Ok(texts) => {
+            let shown = |text: &Vec<u8>| text.escape_ascii().to_string().replace("\\'", "'");
+            texts.iter().map(|text| format!("\"{}\"", shown(text))).collect()
+        }
         Err(refusal) => vec![format!("refused {refusal}")],
     }
 }
@@ -50,10 +53,11 @@ pub fn damages_of(seed: u64, count: usize, names: &str, file: &[u8]) -> Vec<u8> 
 }
 
 fn opened(random: Random, names: &str) -> Maker {
-    let names: Vec<Name> = names.split(' ').map(|name| name.as_bytes().to_vec()).collect();
-    let numbers = Numbers { taxa: names.len() as u64, lanes: 2, tree_room: 40, split_room: 60, places: 11 };
+    let taxa = split_outside(names.as_bytes(), b' ').len() as u64;
+    let names = names_of(names.as_bytes(), taxa).expect("a list of names");
+    let numbers = Numbers { taxa, lanes: 2, tree_room: 40, split_room: 60, places: 11 };
     let mut maker = Maker::open(random, names, numbers, 1);
-    maker.feed(1, b"(");
+    maker.feed(1, b"('");
     maker.peek();
     maker
 }

@@ -1,8 +1,10 @@
 //! Random name lists and random trees, and their texts as tokens.
 
+use crate::labels::{quoted, unquoted, MARKS};
 use crate::random::Random;
 use crate::text::is_label_byte;
 
+/// A name as it reads.
 pub type Name = Vec<u8>;
 pub type Tokens = Vec<Vec<u8>>;
 
@@ -12,13 +14,18 @@ pub enum Shape {
     Inner(Vec<Shape>),
 }
 
-/// How a text is dressed: one in so many nodes has a length, an inner label, or blanks beside it.
+/// How a text is dressed: one in so many nodes has a length, an inner label, blanks beside it, or quotes that it could
+/// do without.
 #[derive(Clone, Copy)]
 pub struct Dress {
     pub lengths: usize,
     pub labels: usize,
     pub blanks: usize,
+    pub quotes: usize,
 }
+
+/// Nothing but what must be there.
+pub const BARE: Dress = Dress { lengths: usize::MAX, labels: usize::MAX, blanks: usize::MAX, quotes: usize::MAX };
 
 const LENGTHS: [&str; 13] = [
     "0",
@@ -35,19 +42,47 @@ const LENGTHS: [&str; 13] = [
     "1e99999",
     "99999999999999999999999999",
 ];
-const LABELS: [&str; 6] = ["x", "100", "0.95", "_", "1e5", "a-label-that-is-longer-than-any-name-may-be-in-the-list"];
+const LABELS: [&str; 12] = [
+    "x",
+    "100",
+    "0.95",
+    "_",
+    "1e5",
+    "a-label-that-is-longer-than-any-name-may-be-in-the-list",
+    "' '",
+    "''''",
+    "'0.95'",
+    "'it''s [a] (label):'",
+    "';'",
+    "'a label that is longer than ''any'' name may be in the list;'",
+];
 
 // Names
 
+/// Names that can be written without quotes, or as often such as mostly need them.
 pub fn names(random: &mut Random, n: usize) -> Vec<Name> {
+    let style = random.below(8);
+    names_of_style(random, n, style)
+}
+
+/// Names that can be written without quotes.
+pub fn plain_names(random: &mut Random, n: usize) -> Vec<Name> {
     let style = random.below(4);
+    names_of_style(random, n, style)
+}
+
+fn names_of_style(random: &mut Random, n: usize, style: usize) -> Vec<Name> {
     let mut names: Vec<Name> = Vec::new();
     while names.len() < n {
         let name = match style {
             0 => numbered(names.len()),
-            1 => lettered(names.len()),
-            2 => repeated(names.len()),
-            _ => any_name(random),
+            1 => repeated(names.len()),
+            2 => strain(random),
+            3 => some_name(random, any_plain_byte),
+            4 => lettered(names.len()),
+            5 => some_name(random, any_quoted_byte),
+            6 => (0..random.between(1, 4)).map(|_| *random.pick(b" _'a")).collect(),
+            _ => some_name(random, |random| *random.pick(b"''''''''''''''_ ;")),
         };
         if !names.contains(&name) {
             names.push(name);
@@ -71,9 +106,39 @@ fn repeated(i: usize) -> Name {
     vec![b"aAb"[i / 32 % 3]; i % 32 + 1]
 }
 
-fn any_name(random: &mut Random) -> Name {
-    let long = *random.pick(&[1, 2, 3, 8, 31, 32]);
-    (0..long).map(|_| any_label_byte(random)).collect()
+/// With blanks in it, at its ends too now and then.
+fn strain(random: &mut Random) -> Name {
+    let species = *random.pick(&["L. lactis", "L.  lactis", "St. thermophilus", " Lb. helveticus", "x"]);
+    let behind = if random.one_in(4) { " " } else { "" };
+    format!("{species} {}{behind}", random.below(200)).into_bytes()
+}
+
+/// A name of such bytes, up to the most that it may have.
+fn some_name(random: &mut Random, byte: fn(&mut Random) -> u8) -> Name {
+    let long = *random.pick(&[1, 2, 3, 8, 31, 32, 32]);
+    (0..long).map(|_| byte(random)).collect()
+}
+
+/// One of the ways to write a name: without quotes where that can be, but once in so many times in quotes.
+pub fn spelled(random: &mut Random, name: &[u8], often: usize) -> Vec<u8> {
+    unquoted(name).filter(|_| !random.one_in(often)).unwrap_or_else(|| quoted(name))
+}
+
+/// One of the bytes that may stand in quotes, every third one a mark or a blank.
+pub fn any_quoted_byte(random: &mut Random) -> u8 {
+    match random.below(6) {
+        0 => b' ',
+        1 => *random.pick(MARKS),
+        _ => random.between(32, 126) as u8,
+    }
+}
+
+/// A label byte that reads as it is.
+fn any_plain_byte(random: &mut Random) -> u8 {
+    match any_label_byte(random) {
+        b'_' => b'-',
+        b => b,
+    }
 }
 
 pub fn any_label_byte(random: &mut Random) -> u8 {
@@ -121,12 +186,13 @@ pub fn ladder(random: &mut Random, names: &[Name], brackets: usize) -> Shape {
 
 pub fn any_dress(random: &mut Random) -> Dress {
     let often = [1, 2, 5, 1000];
-    Dress { lengths: *random.pick(&often), labels: *random.pick(&often), blanks: *random.pick(&often) }
+    let [lengths, labels, blanks, quotes] = [(); 4].map(|()| *random.pick(&often));
+    Dress { lengths, labels, blanks, quotes }
 }
 
 pub fn tokens(random: &mut Random, shape: &Shape, dress: Dress) -> Tokens {
     let mut out = match shape {
-        Shape::Leaf(name) => vec![name.clone()],
+        Shape::Leaf(name) => vec![spelled(random, name, dress.quotes)],
         Shape::Inner(children) => bracketed(random, children, dress),
     };
     if random.one_in(dress.lengths) {
@@ -155,7 +221,7 @@ fn bracketed(random: &mut Random, children: &[Shape], dress: Dress) -> Tokens {
 pub fn joined(random: &mut Random, tokens: &Tokens, dress: Dress) -> Vec<u8> {
     let mut out: Vec<u8> = Vec::new();
     for token in tokens {
-        let labels_meet = ends_in_label(&out) && token.first().is_some_and(|b| is_label_byte(*b));
+        let labels_meet = is_of_label(out.last()) && is_of_label(token.first());
         if labels_meet || random.one_in(dress.blanks) {
             out.extend(blanks(random));
         }
@@ -167,8 +233,9 @@ pub fn joined(random: &mut Random, tokens: &Tokens, dress: Dress) -> Vec<u8> {
     out
 }
 
-fn ends_in_label(bytes: &[u8]) -> bool {
-    bytes.last().is_some_and(|b| is_label_byte(*b))
+/// Whether a byte is one of a label, in quotes or without.
+pub fn is_of_label(byte: Option<&u8>) -> bool {
+    byte.is_some_and(|b| is_label_byte(*b) || *b == b'\'')
 }
 
 pub fn blanks(random: &mut Random) -> Vec<u8> {

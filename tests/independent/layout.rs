@@ -10,15 +10,16 @@ pub const SPLITS_HELD: usize = 6;
 pub const MOST_LISTED: u64 = 62;
 /// The most bytes of a name.
 pub const NAME_BYTES: usize = 32;
-/// The length of a lane that ran over.
-pub const RUN_OVER: u64 = 4097;
+/// The length of a lane that ran over: with an even number of apostrophes in its text so far, and with an odd one.
+pub const RUN_OVER: u64 = 4609;
+pub const RUN_OVER_ODD: u64 = 4610;
 /// The bytes that a lane has for its text.
-pub const LANE_BYTES: usize = 4096;
+pub const LANE_BYTES: usize = 4608;
 /// The head's last bytes, which nothing uses.
 pub const HEAD_SPARE: Range<usize> = 2768..4096;
 
 const HEAD: usize = 4096;
-const LANE: usize = 4104;
+const LANE: usize = 8 + LANE_BYTES;
 const TREE: usize = 128;
 
 /// A number of 1, 2, 4 or 8 bytes, lowest first.

@@ -4,14 +4,14 @@ use crate::consensus::written;
 use crate::filelimits::{
     file_texts, keys_at_the_limit, long_files, long_keys_and_names, numbers_of_keys, numbers_of_trees,
 };
-use crate::grow::{ladder, names, shape, text_of, tokens, Dress, Name};
+use crate::generator::name_list;
+use crate::grow::{ladder, names, plain_names, shape, text_of, tokens, Name, BARE};
+use crate::labels::{quoted, written_names};
 use crate::maker::{joined, open_line, Maker};
 use crate::opening::Numbers;
 use crate::random::Random;
 use crate::verdict::{judge, Masks, MOST_BYTES};
 use crate::words::hex;
-
-const BARE: Dress = Dress { lengths: usize::MAX, labels: usize::MAX, blanks: usize::MAX };
 
 /// A script of so many rounds over all but the largest collections.
 pub fn limits(seed: u64, count: usize) -> Vec<u8> {
@@ -19,7 +19,9 @@ pub fn limits(seed: u64, count: usize) -> Vec<u8> {
     let mut out = Vec::new();
     for _ in 0..count {
         out.extend(taxa(&mut random));
-        for part in [lengths, nesting, small_tree_rooms, small_split_rooms, batches] {
+        for part in
+            [lengths, quotes_at_the_limit, nesting, small_tree_rooms, small_split_rooms, batches, longest_written]
+        {
             out.extend(part(Random::new(random.next())));
         }
         for part in [numbers_of_keys, long_keys_and_names, file_texts, keys_at_the_limit, numbers_of_trees, long_files]
@@ -39,6 +41,17 @@ pub fn largest(seed: u64, count: usize) -> Vec<u8> {
 
 pub fn opened(mut random: Random, n: usize, lanes: u64, tree_room: u64, split_room: u64) -> Maker {
     let names = names(&mut random, n);
+    opened_over(random, names, lanes, tree_room, split_room)
+}
+
+/// Over names that can be written without quotes.
+pub fn opened_plain(mut random: Random, n: usize, lanes: u64, tree_room: u64, split_room: u64) -> Maker {
+    let names = plain_names(&mut random, n);
+    opened_over(random, names, lanes, tree_room, split_room)
+}
+
+fn opened_over(mut random: Random, names: Vec<Name>, lanes: u64, tree_room: u64, split_room: u64) -> Maker {
+    let n = names.len();
     let places = random.between(1, 2 * split_room as usize) as u64;
     Maker::open(random, names, Numbers { taxa: n as u64, lanes, tree_room, split_room, places }, 3)
 }
@@ -51,9 +64,13 @@ pub fn bare_text(random: &mut Random, names: &[Name], most_children: usize) -> V
     tokens(random, &shape, BARE).concat()
 }
 
-/// A text of so many bytes: filled with blanks in front or behind, or with a label at its end.
+/// A text of so many bytes: filled with blanks in front or behind, or with a label at its end, in quotes or not.
 fn filled(random: &mut Random, names: &[Name], long: usize) -> Vec<u8> {
     let text = bare_text(random, names, 3);
+    if random.one_in(4) {
+        let inside = vec![*random.pick(b" x;["); long.saturating_sub(text.len() + 2)];
+        return [text, quoted(&inside)].concat();
+    }
     let more = vec![*random.pick(b" \tx"); long.saturating_sub(text.len())];
     let front = random.one_in(2) && more.first() != Some(&b'x');
     if front {
@@ -63,10 +80,10 @@ fn filled(random: &mut Random, names: &[Name], long: usize) -> Vec<u8> {
     }
 }
 
-/// 4,095 to 4,098 bytes and many more, in one piece and in pieces, and lanes that stand at the limit when closed.
+/// 4,607 to 4,610 bytes and many more, in one piece and in pieces, and lanes that stand at the limit when closed.
 fn lengths(random: Random) -> Vec<u8> {
     let mut maker = opened(random, 9, 2, 40, 200);
-    for long in [4095, 4096, 4097, 4098, 6000, 20_000] {
+    for long in [MOST_BYTES - 1, MOST_BYTES, MOST_BYTES + 1, MOST_BYTES + 2, 6000, 20_000] {
         let text = filled(&mut maker.random, &maker.names, long);
         maker.text(&text);
         maker.peek();
@@ -90,11 +107,62 @@ fn lengths(random: Random) -> Vec<u8> {
 fn feed_in_pieces(maker: &mut Maker, text: &[u8]) {
     let mut rest = text;
     while !rest.is_empty() {
-        let long = *maker.random.pick(&[1, 2, 100, 1000, 4096, 5000]);
+        let long = *maker.random.pick(&[1, 2, 100, 1000, MOST_BYTES, 5000]);
         let (piece, behind) = rest.split_at(long.min(rest.len()));
         maker.feed(1, piece);
         rest = behind;
     }
+}
+
+/// Apostrophes before the limit, at it and behind it, an even and an odd number of them, and semicolons that they hide
+/// or not; in one piece and byte by byte.
+fn quotes_at_the_limit(random: Random) -> Vec<u8> {
+    let mut maker = opened(random, 5, 2, 40, 100);
+    let behind: [&[u8]; 9] = [b";", b"';", b"'';';", b"x;';", b"';';;", b"'", b"''", b";'", b"';'x'"];
+    for before in [&b""[..], b"'", b"''", b"x'y'", b"'''"] {
+        for long in [MOST_BYTES - 1, MOST_BYTES, MOST_BYTES + 1] {
+            let held = [vec![b' '; long - before.len()], before.to_vec()].concat();
+            for more in behind {
+                feed_twice(&mut maker, &held, more);
+            }
+        }
+        maker.peek();
+    }
+    maker.questions();
+    maker.script()
+}
+
+/// To lane 0 in one piece; to lane 1 the same, and the rest behind it byte by byte; and what is left is closed.
+fn feed_twice(maker: &mut Maker, held: &[u8], more: &[u8]) {
+    maker.feed(0, &[held, more].concat());
+    maker.close(0);
+    maker.feed(1, held);
+    for byte in more {
+        maker.feed(1, &[*byte]);
+    }
+    maker.close(1);
+    maker.batch(1, &[held, more, b";A;"].concat());
+    maker.close(1);
+}
+
+/// The longest tree that can be written: one name of 32 apostrophes, 63 of 31, in a ladder. Its text is 4,349 bytes with
+/// its semicolon; the buffers have one byte too few and just enough.
+fn longest_written(mut random: Random) -> Vec<u8> {
+    let mut names: Vec<Name> = (0..63u8).map(|i| [&[b'\''; 31][..], &[b'-' + i]].concat()).collect();
+    names.insert(random.between(0, 63), vec![b'\''; 32]);
+    let mut maker = opened_over(random, names, 1, 3, 200);
+    let tree = ladder(&mut maker.random, &maker.names, 63);
+    let text = tokens(&mut maker.random, &tree, BARE).concat();
+    maker.text(&text);
+    for room in ["room 4347", "room 4348", "room 4349", "room 4350"] {
+        maker.ask(room);
+        for line in ["write 0", "strict", "majority", "both"] {
+            maker.ask(line);
+        }
+    }
+    maker.questions();
+    maker.peek();
+    maker.script()
 }
 
 /// 62 to 65 brackets, of one name that comes again and of 64 names.
@@ -121,7 +189,7 @@ fn taxa(random: &mut Random) -> Vec<u8> {
         let names = names(random, n);
         let zeros = vec![0; n];
         let numbers = Numbers { taxa: n as u64, lanes: 1, tree_room: 2, split_room: 200, places: 1 };
-        lines.push(open_line(&numbers, &names.join(&b' '), &zeros, &zeros));
+        lines.push(open_line(&numbers, &name_list(&names), &zeros, &zeros));
         let text = bare_text(random, &names, 2);
         lines.push(format!("feed 0 {}3b", hex(&text)));
         lines.extend(["splits", "majority", "both", "collisions", "matrix"].map(str::to_string));
@@ -192,8 +260,8 @@ fn batches(random: Random) -> Vec<u8> {
             match maker.random.below(4) {
                 0 => piece.extend(bare_text(&mut maker.random, &maker.names, 2)),
                 1 => piece.extend(bare_text(&mut maker.random, &maker.names[1..].to_vec(), 4)),
-                2 => piece.extend(*maker.random.pick(&[&b""[..], b" ", b"(", b"x", b"(x,y)"])),
-                _ => piece.extend(maker.names.join(&b',')),
+                2 => piece.extend(*maker.random.pick(&[&b""[..], b" ", b"(", b"x", b"(x,y)", b"';'", b"(';;',''"])),
+                _ => piece.extend(written_names(&maker.names, b',')),
             }
             piece.push(b';');
         }

@@ -1,5 +1,5 @@
 //! An independent calculation of every answer, to compare the proved programs with. It is written from document 01,
-//! entry 2026-01 of document 02 and the settled points, and shares nothing with the code that it is compared with.
+//! entries 2026-01 and 2026-02 of document 02 and the settled points, and shares nothing with the code that it is compared with.
 
 mod calls;
 mod changes;
@@ -20,6 +20,7 @@ mod generator;
 mod givenfiles;
 mod grow;
 mod hash;
+mod labels;
 mod layout;
 mod limits;
 mod maker;
@@ -30,6 +31,9 @@ mod oddities;
 mod opening;
 mod parts;
 mod question;
+mod quotecheck;
+mod quotes;
+mod quotesamples;
 mod random;
 mod reading;
 mod refusals;
@@ -80,6 +84,7 @@ fn maker(word: &str) -> Option<Make> {
         "stores" => stores::stores,
         "made" => stores::made,
         "nexus" => filescript::nexus,
+        "quotes" => quotes::quotes,
         "limits" => limits::limits,
         "largest" => limits::largest,
         "oddities" => oddities::oddities,
@@ -132,7 +137,7 @@ fn usage() {
     eprintln!("nexus-texts | nexus-calls NAMES FILE | nexus-damages SEED COUNT NAMES FILE");
     eprintln!("GENERATOR SEED COUNT | damaged SEED COUNT SCRIPT ANSWERS, a generator being");
     eprintln!("texts | sheet | calls | mixed | whole | batched | filed | zeros | refusals | stores | made | nexus");
-    eprintln!("limits | largest | oddities");
+    eprintln!("quotes | limits | largest | oddities");
     std::process::exit(2);
 }
 

@@ -1,7 +1,7 @@
 //! A script as it grows, with the collection that its calls come to.
 
 use crate::collection::{Collection, Fed};
-use crate::generator::{first_constants, name_list, second_constants};
+use crate::generator::{any_name_list, first_constants, second_constants};
 use crate::grow::Name;
 use crate::opening::{open, Numbers};
 use crate::random::Random;
@@ -27,7 +27,7 @@ impl Maker {
     }
 
     pub fn open_with(
-        random: Random,
+        mut random: Random,
         names: Vec<Name>,
         numbers: Numbers,
         first: &[u64],
@@ -35,10 +35,11 @@ impl Maker {
         spare: u64,
     ) -> Maker {
         let lent = numbers.size().expect("numbers in range") + spare;
-        let Ok(opening) = open(numbers, &name_list(&names), first, second, lent) else {
+        let list = any_name_list(&mut random, &names);
+        let Ok(opening) = open(numbers, &list, first, second, lent) else {
             panic!("the opening of a script is refused");
         };
-        let line = open_line(&numbers, &name_list(&names), first, second);
+        let line = open_line(&numbers, &list, first, second);
         let lines = vec![format!("size {}", five_words(&numbers)), format!("lend {lent}"), line];
         Maker { random, names, numbers, held: Collection::new(opening), lent, lines }
     }

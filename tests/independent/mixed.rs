@@ -4,6 +4,7 @@
 use crate::files::{can_stand, file_of};
 use crate::generator::{first_constants, one_text, second_constants, some_names, some_places, some_shapes};
 use crate::grow::{Name, Shape};
+use crate::labels::{first_outside, is_odd};
 use crate::maker::Maker;
 use crate::opening::Numbers;
 use crate::random::Random;
@@ -74,18 +75,26 @@ impl Plan {
 }
 
 fn some_steps(random: &mut Random, count: usize, names: &[Name], pool: &[Shape]) -> Vec<Step> {
-    let mut waiting = vec![Vec::new(); LANES];
+    let mut waiting = vec![Waiting::default(); LANES];
     let mut steps = Vec::new();
     while steps.len() < count {
         let lane = random.below(LANES);
         steps.push(match random.below(100) {
-            0..=2 => Step::Close(lane),
+            0..=2 => waiting[lane].close(lane),
             3..=14 => Step::Ask(some_question(random)),
             15 if random.one_in(4) => Step::Peek,
-            _ => Step::Piece(lane, some_piece(random, &mut waiting[lane], names, pool)),
+            _ => Step::Piece(lane, waiting[lane].some_piece(random, names, pool)),
         });
     }
     steps
+}
+
+/// What is still to be fed to a lane.
+#[derive(Clone, Default)]
+struct Waiting {
+    bytes: Vec<u8>,
+    /// The lane's text so far, without what came before it.
+    fed: Vec<u8>,
 }
 
 fn some_question(random: &mut Random) -> String {
@@ -107,22 +116,39 @@ fn some_question(random: &mut Random) -> String {
     random.pick(&lines).clone()
 }
 
-/// The next bytes of a lane; they are waited for no more up to the first semicolon.
-fn some_piece(random: &mut Random, waiting: &mut Vec<u8>, names: &[Name], pool: &[Shape]) -> Vec<u8> {
-    if waiting.len() < 2 || random.one_in(10) {
-        waiting.extend(one_text(random, names, pool));
-        waiting.push(b';');
+impl Waiting {
+    /// The next bytes; they are waited for no more up to the semicolon that ends the text.
+    fn some_piece(&mut self, random: &mut Random, names: &[Name], pool: &[Shape]) -> Vec<u8> {
+        if self.bytes.len() < 2 || random.one_in(10) {
+            self.bytes.extend(one_text(random, names, pool));
+            self.bytes.push(b';');
+        }
+        let most = self.bytes.len();
+        let long = random.between(0, most);
+        let piece = self.bytes[..*random.pick(&[long, long, most])].to_vec();
+        self.bytes.drain(..take(&mut self.fed, &piece).taken);
+        piece
     }
-    let most = waiting.len();
-    let long = random.between(0, most);
-    let piece = waiting[..*random.pick(&[long, long, most])].to_vec();
-    waiting.drain(..taken_of(&piece));
-    piece
+
+    fn close(&mut self, lane: usize) -> Step {
+        self.fed.clear();
+        Step::Close(lane)
+    }
 }
 
-/// "Up to the first semicolon and that semicolon, or all if there is none."
-fn taken_of(piece: &[u8]) -> usize {
-    piece.iter().position(|b| *b == b';').map_or(piece.len(), |at| at + 1)
+/// What a lane takes of a piece, and the text if that ends it.
+struct Taken {
+    taken: usize,
+    text: Option<Vec<u8>>,
+}
+
+/// "Up to the first semicolon and that semicolon, or all if there is none", put behind what was fed of the text; the
+/// semicolon stands behind an even number of apostrophes.
+fn take(fed: &mut Vec<u8>, piece: &[u8]) -> Taken {
+    let end = first_outside(is_odd(fed), piece, b';');
+    let taken = end.map_or(piece.len(), |at| at + 1);
+    fed.extend_from_slice(&piece[..taken]);
+    Taken { taken, text: end.map(|_| std::mem::take(fed)) }
 }
 
 fn cut(plan: &Plan, zeros: bool) -> Vec<u8> {
@@ -151,10 +177,8 @@ fn whole_texts(plan: &Plan) -> Vec<Whole> {
     for step in &plan.steps {
         match step {
             Step::Piece(lane, piece) => {
-                held[*lane].extend_from_slice(&piece[..taken_of(piece)]);
-                if held[*lane].ends_with(b";") {
-                    out.push(Whole::Text(*lane, std::mem::take(&mut held[*lane])));
-                }
+                let text = take(&mut held[*lane], piece).text;
+                out.extend(text.map(|text| Whole::Text(*lane, text)));
             }
             Step::Close(lane) => out.push(Whole::Closing(*lane, std::mem::take(&mut held[*lane]))),
             Step::Ask(_) | Step::Peek => (),

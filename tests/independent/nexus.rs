@@ -1,5 +1,6 @@
-//! A NEXUS file: the plain texts of its trees, or 15 or 16. By entry 2026-01 of document 02.
+//! A NEXUS file: the plain texts of its trees, or 15 or 16. By entries 2026-01 and 2026-02 of document 02.
 
+use crate::labels::{first_outside, label};
 use crate::text::{is_blank, is_label_byte};
 use std::collections::BTreeSet;
 
@@ -16,18 +17,31 @@ pub fn plain_texts(file: &[u8]) -> Result<Vec<Vec<u8>>, u32> {
     Ok(block.texts.iter().map(|text| block.plain(text)).collect())
 }
 
-/// A comment "ends at the first `]` and reads as a blank"; none if one does not end.
+/// A comment "ends at the first `]` and reads as a blank"; "quotes hide brackets", and an apostrophe in a comment means
+/// nothing. None if a comment or quotes do not end.
 fn without_comments(file: &[u8]) -> Option<Vec<u8>> {
     let mut out = Vec::new();
     let mut rest = file;
-    while let Some(opening) = rest.iter().position(|b| *b == b'[') {
-        let closing = rest[opening..].iter().position(|b| *b == b']')?;
-        out.extend(&rest[..opening]);
-        out.push(b' ');
-        rest = &rest[opening + closing + 1..];
+    while let Some(at) = rest.iter().position(|b| matches!(b, b'[' | b'\'')) {
+        let comment = rest[at] == b'[';
+        let (closing, plain) = if comment { (b']', at) } else { (b'\'', at + 1) };
+        let end = at + 2 + rest[at + 1..].iter().position(|b| *b == closing)?;
+        out.extend(&rest[..plain]);
+        out.extend(if comment { b" " } else { &rest[plain..end] });
+        rest = &rest[end..];
     }
     out.extend(rest);
     Some(out)
+}
+
+/// How many bytes of quotes come next, doubled ones among them; they end in a file without comments.
+fn quotes_long(bytes: &[u8]) -> usize {
+    let mut long = 0;
+    while bytes[long..].first() == Some(&b'\'') {
+        let inside = bytes[long + 1..].iter().take_while(|b| **b != b'\'').count();
+        long = (long + inside + 2).min(bytes.len());
+    }
+    long
 }
 
 /// The TREES block.
@@ -39,27 +53,28 @@ struct Block<'a> {
 }
 
 impl Block<'_> {
-    /// "Keys replaced by names."
+    /// "Keys replaced by names", each "as it stands there, quotes and all". No key has quotes.
     fn plain(&self, text: &[u8]) -> Vec<u8> {
-        with_labels(text, |token| {
-            let pair = self.pairs.iter().find(|(key, _)| *key == token);
-            pair.map_or(token, |(_, name)| name).to_vec()
+        with_labels(text, |_, part| {
+            let pair = self.pairs.iter().find(|(key, _)| *key == part);
+            pair.map_or(part, |(_, name)| name).to_vec()
         })
     }
 }
 
-/// A text with each token changed "except after `)` or `:`", blanks between them or not.
-pub fn with_labels(text: &[u8], mut change: impl FnMut(&[u8]) -> Vec<u8>) -> Vec<u8> {
+/// A text with each token, and what stands in quotes with them, changed "except after `)` or `:`", blanks between them
+/// or not; the change is told where it stands.
+pub fn with_labels(text: &[u8], mut change: impl FnMut(usize, &[u8]) -> Vec<u8>) -> Vec<u8> {
     let mut out = Vec::new();
     let mut last_sign = b' ';
     let mut rest = text;
     while let Some(first) = rest.first() {
-        let long = rest.iter().take_while(|b| is_label_byte(**b)).count();
+        let long = rest.iter().take_while(|b| is_label_byte(**b)).count().max(quotes_long(rest));
         let (part, behind) = rest.split_at(long.max(1));
         if long == 0 || matches!(last_sign, b')' | b':') {
             out.extend(part);
         } else {
-            out.extend(change(part));
+            out.extend(change(text.len() - rest.len(), part));
         }
         if !is_blank(*first) {
             last_sign = part[part.len() - 1];
@@ -92,13 +107,13 @@ impl<'a> Reader<'a> {
         found
     }
 
-    /// "Another block runs to its first `END;`."
+    /// "Another block runs to its first `END;`" outside quotes.
     fn other_block(&mut self) -> Option<()> {
         while self.next_byte().is_some() {
             match self.token() {
                 Some(token) if is_word(token, b"END") && self.sign(b';').is_some() => return Some(()),
                 Some(_) => (),
-                None => self.rest = &self.rest[1..],
+                None => self.rest = &self.rest[quotes_long(self.rest).max(1)..],
             }
         }
         None
@@ -122,21 +137,21 @@ impl<'a> Reader<'a> {
 
     /// One pair or more with commas between, and a semicolon; "a 65th key is malformed".
     fn pairs(&mut self) -> Option<Vec<(&'a [u8], &'a [u8])>> {
-        let mut pairs = vec![(self.token()?, self.token()?)];
+        let mut pairs = vec![(self.token()?, self.name()?)];
         while self.sign(b',').is_some() {
-            pairs.push((self.token()?, self.token()?));
+            pairs.push((self.token()?, self.name()?));
         }
         self.sign(b';').filter(|()| pairs.len() <= MOST_KEYS)?;
         Some(pairs)
     }
 
-    /// "Name a token without `=`"; the text is all between the first `=` and the semicolon.
+    /// "Name a token without `=`"; the text is all between the first `=` and the first semicolon outside quotes.
     fn tree(&mut self) -> Option<&'a [u8]> {
         self.next_byte();
         self.run(|b| is_label_byte(b) && b != b'=')?;
         self.sign(b'=')?;
-        let text = self.run(|b| b != b';').unwrap_or_default();
-        self.sign(b';')?;
+        let (text, behind) = self.rest.split_at(first_outside(false, self.rest, b';')?);
+        self.rest = &behind[1..];
         Some(text)
     }
 
@@ -160,6 +175,16 @@ impl<'a> Reader<'a> {
     fn token(&mut self) -> Option<&'a [u8]> {
         self.next_byte();
         self.run(is_label_byte)
+    }
+
+    /// A token, or a label in quotes with them.
+    fn name(&mut self) -> Option<&'a [u8]> {
+        if self.next_byte() != Some(b'\'') {
+            return self.token();
+        }
+        let (name, behind) = self.rest.split_at(quotes_long(self.rest));
+        self.rest = behind;
+        label(name).is_some().then_some(name)
     }
 
     /// Takes the sign if it comes next, and nothing but blanks if not.

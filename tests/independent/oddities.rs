@@ -30,7 +30,7 @@ const GOOD: [&str; 25] = [
     "agree 6 12",
     "room 7",
     "peek 0 1",
-    "poke 8354 00",
+    "poke 8866 00",
 ];
 
 const OTHERS: [&str; 46] = [
@@ -109,7 +109,7 @@ fn before_lending() -> Vec<String> {
 
 fn opened() -> Vec<String> {
     let open = "open 4 1 1 1 1 41204220432044 0,0,0,0 0,0,0,0";
-    ["lend 8355", "room -", open, "trees"].map(str::to_string).to_vec()
+    ["lend 8867", "room -", open, "trees"].map(str::to_string).to_vec()
 }
 
 /// The line as it is, and changed in each way that makes it no call, or nearly.
@@ -180,6 +180,7 @@ fn longest_lines() -> Vec<String> {
     let mut lines = opened();
     lines.extend([
         longest_file(),
+        longest_quotes(),
         lend,
         poke,
         "peek 8388605 3".to_string(),
@@ -197,6 +198,11 @@ fn longest_file() -> String {
     let trees = "TREE t=;".repeat(long / 8);
     let blanks = " ".repeat(long % 8);
     format!("nexus {}", hex(format!("{front}{trees}{blanks}{back}").as_bytes()))
+}
+
+/// A text of as many bytes with its semicolon, all others hidden by quotes.
+fn longest_quotes() -> String {
+    format!("feed 0 27{}273b", "3b".repeat(8_388_605))
 }
 
 /// Lines of bytes by chance.

@@ -1,6 +1,6 @@
 //! The opening: its numbers, its name list, its constants, and the checks 2, 3 and 4.
 
-use crate::text::is_label_byte;
+use crate::labels::{label, split_outside};
 use std::collections::BTreeSet;
 
 #[derive(Clone, Copy, PartialEq)]
@@ -15,6 +15,7 @@ pub struct Numbers {
 #[derive(PartialEq)]
 pub struct Opening {
     pub numbers: Numbers,
+    /// As they read.
     pub names: Vec<Vec<u8>>,
     pub first: Vec<u64>,
     pub second: Vec<u64>,
@@ -35,7 +36,7 @@ impl Numbers {
         if !self.in_range() {
             return Err(2);
         }
-        Ok(4096 + 4104 * self.lanes + 128 * self.tree_room + 24 * self.split_room + 2 * self.places)
+        Ok(4096 + 4616 * self.lanes + 128 * self.tree_room + 24 * self.split_room + 2 * self.places)
     }
 }
 
@@ -58,15 +59,15 @@ pub fn constants_fit(numbers: &Numbers, first: &[u64], second: &[u64]) -> bool {
     long(first) && long(second) && first.iter().all(|c| *c < numbers.places)
 }
 
-/// "One space between, none at the ends."
-fn names_of(list: &[u8], taxa: u64) -> Option<Vec<Vec<u8>>> {
-    let names: Vec<Vec<u8>> = list.split(|b| *b == b' ').map(<[u8]>::to_vec).collect();
+/// "One space between, none at the ends"; the spaces of quoted names "neither part names nor are counted".
+pub fn names_of(list: &[u8], taxa: u64) -> Option<Vec<Vec<u8>>> {
+    let names: Vec<Vec<u8>> = split_outside(list, b' ').into_iter().map(label).collect::<Option<_>>()?;
     names_fit(&names, taxa).then_some(names)
 }
 
-/// "n different names of 1 to 32 label bytes."
+/// As many names as taxa, of 1 to 32 bytes that a label can read as, all different.
 pub fn names_fit(names: &[Vec<u8>], taxa: u64) -> bool {
     let different: BTreeSet<&Vec<u8>> = names.iter().collect();
-    let fit = |name: &Vec<u8>| (1..=32).contains(&name.len()) && name.iter().all(|b| is_label_byte(*b));
+    let fit = |name: &Vec<u8>| (1..=32).contains(&name.len()) && name.iter().all(|b| (32..=126).contains(b));
     names.len() as u64 == taxa && different.len() == names.len() && names.iter().all(fit)
 }

@@ -2,7 +2,7 @@
 
 use crate::layout::{
     first_constant, head_number, name_bytes, name_length, second_constant, LANE_BYTES, MOST_LISTED, NAME_BYTES,
-    RUN_OVER, SPLITS_HELD, TREES_HELD,
+    RUN_OVER_ODD, SPLITS_HELD, TREES_HELD,
 };
 use crate::opening::Numbers;
 
@@ -113,7 +113,7 @@ fn name_in(bytes: &[u8], taxon: usize) -> Option<Vec<u8>> {
 fn lane_in(bytes: &[u8], numbers: &Numbers, lane: usize) -> Option<(u64, Vec<u8>)> {
     let long = numbers.lane_length(lane).get(bytes);
     let holds = if long as usize <= LANE_BYTES { long as usize } else { 0 };
-    (long <= RUN_OVER).then(|| (long, bytes[numbers.lane_bytes(lane)][..holds].to_vec()))
+    (long <= RUN_OVER_ODD).then(|| (long, bytes[numbers.lane_bytes(lane)][..holds].to_vec()))
 }
 
 fn list_in(bytes: &[u8], numbers: &Numbers, tree: usize) -> Option<Vec<u64>> {

@@ -1,14 +1,16 @@
-//! `read`: cases of texts, each to its verdict and the hash of its splits.
+//! `read`: cases of texts, each with a semicolon behind it, to the verdict and the hash of the splits.
 //!
 //! Lines of the input: the name list; the first constants; the number of places; the second constants; then the
 //! texts in hex, one a line.
 
 use crate::hash::{identifier, place};
+use crate::labels::first_outside;
 use crate::opening::{open, Numbers, Opening};
 use crate::verdict::{judge, Masks};
 use crate::words::{bytes, lines, list, number};
 
-/// The answers, a line each; `bad line` for a line that is not as said above, `opening refused K` for a bad head.
+/// The answers, a line each; `more` where quotes hide the semicolon, `bad line` for a line that is not as said above,
+/// `opening refused K` for a bad head.
 pub fn read(input: &[u8]) -> Vec<String> {
     let lines = lines(input);
     let [names, first, places, second, texts @ ..] = &lines[..] else {
@@ -34,7 +36,11 @@ fn answer(opening: &Opening, line: &[u8]) -> String {
     let Some(text) = bytes(line) else {
         return "bad line".to_string();
     };
-    match judge(&opening.names, &text) {
+    let text = [&text[..], b";"].concat();
+    let Some(end) = first_outside(false, &text, b';') else {
+        return "more".to_string();
+    };
+    match judge(&opening.names, &text[..end]) {
         Err(refusal) => format!("refused {refusal}"),
         Ok(splits) => splits_line(opening, &splits),
     }

@@ -4,6 +4,7 @@ use crate::collection::Collection;
 use crate::filerefusals::{files, files_at_full_rooms, refused_files};
 use crate::generator::{first_constants, name_list, second_constants};
 use crate::grow::{names, shape, text_of, Name};
+use crate::labels::{quoted, written_name, written_names};
 use crate::maker::{every_call, five_words, open_line, Maker};
 use crate::opening::Numbers;
 use crate::random::Random;
@@ -51,7 +52,7 @@ impl Maker {
 
     /// Leaves in one bracket: a tree without splits.
     pub fn star(&self, leaves: &[Name]) -> Vec<u8> {
-        [&b"("[..], &leaves.join(&b','), b")"].concat()
+        [&b"("[..], &written_names(leaves, b','), b")"].concat()
     }
 
     fn watched_text(&mut self, text: &[u8]) {
@@ -120,7 +121,13 @@ pub fn faulty_texts(maker: &mut Maker) -> Vec<Vec<u8>> {
         star(&[&names[1..], &[no]].concat()),
         star(&names[1..]),
         star(&names[..names.len() - 1]),
-        names[0].clone(),
+        quoted(&names[0]),
+        b"''".to_vec(),
+        [&star(&names)[..], b"''"].concat(),
+        [&star(&names)[..], b":'1'"].concat(),
+        [&star(&names)[..], b"'a\tb'"].concat(),
+        [&star(&names)[..], b"'a'b"].concat(),
+        long([&star(&names)[..], b"';'"].concat(), MOST_BYTES + 1),
     ]
 }
 
@@ -128,7 +135,7 @@ pub fn faulty_texts(maker: &mut Maker) -> Vec<Vec<u8>> {
 fn closings(maker: &mut Maker) {
     let lane = maker.numbers.lanes - 1;
     let blanks = vec![b'\n'; MOST_BYTES];
-    for held in [&b""[..], b"x", b" \r\n\t", b" ;"] {
+    for held in [&b""[..], b"x", b" \r\n\t", b" ;", b"'", b"';", b"'';", b"''"] {
         maker.feed(lane, held);
         maker.peek();
         maker.close(lane);
@@ -136,12 +143,14 @@ fn closings(maker: &mut Maker) {
         maker.close(lane);
         maker.peek();
     }
-    for more in [&b""[..], b" ", b"(A,"] {
+    for more in [&b""[..], b" ", b"(A,", b"'", b"''", b"';';"] {
         maker.feed(lane, &blanks);
         maker.feed(lane, more);
         maker.peek();
         maker.close(lane);
         maker.peek();
+        // Closing starts the count of apostrophes anew.
+        maker.feed(lane, b";");
     }
 }
 
@@ -197,8 +206,8 @@ fn answers_with_lengths(held: &Collection) -> Vec<(String, usize)> {
 /// The end of a text, two texts and the beginning of another, with room for two and for three verdicts.
 fn batches_with_rooms(maker: &mut Maker) {
     let lane = maker.random.below(maker.numbers.lanes as usize) as u64;
-    let piece = b"x;;(;\n";
-    maker.feed(lane, b" (");
+    let piece = b"x;y';;';(;\n';z'";
+    maker.feed(lane, b" ('");
     maker.peek();
     for room in [0, 1, 2] {
         maker.ask(format!("room {room}"));
@@ -299,13 +308,19 @@ fn wrong_constants(numbers: &Numbers, first: &[u64], second: &[u64]) -> Vec<(Vec
     out
 }
 
+/// What is no name; some stand for two parts of the list, or for the front of one.
+const ODD_LABELS: [&[u8]; 18] = [
+    b"''", b"'", b"'''", b"'''''", b"'x", b"x'", b"x'y'", b"'x'y", b"'x''", b"x''y", b"'x'_", b"' ", b"'x y",
+    b"'x\ty'", b"'\n'", b"'\x1f'", b"'\x7f'", b"'\xe9'",
+];
+
 fn wrong_names(names: &[Name]) -> Vec<Vec<u8>> {
     let n = names.len();
     let list = name_list(names);
-    let with = |at: usize, name: &[u8]| {
-        let mut changed = names.to_vec();
-        changed[at] = name.to_vec();
-        name_list(&changed)
+    let with = |at: usize, label: &[u8]| {
+        let mut labels: Vec<Vec<u8>> = names.iter().map(|name| written_name(name)).collect();
+        labels[at] = label.to_vec();
+        labels.join(&b' ')
     };
     let mut out = vec![
         Vec::new(),
@@ -318,9 +333,17 @@ fn wrong_names(names: &[Name]) -> Vec<Vec<u8>> {
         with(1, b""),
         with(0, &[b'x'; 33]),
         with(n - 1, &[b'x'; 300]),
-        with(0, &names[n - 1]),
-        with(n - 1, &names[0]),
+        with(0, &written_name(&names[n - 1])),
+        with(n - 1, &written_name(&names[0])),
+        with(0, &quoted(&names[n - 1])),
+        with(n - 1, &quoted(&names[0])),
+        with(1, &quoted(&[b'\''; 33])),
+        with(0, &quoted(&[b' '; 33])),
+        [&with(0, b"'x_y"), &b"'"[..]].concat(),
     ];
+    for label in ODD_LABELS {
+        out.extend([0, n / 2, n - 1].map(|at| with(at, label)));
+    }
     for byte in [0, 9, 10, 13, 31, 39, 40, 41, 44, 58, 59, 91, 93, 127, 128, 255] {
         out.push(with(n / 2, &[b'x', byte, b'y']));
     }

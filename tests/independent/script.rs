@@ -2,9 +2,10 @@
 
 use crate::files::any_file;
 use crate::generator::{
-    damage_names, first_constants, name_list, one_text, second_constants, some_names, some_places, some_shapes,
+    any_name_list, damage_names, first_constants, one_text, second_constants, some_names, some_places, some_shapes,
 };
 use crate::grow::{Name, Shape};
+use crate::labels::{first_outside, is_odd};
 use crate::maker::{five_words, joined};
 use crate::opening::Numbers;
 use crate::random::Random;
@@ -28,6 +29,8 @@ struct Script {
     lent: u64,
     /// What is still to be fed to each lane.
     waiting: Vec<Vec<u8>>,
+    /// Whether quotes are open in each lane's text, as far as that is known here.
+    odd: Vec<bool>,
     /// Lines that come next, the last one first.
     planned: Vec<String>,
 }
@@ -42,7 +45,7 @@ impl Script {
         let pool = some_shapes(&mut random, &names);
         let numbers = some_numbers(&mut random, names.len());
         let waiting = vec![Vec::new(); 9];
-        Script { random, names, pool, numbers, lent: 0, waiting, planned: Vec::new() }
+        Script { random, names, pool, numbers, lent: 0, waiting, odd: vec![false; 9], planned: Vec::new() }
     }
 
     /// Memory of about the right size, and the opening.
@@ -56,7 +59,9 @@ impl Script {
         let (n, places) = (self.names.len(), self.numbers.places);
         let first = comma_list(&first_constants(&mut self.random, n, places));
         let second = comma_list(&second_constants(&mut self.random, n));
-        format!("open {} {} {first} {second}", five_words(&self.numbers), hex(&name_list(&self.names)))
+        let list = any_name_list(&mut self.random, &self.names);
+        self.odd.fill(false);
+        format!("open {} {} {first} {second}", five_words(&self.numbers), hex(&list))
     }
 
     fn line(&mut self) -> String {
@@ -67,7 +72,7 @@ impl Script {
             0..=45 => self.feed_line(),
             46..=50 => self.batch_line(),
             51..=54 => self.nexus_line(),
-            55..=57 => format!("close {}", self.lane()),
+            55..=57 => self.close_line(),
             58..=90 => self.question_line(),
             91..=94 => self.room_line(),
             95..=97 => self.bad_opening_line(),
@@ -90,9 +95,16 @@ impl Script {
     fn feed_line(&mut self) -> String {
         let lane = self.lane();
         let piece = self.piece(lane);
-        let taken = piece.iter().position(|b| *b == b';').map_or(piece.len(), |at| at + 1);
-        self.waiting[lane].drain(..taken);
+        let end = first_outside(self.odd[lane], &piece, b';');
+        self.odd[lane] = end.is_none() && self.odd[lane] != is_odd(&piece);
+        self.waiting[lane].drain(..end.map_or(piece.len(), |at| at + 1));
         format!("feed {lane} {}", hex(&piece))
+    }
+
+    fn close_line(&mut self) -> String {
+        let lane = self.lane();
+        self.odd[lane] = false;
+        format!("close {lane}")
     }
 
     fn batch_line(&mut self) -> String {
@@ -102,6 +114,7 @@ impl Script {
         }
         let piece = self.piece(lane);
         self.waiting[lane].drain(..piece.len());
+        self.odd[lane] ^= is_odd(&piece);
         format!("batch {lane} {}", hex(&piece))
     }
 
@@ -170,7 +183,7 @@ impl Script {
         if self.random.one_in(2) {
             return format!("size {}", five_words(&numbers));
         }
-        let mut list = name_list(&self.names);
+        let mut list = any_name_list(&mut self.random, &self.names);
         damage_names(&mut self.random, &mut list);
         let zeros = comma_list(&vec![0; self.names.len() - self.random.below(2)]);
         let numbers = if self.random.one_in(2) { numbers } else { self.numbers };
@@ -252,7 +265,7 @@ impl Script {
 
     /// Too little memory first; then enough, with calls before the opening.
     fn lend_again(&mut self, size: u64) -> String {
-        let before = [self.question_line(), self.feed_line(), self.nexus_line(), format!("close {}", self.lane())];
+        let before = [self.question_line(), self.feed_line(), self.nexus_line(), self.close_line()];
         let open = self.open_line();
         self.planned.push(open);
         self.planned.extend(before);

@@ -1,5 +1,5 @@
 //! `selfcheck`: the samples of document 01, the sheet of the summary program, the limits, and the settled points; then
-//! the checks of stores and of NEXUS files.
+//! the checks of quotes, of stores and of NEXUS files.
 
 use crate::calls::treecalls;
 use crate::collection::Collection;
@@ -7,6 +7,7 @@ use crate::consensus::{majority, strict, written, Counts};
 use crate::filecheck::file_checks;
 use crate::grow;
 use crate::opening::{open, Numbers};
+use crate::quotecheck::quote_checks;
 use crate::random::Random;
 use crate::sets::{agree, taxa_of};
 use crate::storecheck::store_checks;
@@ -22,9 +23,19 @@ const S5: &str = "((A,B),C,D,E)";
 
 /// Prints a line for each check, and answers whether all are right.
 pub fn selfcheck() -> bool {
-    let checks =
-        [samples(), sheets(), lengths(), forms(), limits(), properties(), calls(), store_checks(), file_checks()]
-            .concat();
+    let checks = [
+        samples(),
+        sheets(),
+        lengths(),
+        forms(),
+        limits(),
+        properties(),
+        calls(),
+        quote_checks(),
+        store_checks(),
+        file_checks(),
+    ]
+    .concat();
     for (name, right) in &checks {
         println!("{} {name}", if *right { "ok" } else { "not ok" });
     }
@@ -143,18 +154,19 @@ fn limits() -> Vec<Check> {
     };
     let longest = longest_written();
     vec![
-        check("4096 bytes", verdict(5, &padded(4096)) == Ok(vec![28])),
-        check("4097 bytes", verdict(5, &padded(4097)) == Err(6)),
+        check("4608 bytes", verdict(5, &padded(4608)) == Ok(vec![28])),
+        check("4609 bytes", verdict(5, &padded(4609)) == Err(6)),
         check("64 taxa", opened(64) && !opened(65) && opened(4) && !opened(3)),
         check("nesting 63", verdict(5, &nested(63)) == Err(9)),
         check("nesting 64", verdict(5, &nested(64)) == Err(7)),
-        check("longest written tree", longest == 2236),
+        check("longest written tree", longest == 4349),
     ]
 }
 
-/// A ladder of 64 names of 32 bytes.
+/// A ladder of 64 names of 32 bytes, one of them all apostrophes, the others all but one.
 fn longest_written() -> usize {
-    let names: Vec<Vec<u8>> = (0..64).map(|i| format!("{i:032}").into_bytes()).collect();
+    let other = |i: u8| [&[b'\''; 31][..], &[b'a'.wrapping_add(i)]].concat();
+    let names: Vec<Vec<u8>> = (0..63).map(other).chain([vec![b'\''; 32]]).collect();
     let splits = (2..63u32).map(|low| u64::MAX << low).collect();
     written(&names, &splits).len()
 }
@@ -211,10 +223,10 @@ fn agree_in_pairs(splits: &Masks) -> bool {
 /// Calls and answers in order; NAMES, T0; and the like stand for their hex.
 const CALLS: [(&str, &str); 57] = [
     ("trees", "refused 1"),
-    ("size 5 2 2 3 6", "bytes 12644"),
-    ("lend 12643", "done"),
+    ("size 5 2 2 3 6", "bytes 13668"),
+    ("lend 13667", "done"),
     ("open 5 2 2 3 6 NAMES 0,0,0,0,0 0,0,0,0,0", "refused 4"),
-    ("lend 12646", "done"),
+    ("lend 13670", "done"),
     ("trees", "refused 1"),
     ("open 5 2 2 3 7 NAMES 0,0,0,0,0 0,0,0,0,0", "refused 2"),
     ("open 5 2 2 3 6 NAMES 0,0,0,0,6 0,0,0,0,0", "refused 2"),
@@ -251,18 +263,18 @@ const CALLS: [(&str, &str); 57] = [
     ("room -", "done"),
     ("agree 20 24", "agree 0"),
     ("agree 24 28", "agree 1"),
-    ("peek 12644 2", "bytes a5a5"),
-    ("poke 12645 00ff", "bad line"),
-    ("peek 12646 0", "bytes -"),
-    ("peek 12643 1", "unmodelled"),
+    ("peek 13668 2", "bytes a5a5"),
+    ("poke 13669 00ff", "bad line"),
+    ("peek 13670 0", "bytes -"),
+    ("peek 13667 1", "unmodelled"),
     ("poke 0 00", "done"),
     ("trees", "unmodelled"),
     ("tree  0", "bad line"),
     ("tree 18446744073709551616", "bad line"),
     // The last free split room, one past it, and a tree without new splits
     ("open 5 1 9 3 6 NAMES 0,0,0,0,0 0,0,0,0,0", "done"),
-    ("peek 9436 1", "unmodelled"),
-    ("peek 12644 1", "bytes a5"),
+    ("peek 9947 1", "unmodelled"),
+    ("peek 13668 1", "bytes a5"),
     ("feed 0 T0;", "accepted 16 0"),
     ("feed 0 T1;", "accepted 16 1"),
     ("feed 0 NEW;", "refused 16 12"),

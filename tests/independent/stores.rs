@@ -45,10 +45,12 @@ fn small_collection(mut random: Random) -> Maker {
 
 pub fn fill_lanes(maker: &mut Maker) {
     for lane in 0..maker.numbers.lanes {
-        match maker.random.below(5) {
+        match maker.random.below(8) {
             0 => drop(maker.feed(lane, &vec![b' '; MOST_BYTES + 1])),
             1 => drop(maker.feed(lane, b"((")),
             2 => drop(maker.feed(lane, &vec![b'\n'; MOST_BYTES])),
+            3 => drop(maker.feed(lane, &vec![b'\''; MOST_BYTES + 1])),
+            4 => drop(maker.feed(lane, b"('A;B")),
             _ => (),
         }
     }

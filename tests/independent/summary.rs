@@ -1,6 +1,7 @@
 //! The summary program `treesum`.
 
 use crate::collection::{Collection, Fed};
+use crate::labels::split_outside;
 use crate::opening::{open, Numbers};
 
 const TREE_ROOM: u64 = 48;
@@ -22,10 +23,11 @@ pub fn treesum(input: &[u8]) -> Vec<u8> {
     }
 }
 
-/// "The names are counted as spaces plus one, a count outside 4 to 64 gives 2, any other fault 3."
+/// "The names are counted as spaces plus one", those outside quotes; "a count outside 4 to 64 gives 2, any other
+/// fault 3".
 /// The constants decide nothing that is written here.
 fn opened(line: &[u8]) -> Result<Collection, u32> {
-    let taxa = line.iter().filter(|b| **b == b' ').count() as u64 + 1;
+    let taxa = split_outside(line, b' ').len() as u64;
     let numbers = Numbers { taxa, lanes: 1, tree_room: TREE_ROOM, split_room: SPLIT_ROOM, places: 1 };
     let zeros = vec![0; taxa as usize];
     open(numbers, line, &zeros, &zeros, u64::MAX).map(Collection::new)

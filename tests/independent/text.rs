@@ -1,6 +1,9 @@
 //! Text that is a tree: bytes to nodes, or a fault of form (7).
 
+use crate::labels::{quoted_label, unquoted_label};
+
 pub enum Node {
+    /// What its label reads as.
     Leaf(Vec<u8>),
     Inner(Vec<Node>),
 }
@@ -64,6 +67,17 @@ impl Reader<'_> {
         token
     }
 
+    /// Takes the label that comes next, in quotes or a token, and answers what it reads as; none if none comes.
+    fn label(&mut self) -> Result<Option<Vec<u8>>, Fault> {
+        if self.next_byte() == Some(b'\'') {
+            let (label, behind) = quoted_label(self.rest).ok_or(Fault)?;
+            self.rest = behind;
+            return Ok(Some(label));
+        }
+        let token = self.token();
+        Ok((!token.is_empty()).then(|| unquoted_label(&token)))
+    }
+
     /// A node inside as many brackets as are open.
     fn node(&mut self, open: usize) -> Result<Node, Fault> {
         let node = if self.take(b'(') {
@@ -71,14 +85,10 @@ impl Reader<'_> {
                 return Err(Fault);
             }
             let children = self.children(open + 1)?;
-            self.token();
+            self.label()?;
             Node::Inner(children)
         } else {
-            let label = self.token();
-            if label.is_empty() {
-                return Err(Fault);
-            }
-            Node::Leaf(label)
+            Node::Leaf(self.label()?.ok_or(Fault)?)
         };
         self.length()?;
         Ok(node)
@@ -97,7 +107,7 @@ impl Reader<'_> {
         }
     }
 
-    /// A colon wants a length; without a colon there is none.
+    /// A colon wants a length, which is a token; without a colon there is none.
     fn length(&mut self) -> Result<(), Fault> {
         if self.take(b':') && !is_length(&self.token()) {
             return Err(Fault);

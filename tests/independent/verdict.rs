@@ -4,7 +4,8 @@ use crate::sets::{is_proper, mask_of, side, Taxa};
 use crate::text::{read_text, Node};
 use std::collections::BTreeSet;
 
-pub const MOST_BYTES: usize = 4096;
+/// "A text may now hold 4,608 bytes."
+pub const MOST_BYTES: usize = 4608;
 
 pub type Masks = BTreeSet<u64>;
 
@@ -43,7 +44,7 @@ fn leaves(node: &Node) -> Vec<&Vec<u8>> {
     }
 }
 
-/// "Leaf labels match names by equal bytes."
+/// Leaf labels match names by equal bytes, both as they read.
 fn taxon_named(names: &[Vec<u8>], label: &[u8]) -> Option<u32> {
     let at = names.iter().position(|name| name == label)?;
     u32::try_from(at).ok()

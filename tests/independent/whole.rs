@@ -2,7 +2,7 @@
 
 use crate::collection::{Collection, Lane};
 use crate::hash::{identifier, place};
-use crate::layout::RUN_OVER;
+use crate::layout::{RUN_OVER, RUN_OVER_ODD};
 use crate::opening::{constants_fit, names_fit, Opening};
 use crate::parts::Parts;
 use crate::sets::{agree, is_proper, taxa_of, Taxa};
@@ -135,15 +135,16 @@ fn rising(masks: &[u64]) -> bool {
 
 fn lane_fields(lane: &Lane) -> (u64, Vec<u8>) {
     match lane {
-        Lane::RunOver => (RUN_OVER, Vec::new()),
+        Lane::RunOver { odd: false } => (RUN_OVER, Vec::new()),
+        Lane::RunOver { odd: true } => (RUN_OVER_ODD, Vec::new()),
         Lane::Holding(held) => (held.len() as u64, held.clone()),
     }
 }
 
 fn lane_of((long, held): &(u64, Vec<u8>)) -> Lane {
-    if *long == RUN_OVER {
-        Lane::RunOver
-    } else {
-        Lane::Holding(held.clone())
+    match *long {
+        RUN_OVER => Lane::RunOver { odd: false },
+        RUN_OVER_ODD => Lane::RunOver { odd: true },
+        _ => Lane::Holding(held.clone()),
     }
 }

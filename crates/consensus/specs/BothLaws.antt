@@ -83,7 +83,7 @@ narrow-trees h t long room f = rw (le-ltb long (length t) f) (go (eqb (length (h
     go true = refl
     go false = refl
 
-module _ (s : List ℕ) (w : wholeAt s ≡ true) (old text : List ℕ) (long : 2236 ≤ length old) where
+module _ (s : List ℕ) (w : wholeAt s ≡ true) (old text : List ℕ) (long : 4349 ≤ length old) where
   narrow-strict : (room : ℕ) → strictOf (heldAt s) room ≡ narrowed room (strictOf (heldAt s) (length old))
   unfolding strictOf
   narrow-strict room =

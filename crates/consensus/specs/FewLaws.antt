@@ -3,7 +3,7 @@
 --   good-few                           a good tree over n names has at most n - 2 splits
 -- of a whole store that holds t trees:
 --   names-good                         its names are good
---   tree-few, tree-short               a good tree over them has at most 62 splits, and its text at most 2,236 bytes
+--   tree-few, tree-short               a good tree over them has at most 62 splits, and its text at most 4,349 bytes
 --   trees-good                         its trees are good
 --   strict-chosen, majority-chosen     the strict splits are those that t trees have, the majority splits those that half of t and one more have
 --   strict-tree, majority-tree         and these are good trees
@@ -54,7 +54,7 @@ module _ (s : List ℕ) (w : wholeAt s ≡ true) where
       let b = r .most-taxa in
       omega (arith, good-few (numbersAt s .taxa) (namesAt s) l names-good g (omega arith) b)
 
-  pub tree-short : (l : List ℕ) → goodTree (numbersAt s .taxa) l ≡ true → length (written (heldAt s .opening .names) l) ≤ 2236
+  pub tree-short : (l : List ℕ) → goodTree (numbersAt s .taxa) l ≡ true → length (written (heldAt s .opening .names) l) ≤ 4349
   unfolding heldIn openingAt
   tree-short l g =
       let r = opening-facts s w .ranges in

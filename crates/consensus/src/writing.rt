@@ -49,8 +49,8 @@ pub(crate) fn write_both(s: &[u8], strict: &mut [u8], majority: &mut [u8]) -> Bo
     requires { ⌜ wholeAt (now s) ≡ true ⌝ }
     ensures { λ r. ⌜ BothFilledAs (bothOf (heldAt (now (s .entry))) (length (now (strict .entry))) (length (now (majority .entry)))) r (now (strict .entry)) (now (majority .entry)) (now (strict .exit)) (now (majority .exit)) ⌝ }
 {
-    // no tree is longer than 2,236 bytes: this refuses only where there are no trees
-    let mut text = [0u8; 2240];
+    // no tree is longer than 4,349 bytes: this refuses only where there are no trees
+    let mut text = [0u8; 4352];
     match write_strict(s, &mut text) {
         Number::Refused(r) => Both::Refused(r),
         Number::Gives(n) => give_both(s, &text, n, strict, majority),

@@ -14,7 +14,7 @@
 use Prim.Native.Nat.{ℕ, zero, suc, _+_, _-_, _≤_, _<_}
 use native.Mathlib.Numerals.{add-one}
 use native.Mathlib.Omega.{arith}
-use mathlib.Core.Path.{_≡_, refl, sym, ap, subst, _∙_}
+use mathlib.Core.Path.{_≡_, refl, sym, ap, ap₂, subst, _∙_}
 use mathlib.Core.Bool.{Bool, true, false}
 use mathlib.Core.List.{List, [], _∷_, _++_, append-assoc, append-nil}
 use lib.Dec.{ltb}
@@ -22,13 +22,14 @@ use lib.ListN.{length, getD, set, take, drop, length-append, length-set, length-
 use lib.Seq.{take-all, take-suc-set, drop-set-lt, drop-drop}
 use borrow.Author.Tests.{lt-ltb, le-ltb, ltb-true}
 use Rattle.theorems.specs.ListLaws.{and-left, and-right}
-use Rattle.trees.specs.Plain.{if_then_else_, every, member, Answer, refused, gives}
+use Rattle.trees.specs.Plain.{if_then_else_, every, Answer, refused, gives}
 use Rattle.trees.specs.Opening.{Opening, storeSize}
-use Rattle.trees.specs.Held.{Held, moreWanted, accepted, laneOf, longer, verdict, beforeSemicolon, finished, finishing, feeding}
+use Rattle.trees.specs.Held.{Held, moreWanted, accepted, laneOf, openIn, longer, verdict, finished, finishing, feeding}
 use Rattle.trees.specs.Held as held
-use Rattle.trees.specs.Batch.{semicolons, verdictNumber, isRefusal, noneAccepted, Batched, withVerdict, batching, batch}
-use Rattle.theorems.specs.WrittenFedLaws.{feedingBy, feeding-by}
+use Rattle.trees.specs.Batch.{verdictNumber, isRefusal, noneAccepted, Batched, withVerdict, batching, batch}
+use Rattle.theorems.specs.FeedingLaws.{endsAt, lastPart, feedingBy, feeding-by}
 use Rattle.theorems.specs.OwnLaneLaws.{feeding-opening}
+use Rattle.text.specs.EndLaws.{end-inside, has-text, lacks-text}
 use Rattle.answers.specs.declared.Refusal.{Refusal}
 use Rattle.answers.specs.declared.Refusal.the-variants as why
 use Rattle.answers.specs.declared.Number.the-variants as number
@@ -40,12 +41,12 @@ use Rattle.layout.specs.Store.{sizeAt, heldAt, heldIn}
 use Rattle.layout.specs.WholeStore.{wholeAt}
 use Rattle.layout.specs.WholeFacts.{whole-at-facts}
 use Rattle.store.specs.RecordedAtLaws.{trees-length}
-use Rattle.store.specs.HeldWholeLaws.{held-numbers, opening-facts}
+use Rattle.store.specs.HeldWholeLaws.{held-numbers, texts-length, opening-facts}
 use Rattle.store.specs.Lent.{Holds}
 use Rattle.store.specs.LentLaws.{when-whole}
 use Rattle.feeding.specs.Feeding.{batchOf, isAccepted, SameOutside, BatchedAs}
-use Rattle.feeding.specs.Texts.{FedWell}
-use Rattle.feeding.specs.EndLaws.{end-inside, one-text, has-text, lacks-text}
+use Rattle.feeding.specs.Texts.{FedWell, textsAt}
+use Rattle.feeding.specs.CutLaws.{LaneThere, fed-open, first-taken, one-fed}
 use Rattle.feeding.specs.HoldLaws.{size-held}
 
 -- ---- the numbers of accepted trees
@@ -57,23 +58,16 @@ trees-few s w = omega (arith, trees-length s, whole-at-facts s w .head .trees-fi
 pub small-answer : (s : List ℕ) (l : ℕ) (p : List ℕ) → wholeAt s ≡ true → Small (feeding (heldAt s) l p .answer)
 unfolding finishing
 small-answer s l p w =
-    subst (λ (f : held.Fed). Small (f .answer)) (sym (feeding-by (heldAt s) l p)) (go (ltb l (heldAt s .opening .numbers .lanes)) (member 59 p))
+    subst (λ (f : held.Fed). Small (f .answer)) (sym (feeding-by (heldAt s) l p)) (go (ltb l (heldAt s .opening .numbers .lanes)) (endsAt (heldAt s) l p))
   where
     done : (v : Answer (List ℕ)) → Small (finished (heldAt s) v)
     done (refused k) = unfold Small finished in tt
     done (gives t) = unfold Small finished in trees-few s w
 
     go : (b c : Bool) → Small (feedingBy b c (heldAt s) l p .answer)
-    go true true = done (verdict (heldAt s) (longer (laneOf (heldAt s) l) (beforeSemicolon p)))
+    go true true = done (verdict (heldAt s) (longer (laneOf (heldAt s) l) (lastPart (heldAt s) l p)))
     go true false = unfold Small in tt
     go false c = unfold Small in tt
-
--- ---- one text
-
--- a piece with a semicolon, fed to a lane that is there, is taken up to its first one
-fed-taken : (h : Held) (l : ℕ) (p : List ℕ) → l < h .opening .numbers .lanes → member 59 p ≡ true → feeding h l p .taken ≡ suc (length (beforeSemicolon p))
-unfolding finishing
-fed-taken h l p m e = ap (λ (f : held.Fed). f .taken) (feeding-by h l p) ∙ rw (lt-ltb l (h .opening .numbers .lanes) m, e) refl
 
 -- ---- texts of which none is accepted
 
@@ -97,17 +91,17 @@ none-last : (x : List ℕ) (v : ℕ) → noneAccepted (x ++ v ∷ []) ≡ true �
 unfolding noneAccepted every
 none-last x v e = and-left (isRefusal v) true (none-back x (v ∷ []) e)
 
--- a piece without a semicolon finishes no text
-fed-more : (h : Held) (l : ℕ) (p : List ℕ) → l < h .opening .numbers .lanes → member 59 p ≡ false → isAccepted (feeding h l p .answer) ≡ false
+-- a piece that ends no text has none accepted
+fed-more : (h : Held) (l : ℕ) (p : List ℕ) → LaneThere h l → endsAt h l p ≡ false → isAccepted (feeding h l p .answer) ≡ false
 unfolding isAccepted
-fed-more h l p m e = ap (λ (f : held.Fed). isAccepted (f .answer)) (feeding-by h l p) ∙ rw (lt-ltb l (h .opening .numbers .lanes) m, e) refl
+fed-more h l p here e = ap (λ (f : held.Fed). isAccepted (f .answer)) (fed-open h l here p e)
 
 -- ---- text after text
 
 pub record Going (s₀ : List ℕ) (l : ℕ) (p : List ℕ) (n : ℕ) (v₀ s v : List ℕ) (at i : ℕ) : Type 0 where
   pub within : i ≤ n
   pub reach : at ≤ length p
-  pub texts : i + semicolons (drop at p) ≡ n
+  pub texts : i + textsAt (heldAt s) l (drop at p) ≡ n
   pub whole : wholeAt s ≡ true
   pub opening : heldAt s .opening ≡ heldAt s₀ .opening
   pub size : length s ≡ length s₀
@@ -115,10 +109,10 @@ pub record Going (s₀ : List ℕ) (l : ℕ) (p : List ℕ) (n : ℕ) (v₀ s v 
   pub outside : noneAccepted (take i v) ≡ true → SameOutside s₀ l s
   pub room : length v ≡ length v₀
   pub kept : drop i v ≡ drop i v₀
-  pub verdicts : batching n (heldAt s₀) l p .verdicts ≡ take i v ++ batching (semicolons (drop at p)) (heldAt s) l (drop at p) .verdicts
-  pub after : batching n (heldAt s₀) l p .after ≡ batching (semicolons (drop at p)) (heldAt s) l (drop at p) .after
+  pub verdicts : batching n (heldAt s₀) l p .verdicts ≡ take i v ++ batching (textsAt (heldAt s) l (drop at p)) (heldAt s) l (drop at p) .verdicts
+  pub after : batching n (heldAt s₀) l p .after ≡ batching (textsAt (heldAt s) l (drop at p)) (heldAt s) l (drop at p) .after
 
-pub going-none : (s : List ℕ) (l : ℕ) (p : List ℕ) (n : ℕ) (v : List ℕ) → wholeAt s ≡ true → n ≡ semicolons p → Going s l p n v s v 0 0
+pub going-none : (s : List ℕ) (l : ℕ) (p : List ℕ) (n : ℕ) (v : List ℕ) → wholeAt s ≡ true → n ≡ textsAt (heldAt s) l p → Going s l p n v s v 0 0
 going-none s l p n v w e = record {
   within = omega arith;
   reach = omega arith;
@@ -142,6 +136,9 @@ module _ (s₀ : List ℕ) (l : ℕ) (p : List ℕ) (n : ℕ) (v₀ s v : List �
   pub going-lane : l < numbersAt s .lanes
   going-lane = rw numbers-in m
 
+  lane-in : LaneThere (heldAt s) l
+  lane-in = record { counted = rw (held-numbers s) going-lane; text = omega (arith, going-lane, texts-length s) }
+
   pub going-index : (starts links : List ℕ) → Indexed (namesAt s₀) starts links → Indexed (namesAt s) starts links
   unfolding heldIn openingAt
   going-index starts links x = rw (ap (λ (o : Opening). o .names) (g .opening)) x
@@ -164,29 +161,28 @@ module _ (s₀ : List ℕ) (l : ℕ) (p : List ℕ) (n : ℕ) (v₀ s v : List �
         f .left .holds .behind j (omega arith) ∙ g .behind j b
 
     module _ (d : i < n) (fits : n ≤ length v₀) where
-      some-text : member 59 (drop at p) ≡ true
-      some-text = has-text (drop at p) (omega (arith, g .texts))
+      some-text : endsAt (heldAt s) l (drop at p) ≡ true
+      some-text = has-text (openIn (laneOf (heldAt s) l)) (drop at p) (omega (arith, g .texts))
 
-      lane-in : l < heldAt s .opening .numbers .lanes
-      lane-in = rw (held-numbers s) going-lane
-
-      taken-is : feeding (heldAt s) l (drop at p) .taken ≡ suc (length (beforeSemicolon (drop at p)))
-      taken-is = fed-taken (heldAt s) l (drop at p) lane-in some-text
+      taken-is : feeding (heldAt s) l (drop at p) .taken ≡ suc (length (lastPart (heldAt s) l (drop at p)))
+      taken-is = first-taken (heldAt s) l lane-in (drop at p) some-text
 
       -- what is left behind this text
       rest : drop (r .taken) (drop at p) ≡ drop (at + r .taken) p
       rest = drop-drop (r .taken) at p
 
-      one-less : semicolons (drop at p) ≡ suc (semicolons (drop (at + r .taken) p))
-      one-less = one-text (drop at p) some-text ∙ ap suc (ap semicolons (ap (λ (k : ℕ). drop k (drop at p)) (sym (f .taken ∙ taken-is)) ∙ rest))
+      one-less : textsAt (heldAt s) l (drop at p) ≡ suc (textsAt (heldAt t) l (drop (at + r .taken) p))
+      one-less =
+          one-fed (heldAt s) l lane-in (drop at p) some-text
+          ∙ ap₂ (λ (h : Held) (q : List ℕ). suc (textsAt h l q)) (sym after-held) (ap (λ (k : ℕ). drop k (drop at p)) (sym (f .taken)) ∙ rest)
 
-      batch-on : batching (semicolons (drop at p)) (heldAt s) l (drop at p)
-          ≡ withVerdict (verdictNumber (progressGiven (r .progress))) (batching (semicolons (drop (at + r .taken) p)) (heldAt t) l (drop (at + r .taken) p))
+      batch-on : batching (textsAt (heldAt s) l (drop at p)) (heldAt s) l (drop at p)
+          ≡ withVerdict (verdictNumber (progressGiven (r .progress))) (batching (textsAt (heldAt t) l (drop (at + r .taken) p)) (heldAt t) l (drop (at + r .taken) p))
       unfolding batching
       batch-on = rw (one-less, f .answer, after-held, ← rest, f .taken)
 
       pub taken-fits : at + r .taken ≤ length p
-      taken-fits = omega (arith, f .taken, taken-is, end-inside (drop at p) some-text, length-drop at p)
+      taken-fits = omega (arith, f .taken, taken-is, end-inside (openIn (laneOf (heldAt s) l)) (drop at p) some-text, length-drop at p)
 
       pub going-more : (x : ℕ) → x ≡ verdictNumber (progressGiven (r .progress)) → Going s₀ l p n v₀ t (set v i x) (at + r .taken) (i + 1)
       unfolding withVerdict
@@ -218,7 +214,7 @@ module _ (s₀ : List ℕ) (l : ℕ) (p : List ℕ) (n : ℕ) (v₀ s v : List �
 
     -- behind the last text nothing is left to judge
     module _ (d : i ≡ n) where
-      none-left : semicolons (drop at p) ≡ 0
+      none-left : textsAt (heldAt s) l (drop at p) ≡ 0
       none-left = omega (arith, g .texts)
 
       last-after : batching n (heldAt s₀) l p .after ≡ heldAt t
@@ -239,8 +235,7 @@ module _ (s₀ : List ℕ) (l : ℕ) (p : List ℕ) (n : ℕ) (v₀ s v : List �
 
       pub gone-outside : noneAccepted (batching n (heldAt s₀) l p .verdicts) ≡ true → SameOutside s₀ l t
       gone-outside q j h =
-          let c : l < heldAt s .opening .numbers .lanes = rw (held-numbers s) going-lane in
-          f .left .outside (fed-more (heldAt s) l (drop at p) c (lacks-text (drop at p) none-left)) j h
+          f .left .outside (fed-more (heldAt s) l (drop at p) lane-in (lacks-text (openIn (laneOf (heldAt s) l)) (drop at p) none-left)) j h
           ∙ g .outside (rw (last-verdicts, ← d) at q) j h
 
       pub gone-verdicts : v ≡ batching n (heldAt s₀) l p .verdicts ++ drop n v₀
@@ -272,7 +267,7 @@ module _ (s : List ℕ) (l : ℕ) (p v : List ℕ) (w : wholeAt s ≡ true) wher
       nowhere : batch (heldAt s) l p (length v) ≡ refusing why.NoLane
       nowhere = unfold batch refusalNumber in rw (held-numbers s, le-ltb l (numbersAt s .lanes) h)
 
-  module _ (m : l < numbersAt s .lanes) (n : ℕ) (e : n ≡ semicolons p) where
+  module _ (m : l < numbersAt s .lanes) (n : ℕ) (e : n ≡ textsAt (heldAt s) l p) where
     batch-here : batch (heldAt s) l p (length v) ≡ (if ltb (length v) n then refused 4 else gives (batching n (heldAt s) l p))
     unfolding batch
     batch-here = rw (held-numbers s, lt-ltb l (numbersAt s .lanes) m, e)

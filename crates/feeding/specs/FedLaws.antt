@@ -2,8 +2,8 @@
 --
 --   index-kept, lanes-kept     a lane changed: the index of the names stays right, and the lanes are as many
 --   few-taxa           a whole store has at most 64 taxa
---   fed-more           a piece without a semicolon: more wanted
---   fed-text           a piece with one: the verdict on the lane's text
+--   fed-more           a piece that ends no text: more wanted
+--   fed-text           one that ends a text: the verdict on it
 --   feed-not-whole, feed-no-lane, feed-well     what each return of feeding promises
 use Prim.Native.Nat.{ℕ, suc, _+_, _≤_, _<_}
 use native.Mathlib.Numerals.{add-one}
@@ -15,11 +15,13 @@ use mathlib.Core.List.{List, []}
 use lib.ListN.{length, take}
 use lib.Seq.{getD-set-same, set-set}
 use borrow.Author.Tests.{lt-ltb, le-ltb}
-use Rattle.trees.specs.Plain.{if_then_else_, member, Answer, refused, gives}
+use Rattle.trees.specs.Plain.{if_then_else_, Answer, refused, gives}
 use Rattle.trees.specs.Opening.{Opening, storeSize}
-use Rattle.trees.specs.Held.{Held, Lane, holding, overrun, laneOf, withLane, withTree, longer, roomFor, withRoom, verdict, moreWanted, beforeSemicolon, finished, recording, finishing, feeding}
+use Rattle.trees.specs.Held.{Held, Lane, holding, overrun, laneOf, withLane, withTree, openIn, longer, roomFor, withRoom, verdict, moreWanted, finished, recording, finishing, feeding}
 use Rattle.trees.specs.Held as held
 use Rattle.trees.specs.Verdict.{judged}
+use Rattle.theorems.specs.QuoteLaws.{before-all}
+use Rattle.theorems.specs.FeedingLaws.{endsAt, lastPart}
 use Rattle.answers.specs.declared.Refusal.the-variants as why
 use Rattle.answers.specs.declared.Progress.{Progress}
 use Rattle.answers.specs.declared.Progress.the-variants as progress
@@ -31,9 +33,9 @@ use Rattle.layout.specs.Store.{sizeAt, heldAt}
 use Rattle.layout.specs.WholeStore.{wholeAt}
 use Rattle.store.specs.HeldWholeLaws.{held-numbers, texts-length, opening-facts}
 use Rattle.lanes.specs.Lanes.{LaneIs}
+use Rattle.text.specs.EndLaws.{before-take, unended, ended}
 use Rattle.feeding.specs.Feeding.{reached, fedOf, isAccepted, FedAs}
 use Rattle.feeding.specs.Texts.{Left, FedWell, verdictOn, Finished}
-use Rattle.feeding.specs.EndLaws.{before-take, unended, ended, end-all}
 use Rattle.feeding.specs.HoldLaws.{size-held, lane-below, lane-holds, not-whole, no-lane, in-place, both-ways}
 use Rattle.feeding.specs.FinishLaws.{opening-kept}
 
@@ -59,7 +61,7 @@ module _ (h : Held) (l : ℕ) (y : Lane) where
 
   verdict-lane : (z : Lane) → verdict (withLane h l y) z ≡ verdict h z
   unfolding verdict
-  verdict-lane overrun = refl
+  verdict-lane (overrun q) = refl
   verdict-lane (holding x) = unfold withLane in room-lane (judged (h .opening .names) x)
 
   finished-lane : (a : Answer (List ℕ)) → finished (withLane h l y) a ≡ finished h a
@@ -85,22 +87,22 @@ module _ (s : List ℕ) (l : ℕ) (p : List ℕ) (m : l < numbersAt s .lanes) wh
   lane-held y = getD-set-same (heldAt s .texts) l y (holding []) (omega (arith, texts-length s))
 
   fed-here : feeding (heldAt s) l p
-      ≡ (if member 59 p then finishing (heldAt s) l (suc (length (beforeSemicolon p))) (verdict (heldAt s) (longer (laneOf (heldAt s) l) (beforeSemicolon p)))
+      ≡ (if endsAt (heldAt s) l p then finishing (heldAt s) l (suc (length (lastPart (heldAt s) l p))) (verdict (heldAt s) (longer (laneOf (heldAt s) l) (lastPart (heldAt s) l p)))
       else record { taken = length p; answer = gives moreWanted; after = withLane (heldAt s) l (longer (laneOf (heldAt s) l) p) })
   unfolding feeding
   fed-here = rw (held-numbers s, lt-ltb l (numbersAt s .lanes) m)
 
-  module _ (n : ℕ) (e : n ≡ length (beforeSemicolon p)) where
-    taken-part : take n p ≡ beforeSemicolon p
-    taken-part = rw e (before-take p)
+  module _ (n : ℕ) (e : n ≡ length (lastPart (heldAt s) l p)) where
+    taken-part : take n p ≡ lastPart (heldAt s) l p
+    taken-part = rw e (before-take (openIn (laneOf (heldAt s) l)) p)
 
     module _ (u : List ℕ) (c : LaneIs s l (longer (laneOf (heldAt s) l) (take n p)) u) where
       pub fed-more : n ≡ length p → FedWell s l p (record { taken = n; progress = progress.MoreWanted }) u
       unfolding progressGiven isAccepted
       fed-more q =
-          let x = unended p (sym e ∙ q) in
+          let x = unended (openIn (laneOf (heldAt s) l)) p (omega (arith, e, q)) in
           let f : feeding (heldAt s) l p ≡ record { taken = length p; answer = gives moreWanted; after = withLane (heldAt s) l (longer (laneOf (heldAt s) l) p) } = fed-here ∙ rw x in
-          let d : LaneIs s l (longer (laneOf (heldAt s) l) p) u = subst (λ (z : List ℕ). LaneIs s l (longer (laneOf (heldAt s) l) z) u) (taken-part ∙ end-all p x) c in
+          let d : LaneIs s l (longer (laneOf (heldAt s) l) p) u = subst (λ (z : List ℕ). LaneIs s l (longer (laneOf (heldAt s) l) z) u) (taken-part ∙ before-all (openIn (laneOf (heldAt s) l)) p x) c in
           record {
             taken = rw f q;
             answer = rw f refl;
@@ -109,7 +111,7 @@ module _ (s : List ℕ) (l : ℕ) (p : List ℕ) (m : l < numbersAt s .lanes) wh
 
       module _ (q : n < length p) (r : Progress) (t : List ℕ) (g : Finished u l r t) where
         y : Lane
-        y = longer (laneOf (heldAt s) l) (beforeSemicolon p)
+        y = longer (laneOf (heldAt s) l) (lastPart (heldAt s) l p)
 
         v : Answer (List ℕ)
         v = verdict (heldAt s) y
@@ -131,9 +133,9 @@ module _ (s : List ℕ) (l : ℕ) (p : List ℕ) (m : l < numbersAt s .lanes) wh
         after-is : withLane (recording (heldAt u) (verdictOn u l)) l (holding []) ≡ withLane (recording (heldAt s) v) l (holding [])
         after-is = rw (lane-is, verdict-is) (recording-lane (heldAt s) l y (holding []) v)
 
-        fed-is : feeding (heldAt s) l p ≡ finishing (heldAt s) l (suc (length (beforeSemicolon p))) v
+        fed-is : feeding (heldAt s) l p ≡ finishing (heldAt s) l (suc (length (lastPart (heldAt s) l p))) v
         unfolding v y
-        fed-is = fed-here ∙ rw (ended p (omega arith))
+        fed-is = fed-here ∙ rw (ended (openIn (laneOf (heldAt s) l)) p (omega arith))
 
         left-is : Left (withLane (recording (heldAt s) v) l (holding [])) s l (finished (heldAt s) v) t
         left-is =

@@ -1,7 +1,6 @@
 -- The verdict on a lane's text, case by case. Assumes nothing.
 --
 --   verdict-over, verdict-refused, verdict-room     the verdict on a lane that ran over; on a text that is refused; on one that gives splits
---   held-text          the text that a lane holds
 --   judged-refused, judged-gives     what the reader answers
 --   opening-kept       a lane changed: the opening stays
 --   splits-of          what accepting a tree asks, of the records of splits that stand at the front of a list
@@ -14,9 +13,9 @@ use native.Mathlib.Nat.{add-zero}
 use native.Mathlib.Omega.{arith}
 use mathlib.Core.Path.{_≡_, refl, sym, ap, subst, _∙_}
 use mathlib.Core.Logic.{inr}
-use mathlib.Core.Bool.{true, true≢false}
+use mathlib.Core.Bool.{Bool, true, true≢false}
 use mathlib.Core.List.{List, []}
-use lib.ListN.{length, getD, take, drop, length-append}
+use lib.ListN.{length, getD, drop, length-append}
 use Rattle.trees.specs.Plain.{Answer, refused, gives}
 use Rattle.trees.specs.Opening.{Opening, storeSize}
 use Rattle.trees.specs.Held.{Held, Lane, holding, overrun, laneOf, withLane, withTree, roomFor, withRoom, verdict, finished, recording, accepted}
@@ -26,16 +25,14 @@ use Rattle.theorems.specs.FewLaws.{few-splits}
 use Rattle.answers.specs.declared.Progress.{Progress}
 use Rattle.answers.specs.declared.Refusal.{Refusal}
 use Rattle.answers.specs.Answers.{refusalNumber, progressGiven}
-use Rattle.fields.specs.Field.{number}
 use Rattle.records.specs.Records.{wide, recordOf, recordsOf, withRecords, masksOf}
 use Rattle.records.specs.RecordLaws.{records-length, record-at, masks-records}
 use Rattle.head.specs.Head.{numbersAt, firstAt, secondAt, openingAt}
-use Rattle.layout.specs.Store.{treesHeldAt, laneFrom, heldAt, heldIn, ranOver, mostSplits}
+use Rattle.layout.specs.Store.{treesHeldAt, heldAt, heldIn, mostSplits}
 use Rattle.layout.specs.WholeStore.{wholeAt}
 use Rattle.store.specs.RecordedAtLaws.{trees-length}
 use Rattle.store.specs.HeldWholeLaws.{opening-facts}
 use Rattle.lanes.specs.Lanes.{LaneIs}
-use Rattle.lanes.specs.LaneLaws.{lane-holding}
 use Rattle.newick.specs.Judge.{JudgedAs}
 use Rattle.newick.specs.declared.Judged.{Judged}
 use Rattle.newick.specs.declared.Judged.the-variants.{Refused, Splits}
@@ -48,9 +45,9 @@ use Rattle.feeding.specs.HoldLaws.{size-held, lane-below, lane-holds}
 -- ---- the verdict
 
 module _ (s : List ℕ) (l : ℕ) where
-  pub verdict-over : laneOf (heldAt s) l ≡ overrun → verdictOn s l ≡ refused 6
+  pub verdict-over : (q : Bool) → laneOf (heldAt s) l ≡ overrun q → verdictOn s l ≡ refused 6
   unfolding verdictOn verdict
-  verdict-over e = rw e
+  verdict-over q e = rw e
 
   verdict-held : (x : List ℕ) → laneOf (heldAt s) l ≡ holding x → verdictOn s l ≡ withRoom (heldAt s) (judged (heldAt s .opening .names) x)
   unfolding verdictOn verdict
@@ -67,11 +64,6 @@ module _ (s : List ℕ) (l : ℕ) where
   pub verdict-room : (x t : List ℕ) → laneOf (heldAt s) l ≡ holding x → judged (openingAt s .names) x ≡ gives t → verdictOn s l ≡ roomFor (heldAt s) t
   unfolding withRoom
   verdict-room x t e q = verdict-held x e ∙ rw (names-held, q)
-
--- the text that a lane holds
-pub held-text : (s : List ℕ) (w : wholeAt s ≡ true) (l : ℕ) → l < numbersAt s .lanes → (n : ℕ) → n ≡ number 2 s (laneFrom l) → (n ≡ ranOver → ⊥)
-    → laneOf (heldAt s) l ≡ holding (take n (drop (laneFrom l + 8) s))
-held-text s w l m n e d = lane-holding s w l m (λ q. d (e ∙ q)) ∙ rw e
 
 -- ---- the reader's answer
 

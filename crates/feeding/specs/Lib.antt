@@ -1,11 +1,9 @@
 -- What feeding promises, its steps, and their laws.
 pub mod Feeding
 pub mod Texts
-pub mod EndLaws
 pub mod HoldLaws
 pub mod ClosingLaws
 pub mod FinishLaws
 pub mod FedLaws
 pub mod BatchLaws
-pub mod SeamLaws
 pub mod CutLaws

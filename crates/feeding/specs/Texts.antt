@@ -4,14 +4,15 @@
 --   FedWell s l p r t       feeding a piece to a lane that is there
 --   verdictOn s l           the verdict on the text of lane l
 --   Finished s l r t        the verdict on the lane's text, and the lane empty
---   blockBytes              how many bytes are counted at once, in a byte
+--   textsAt h l p           how many texts the piece p ends, fed to lane l
 use Prim.Native.Nat.{ℕ}
 use mathlib.Core.Path.{_≡_}
 use mathlib.Core.Bool.{false}
 use mathlib.Core.List.{List, []}
 use Rattle.trees.specs.Plain.{Answer}
-use Rattle.trees.specs.Held.{Held, holding, laneOf, withLane, verdict, finished, recording, feeding}
+use Rattle.trees.specs.Held.{Held, holding, laneOf, withLane, openIn, verdict, finished, recording, feeding}
 use Rattle.trees.specs.Held as held
+use Rattle.trees.specs.Batch.{textsIn}
 use Rattle.answers.specs.declared.Fed.{Fed}
 use Rattle.answers.specs.declared.Progress.{Progress}
 use Rattle.answers.specs.Answers.{progressGiven}
@@ -37,5 +38,5 @@ pub record Finished (s : List ℕ) (l : ℕ) (r : Progress) (t : List ℕ) : Typ
   pub answer : progressGiven r ≡ finished (heldAt s) (verdictOn s l)
   pub left : Left (withLane (recording (heldAt s) (verdictOn s l)) l (holding [])) s l (finished (heldAt s) (verdictOn s l)) t
 
-abbrev pub blockBytes : ℕ
-blockBytes = 128
+abbrev pub textsAt : Held → ℕ → List ℕ → ℕ
+textsAt h l p = textsIn (openIn (laneOf h l)) p

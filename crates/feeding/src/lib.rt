@@ -15,7 +15,7 @@ use head::KEYS;
 mod texts;
 mod verdicts;
 
-// Feeds a piece to a lane: takes it up to its first semicolon and that semicolon, or all of it.
+// Feeds a piece to a lane: takes it up to the first semicolon that ends a text and that semicolon, or all of it.
 pub fn feed(s: &mut [u8], l: Lane, piece: &[u8]) -> Fed
     ensures { λ r. ⌜ FedAs (now (s .entry)) (l .0) (now (piece .entry)) r (now (s .exit)) ⌝ }
 {
@@ -63,7 +63,8 @@ pub fn batch(s: &mut [u8], l: Lane, piece: &[u8], verdicts: &mut [u32]) -> Numbe
     if head::lanes(s) as usize <= l.0 {
         return Number::Refused(Refusal::NoLane);
     }
-    let n = texts::count_texts(piece);
+    let quoted = lanes::quotes_open(s, l);
+    let n = text::count_texts(piece, quoted);
     if verdicts.len() < n {
         return Number::Refused(Refusal::TooShort);
     }

@@ -16,7 +16,7 @@ use answers::Lane;
 use answers::Progress;
 use answers::Refusal;
 use head::KEYS;
-use layout::RAN_OVER;
+use layout::MOST_TEXT;
 use newick::Judged;
 use records::MOST_WORDS;
 
@@ -28,7 +28,7 @@ pub(crate) fn finish_text(s: &mut [u8], starts: &[u8; KEYS], links: &[u8; 64], l
     ensures { λ r. ⌜ Finished (now (s .entry)) (l .0) r (now (s .exit)) ⌝ }
 {
     let n = lanes::lane_length(s, l);
-    if n == RAN_OVER {
+    if MOST_TEXT < n {
         lanes::empty_lane(s, l);
         return Progress::Refused(Refusal::TooLong);
     }

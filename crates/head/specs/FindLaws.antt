@@ -4,22 +4,26 @@
 --   found-below, below-at              a taxon that is found is one of the names
 --   found-at, found-nothing            what the answer says of the label
 --   run-more, run-not, run-end, run-unlike     two runs compared byte by byte
-use Prim.Native.Nat.{ℕ, zero, suc, _+_, _-_, _≤_, _<_}
+--   label-found, longer-found          a label by the name that it reads as, which is none where it is longer than any can be
+use Prim.Native.Nat.{ℕ, zero, suc, _+_, _-_, _*_, _≤_, _<_}
 use native.Mathlib.Numerals.{add-one}
 use native.Mathlib.Omega.{arith}
 use mathlib.Core.Path.{_≡_, refl, sym, ap, _∙_}
 use mathlib.Core.Bool.{true, false, _&&_}
-use mathlib.Core.List.{List, []}
+use mathlib.Core.List.{List, [], _∷_}
 use mathlib.Core.Option.{Option, none, some}
 use lib.Dec.{eqb}
 use lib.ListN.{length, getD, drop, drop-of-length-le}
 use lib.Seq.{slice, slice-empty, slice-cons, drop-cons}
 use borrow.Author.Tests.{eq-eqb, ne-eqb}
 use Rattle.trees.specs.Plain.{sameBytes}
+use Rattle.trees.specs.Text.{readAs}
 use Rattle.trees.specs.Names.{taxonFrom, taxonOf}
 use Rattle.theorems.specs.ListLaws.{if-true, if-false}
 use Rattle.theorems.specs.SplitLaws.{taxonFrom-below}
 use Rattle.answers.specs.declared.Taxon.{Taxon}
+use Rattle.head.specs.Head.{numbersAt, namesAt}
+use Rattle.head.specs.HeadLaws.{names-length, names-at, name-most}
 use Rattle.head.specs.declared.Found.{Found}
 use Rattle.head.specs.declared.Found.the-variants.{At, Nothing}
 use Rattle.head.specs.Index.{key, nextWith, Indexed, foundOf, Below, after, Sought, left}
@@ -42,7 +46,7 @@ module _ (ns : List (List ℕ)) (w : List ℕ) (i : ℕ) (h : i < length ns) whe
 -- ---- the search as the loop makes it
 
 module _ (ns : List (List ℕ)) (w : List ℕ) where
-  sought-past : (i : ℕ) → length ns ≤ i → taxonFrom i (drop i ns) w ≡ taxonOf ns w → Sought ns w 0
+  sought-past : (i : ℕ) → length ns ≤ i → taxonFrom i (drop i ns) w ≡ taxonFrom 0 ns w → Sought ns w 0
   unfolding after taxonFrom
   sought-past i h e =
       record {
@@ -51,7 +55,7 @@ module _ (ns : List (List ℕ)) (w : List ℕ) where
         rest = sym (ap (λ l. taxonFrom i l w) (drop-of-length-le ns h)) ∙ e;
       }
 
-  sought-keyed : (i : ℕ) → i < length ns → key (getD ns i []) ≡ key w → taxonFrom i (drop i ns) w ≡ taxonOf ns w
+  sought-keyed : (i : ℕ) → i < length ns → key (getD ns i []) ≡ key w → taxonFrom i (drop i ns) w ≡ taxonFrom 0 ns w
       → Sought ns w (i + 1)
   unfolding after
   sought-keyed i h q e =
@@ -59,16 +63,15 @@ module _ (ns : List (List ℕ)) (w : List ℕ) where
       record { within = omega arith; keyed = λ n. rw d q; rest = rw (add-one i) e }
 
   -- where the names from i on decide, so do those from the next of the label's key on
-  sought-from : (i : ℕ) → taxonFrom i (drop i ns) w ≡ taxonOf ns w → Sought ns w (nextWith ns (key w) i)
+  sought-from : (i : ℕ) → taxonFrom i (drop i ns) w ≡ taxonFrom 0 ns w → Sought ns w (nextWith ns (key w) i)
   sought-from i =
-      next-cases ns (key w) (λ j n. taxonFrom j (drop j ns) w ≡ taxonOf ns w → Sought ns w n)
+      next-cases ns (key w) (λ j n. taxonFrom j (drop j ns) w ≡ taxonFrom 0 ns w → Sought ns w n)
       sought-past sought-keyed
       (λ j n h q f e. f (taxon-later ns w j h (other-key _ _ q) ∙ e))
       (length ns) i (omega arith)
 
   module _ (starts links : List ℕ) (x : Indexed ns starts links) where
     pub sought-start : Sought ns w (getD starts (key w) 0)
-    unfolding taxonOf
     sought-start = rw (x .firsts (key w) (key-below w)) (sought-from 0 refl)
 
     link-at : (i : ℕ) → Sought ns w (suc i) → getD links i 0 ≡ nextWith ns (key w) (i + 1)
@@ -98,7 +101,7 @@ module _ (ns : List (List ℕ)) (w : List ℕ) where
         rw (d, link-at i p) (omega arith)
 
   pub sought-here : (n : ℕ) → Sought ns w n → (n ≡ 0 → ⊥) → sameBytes (getD ns (n - 1) []) w ≡ true
-      → At (record { 0 = n - 1 }) ≡ foundOf (taxonOf ns w)
+      → At (record { 0 = n - 1 }) ≡ foundOf (taxonFrom 0 ns w)
   unfolding after foundOf
   sought-here zero p z q = absurd (z refl)
   sought-here (suc i) p z q =
@@ -107,20 +110,17 @@ module _ (ns : List (List ℕ)) (w : List ℕ) where
       let r : sameBytes (getD ns i []) w ≡ true = rw d at q in
       rw d (ap foundOf (sym (taxon-here ns w i (omega arith) r) ∙ p .rest))
 
-  pub sought-out : (n : ℕ) → Sought ns w n → n ≡ 0 → Nothing ≡ foundOf (taxonOf ns w)
+  pub sought-out : (n : ℕ) → Sought ns w n → n ≡ 0 → Nothing ≡ foundOf (taxonFrom 0 ns w)
   unfolding after foundOf
   sought-out n p z = ap foundOf (rw z at (p .rest))
 
-  taxon-below : Below (length ns) (foundOf (taxonOf ns w))
-  unfolding Below foundOf taxonOf
-  taxon-below = go (taxonFrom 0 ns w) refl
-    where
-      go : (o : Option ℕ) → taxonFrom 0 ns w ≡ o → Below (length ns) (foundOf o)
-      go none e = tt
-      go (some i) e = omega (arith, taxonFrom-below ns 0 w i e)
-
-  pub found-below : (n : ℕ) (f : Found) → length ns ≡ n → f ≡ foundOf (taxonOf ns w) → Below n f
-  found-below n f l e = rw (← l, e) taxon-below
+pub found-below : (ns : List (List ℕ)) (w : List ℕ) (n : ℕ) (f : Found) → length ns ≡ n → f ≡ foundOf (taxonFrom 0 ns w) → Below n f
+unfolding Below foundOf
+found-below ns w n f l e = rw (← l, e) (go (taxonFrom 0 ns w) refl)
+  where
+    go : (o : Option ℕ) → taxonFrom 0 ns w ≡ o → Below (length ns) (foundOf o)
+    go none q = tt
+    go (some i) q = omega (arith, taxonFrom-below ns 0 w i q)
 
 pub below-at : (n : ℕ) (t : Taxon) → Below n (At t) → t .0 < n
 unfolding Below
@@ -159,3 +159,25 @@ module _ (s t : List ℕ) (z e i j : ℕ) where
 -- of other lengths
 pub run-unlike : (v w : List ℕ) → (length v ≡ length w → ⊥) → sameBytes v w ≡ false
 run-unlike v w n = same-not v w (λ e. n (ap length e))
+
+-- ---- the label, and the name that it reads as
+
+pub label-found : (s w v : List ℕ) (f : Found) → readAs w ≡ v → f ≡ foundOf (taxonFrom 0 (namesAt s) v)
+    → (f ≡ foundOf (taxonOf (namesAt s) w)) × Below (numbersAt s .taxa) f
+unfolding taxonOf
+label-found s w v f e q = (rw e q, found-below (namesAt s) v (numbersAt s .taxa) f (names-length s) q)
+
+-- no name is as long as w
+longer-none : (ns : List (List ℕ)) (w : List ℕ) (k : ℕ) → ((i : ℕ) → i < length ns → length (getD ns i []) < length w) → taxonFrom k ns w ≡ none
+unfolding taxonFrom
+longer-none [] w k h = refl
+longer-none (v ∷ vs) w k h =
+    if-false (some k) (taxonFrom (suc k) vs w) (run-unlike v w (λ e. let l = h 0 (omega arith) in omega (arith, e)))
+    ∙ longer-none vs w (suc k) (λ i l. h (suc i) (omega arith))
+
+pub longer-found : (s w : List ℕ) → ((i : ℕ) → getD s i 0 < 256) → 255 < length w → Nothing ≡ foundOf (taxonFrom 0 (namesAt s) w)
+unfolding foundOf
+longer-found s w b h =
+    ap foundOf (sym (longer-none (namesAt s) w 0 (λ i l.
+    let n = names-length s in
+    rw (names-at s i (omega arith)) (omega (arith, name-most s i, b (16 + 33 * i))))))

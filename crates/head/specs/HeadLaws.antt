@@ -4,13 +4,14 @@
 --   names-length, first-length, second-length     each list has an element for each taxon
 --   names-at, first-at, second-at       the element of taxon i
 --   run-slice, name-slice               a run of bytes is a slice of them, and so is a name
+--   name-most                           it has no more bytes than the byte before it says
 --   numbers-same, names-same, first-same, second-same, head-same     the opening lies in the first 4,096 bytes
 use mathlib.Core.Path.{_≡_, refl, sym, ap, ap₂, _∙_}
 use Prim.Native.Nat.{ℕ, zero, suc, _+_, _*_, _≤_, _<_}
 use native.Mathlib.Nat.{add-zero, zero-add, suc-add}
 use native.Mathlib.Omega.{arith}
 use mathlib.Core.List.{List, [], _∷_}
-use lib.ListN.{length, getD, take, drop, length-drop}
+use lib.ListN.{length, getD, take, drop, length-take, length-drop}
 use lib.Seq.{slice, take-nil, drop-nil, length-take-le, getD-take, getD-drop, ext-getD}
 use Rattle.trees.specs.Opening.{headBytes}
 use Rattle.fields.specs.Field.{number}
@@ -88,6 +89,10 @@ run-slice (suc b) n (x ∷ s) = rw suc-add (run-slice b n s)
 pub name-slice : (s : List ℕ) (i : ℕ) → nameAt s i ≡ slice (17 + 33 * i) (17 + 33 * i + getD s (16 + 33 * i) 0) s
 unfolding nameAt
 name-slice s i = run-slice (17 + 33 * i) (getD s (16 + 33 * i) 0) s
+
+pub name-most : (s : List ℕ) (i : ℕ) → length (nameAt s i) ≤ getD s (16 + 33 * i) 0
+unfolding nameAt
+name-most s i = rw length-take (omega arith)
 
 -- ---- what the opening depends on
 

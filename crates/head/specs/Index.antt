@@ -8,7 +8,7 @@
 --   foundOf o                     a search's answer
 --   Below n f                     the taxon, if one is found, is below n
 --   IndexedFrom ns i starts links     the index of the taxa from i on
---   Sought ns w n                 the search for the label w has come to the entry n
+--   Sought ns w n                 the search for the name w has come to the entry n
 use Prim.Native.Nat.{ℕ, zero, suc, _+_, _-_, _/_, _%_, _^_, _≤_, _<_}
 use mathlib.Core.Path.{_≡_}
 use mathlib.Core.List.{List, [], _∷_}
@@ -16,7 +16,7 @@ use mathlib.Core.Option.{Option, none, some}
 use lib.Dec.{eqb}
 use lib.ListN.{length, getD, drop}
 use Rattle.trees.specs.Plain.{if_then_else_}
-use Rattle.trees.specs.Names.{taxonFrom, taxonOf}
+use Rattle.trees.specs.Names.{taxonFrom}
 use Rattle.fields.specs.Field.{number}
 use Rattle.head.specs.declared.Found.{Found}
 use Rattle.head.specs.declared.Found.the-variants.{At, Nothing}
@@ -71,7 +71,7 @@ after ns w (suc i) = taxonFrom i (drop i ns) w
 pub record Sought (ns : List (List ℕ)) (w : List ℕ) (n : ℕ) : Type 0 where
   pub within : n ≤ length ns
   pub keyed : (n ≡ 0 → ⊥) → key (getD ns (n - 1) []) ≡ key w
-  pub rest : after ns w n ≡ taxonOf ns w
+  pub rest : after ns w n ≡ taxonFrom 0 ns w
 
 -- how far the search may still go from the entry n
 unfoldable pub left : ℕ → ℕ

@@ -10,7 +10,7 @@ ghost use lib.ListN.{length, getD};
 ghost use lib.Seq.{slice};
 ghost use Rattle.trees.specs.Opening.{headBytes};
 ghost use Rattle.trees.specs.Plain.{sameBytes};
-ghost use Rattle.trees.specs.Names.{taxonOf};
+ghost use Rattle.trees.specs.Names.{taxonFrom, taxonOf};
 ghost use Rattle.fields.specs.Field.{number};
 ghost use Rattle.head.specs.Head.{numbersAt, nameAt, namesAt};
 ghost use Rattle.head.specs.Index.{keys, key, Indexed, foundOf, Below};
@@ -122,7 +122,10 @@ pub fn build_index(s: &[u8], starts: &mut [u8; KEYS], links: &mut [u8; 64])
     }
 }
 
-// The taxon whose name is the bytes of the text from b up to e: the names of their key, in list order.
+// The most bytes of a name that a head can hold: its length is a byte.
+const MOST_HELD: usize = 255;
+
+// The taxon whose name the label from b up to e of the text reads as.
 pub fn find_taxon(
     s: &[u8],
     starts: &[u8; KEYS],
@@ -138,6 +141,33 @@ pub fn find_taxon(
     requires { ⌜ e ≤ length (now text) ⌝ }
     ensures { λ r. ⌜ r ≡ foundOf (taxonOf (namesAt (now (s .entry))) (slice b e (now (text .entry)))) ⌝ }
     ensures { λ r. ⌜ Below (numbersAt (now (s .entry)) .taxa) r ⌝ }
+{
+    if text::is_plain_label(text, b, e) {
+        return find_name(s, starts, links, text, b, e);
+    }
+    let mut name = [0u8; MOST_HELD];
+    let n = text::read_up_to(text, b, e, &mut name, 0, MOST_HELD);
+    if MOST_HELD < n {
+        return Found::Nothing;
+    }
+    find_name(s, starts, links, &name, 0, n)
+}
+
+// The taxon whose name is the bytes of the text from b up to e: the names of their key, in list order.
+fn find_name(
+    s: &[u8],
+    starts: &[u8; KEYS],
+    links: &[u8; 64],
+    text: &[u8],
+    b: usize,
+    e: usize,
+) -> Found
+    requires { ⌜ headBytes ≤ length (now s) ⌝ }
+    requires { ⌜ numbersAt (now s) .taxa ≤ 64 ⌝ }
+    requires { ⌜ Indexed (namesAt (now s)) (now starts) (now links) ⌝ }
+    requires { ⌜ b ≤ e ⌝ }
+    requires { ⌜ e ≤ length (now text) ⌝ }
+    ensures { λ r. ⌜ r ≡ foundOf (taxonFrom 0 (namesAt (now (s .entry))) (slice b e (now (text .entry)))) ⌝ }
 {
     let k = key_of(text, b, e);
     let mut number = starts[k];

@@ -4,31 +4,31 @@
 --   closing-over     6: the lane ran over
 --   closing-full     7: it holds a byte that is no blank
 --   closing-done     it holds blanks at most
-use Prim.Native.Nat.{ℕ, _+_, _-_, _<_}
+use Prim.Native.Nat.{ℕ, _+_, _-_, _≤_, _<_}
 use native.Mathlib.Omega.{arith}
 use mathlib.Core.Path.{_≡_, refl, sym, ap, _∙_}
-use mathlib.Core.Bool.{true, false}
+use mathlib.Core.Bool.{Bool, true, false}
 use mathlib.Core.List.{List, []}
 use lib.ListN.{take, drop}
 use borrow.Author.Tests.{lt-ltb}
 use Rattle.trees.specs.Plain.{every}
 use Rattle.trees.specs.Text.{isBlank}
-use Rattle.trees.specs.Held.{Lane, holding, overrun, Closed, laneOf, withLane, closed, closing}
+use Rattle.trees.specs.Held.{Lane, holding, overrun, mostText, Closed, laneOf, withLane, closed, closing}
 use Rattle.answers.specs.declared.Refusal.the-variants as why
 use Rattle.answers.specs.declared.Finish.the-variants as finish
 use Rattle.answers.specs.Answers.{finishGiven}
 use Rattle.fields.specs.Field.{number}
 use Rattle.head.specs.Head.{numbersAt}
-use Rattle.layout.specs.Store.{laneFrom, heldAt, ranOver}
+use Rattle.layout.specs.Store.{laneFrom, heldAt}
 use Rattle.layout.specs.WholeStore.{wholeAt}
 use Rattle.store.specs.HeldWholeLaws.{held-numbers}
 use Rattle.lanes.specs.LaneLaws.{lane-overrun, lane-holding}
 
 -- ---- the answer, by the lane
 
-over-refused : finishGiven (finish.Refused why.TooLong) ≡ closed overrun
+over-refused : (q : Bool) → finishGiven (finish.Refused why.TooLong) ≡ closed (overrun q)
 unfolding finishGiven closed
-over-refused = refl
+over-refused q = refl
 
 text-refused : (t : List ℕ) → every isBlank t ≡ false → finishGiven (finish.Refused why.BadForm) ≡ closed (holding t)
 unfolding finishGiven closed
@@ -49,14 +49,14 @@ module _ (s : List ℕ) (l : ℕ) (m : l < numbersAt s .lanes) where
   answer-of x e = sym (ap (λ (c : Closed). c .answer) closing-here ∙ ap closed e)
 
   module _ (w : wholeAt s ≡ true) (n : ℕ) (is : n ≡ number 2 s (laneFrom l)) where
-    pub closing-over : n ≡ ranOver → finishGiven (finish.Refused why.TooLong) ≡ closing (heldAt s) l .answer
-    closing-over e = over-refused ∙ answer-of overrun (lane-overrun s w l m (sym is ∙ e))
+    pub closing-over : mostText < n → finishGiven (finish.Refused why.TooLong) ≡ closing (heldAt s) l .answer
+    closing-over h = over-refused _ ∙ answer-of (overrun _) (lane-overrun s w l m n is h)
 
-    module _ (held : n ≡ ranOver → ⊥) (from : ℕ) (at : from ≡ laneFrom l) where
+    module _ (held : n ≤ mostText) (from : ℕ) (at : from ≡ laneFrom l) where
       text-is : laneOf (heldAt s) l ≡ holding (take (from + 8 + n - (from + 8)) (drop (from + 8) s))
       text-is =
-          let e : from + 8 + n - (from + 8) ≡ number 2 s (laneFrom l) = omega arith in
-          lane-holding s w l m (λ e. held (is ∙ e)) ∙ rw (e, at)
+          let e : from + 8 + n - (from + 8) ≡ n = omega arith in
+          lane-holding s w l m n is held ∙ rw (e, at)
 
       pub closing-full : every isBlank (take (from + 8 + n - (from + 8)) (drop (from + 8) s)) ≡ false
           → finishGiven (finish.Refused why.BadForm) ≡ closing (heldAt s) l .answer

@@ -22,7 +22,7 @@ use Rattle.fields.specs.Field.{number}
 use Rattle.head.specs.Head.{upTo, numbersAt, openingAt}
 use Rattle.head.specs.HeadLaws.{numbers-same, head-same, upTo-same}
 use Rattle.layout.specs.Columns.{columnAt, column-same, upTo-set}
-use Rattle.layout.specs.Store.{laneFrom, treeFrom, masksFrom, identifiersFrom, countsFrom, linksFrom, orderFrom, placesFrom, Parts, listFrom, textFrom, partsAt, maskIn, heldIn, heldAt, ranOver}
+use Rattle.layout.specs.Store.{laneFrom, treeFrom, masksFrom, identifiersFrom, countsFrom, linksFrom, orderFrom, placesFrom, Parts, listFrom, textFrom, partsAt, maskIn, heldIn, heldAt, ranOverOpen}
 use Rattle.layout.specs.StoreLaws.{lane-from, tree-from, masks-from, identifiers-from, counts-from, links-from, order-from, places-from, Shaped, shaped-at}
 use Rattle.layout.specs.KeptLaws.{Kept, number-kept, list-kept, text-kept}
 use Rattle.layout.specs.WholeStore.{highestIn, listedIn, wholeAt}
@@ -53,7 +53,7 @@ module _ (o : Opening) (p : Parts) (l n : ℕ) (x : Lane) where
   highest-with h q zero = refl
   highest-with h q (suc k) = ap (λ (r : ℕ). if eqb (h (maskIn p k)) q then suc k else r) (highest-with h q k)
 
-  sound-with : Sound o p → Shaped (o .numbers) (withText l n x p) → l < o .numbers .lanes → n ≤ ranOver → Sound o (withText l n x p)
+  sound-with : Sound o p → Shaped (o .numbers) (withText l n x p) → l < o .numbers .lanes → n ≤ ranOverOpen → Sound o (withText l n x p)
   unfolding listedIn
   sound-with f a m h =
       let b = f .splits in
@@ -66,7 +66,7 @@ module _ (o : Opening) (p : Parts) (l n : ℕ) (x : Lane) where
         lanes = λ j q. go j q (eqb j l) refl;
       }
     where
-      go : (j : ℕ) → j < o .numbers .lanes → (c : Bool) → eqb j l ≡ c → getD (set (p .lengths) l n) j 0 ≤ ranOver
+      go : (j : ℕ) → j < o .numbers .lanes → (c : Bool) → eqb j l ≡ c → getD (set (p .lengths) l n) j 0 ≤ ranOverOpen
       go j q true e = rw (eqb-true j l e, getD-set-same (p .lengths) l n 0 (omega (arith, f .shaped .lengths))) h
       go j q false e = rw (getD-set-other (p .lengths) l j n 0 (eqb-false j l e)) (f .lanes j q)
 
@@ -140,7 +140,7 @@ module _ (s : List ℕ) (w : wholeAt s ≡ true) (l : ℕ) (m : l < numbersAt s 
         texts = texts-with i;
       }
 
-  module _ (n : ℕ) (x : Lane) (e : number 2 t (laneFrom l) ≡ n) (fits : n ≤ ranOver) (f : textFrom t (laneFrom l) ≡ x) where
+  module _ (n : ℕ) (x : Lane) (e : number 2 t (laneFrom l) ≡ n) (fits : n ≤ ranOverOpen) (f : textFrom t (laneFrom l) ≡ x) where
     parts-are : partsAt t ≡ withText l n x (partsAt s)
     parts-are = rw (← e, ← f) parts-with
 

@@ -24,7 +24,7 @@ use Rattle.fields.specs.FieldLaws.{put-outside, number-same}
 use Rattle.head.specs.Head.{upTo, numbersAt, nameAt, namesAt, firstAt, secondAt, openingAt}
 use Rattle.head.specs.HeadLaws.{upTo-same}
 use Rattle.layout.specs.Columns.{columnAt, column-same}
-use Rattle.layout.specs.Store.{laneFrom, treeFrom, listFrom, textFrom, ranOver, mostSplits}
+use Rattle.layout.specs.Store.{laneFrom, treeFrom, listFrom, textFrom, ranOver, ranOverOpen, mostSplits}
 use Rattle.layout.specs.StoreLaws.{lane-from, tree-from}
 
 pub run-same : (s t : List ℕ) (a b n : ℕ) → a + n ≤ length s → b + n ≤ length t → ((i : ℕ) → i < n → getD s (a + i) 0 ≡ getD t (b + i) 0)
@@ -46,15 +46,18 @@ module _ (s t : List ℕ) (lo hi : ℕ) (same : Kept s t lo hi) where
   unfolding listFrom
   list-kept a p q = rw (number-kept 2 a p (omega arith)) (column-same 2 (a + 2) (number 2 s a) t s (λ i g h. same i (omega arith) (omega arith)))
 
-  pub text-kept : hi ≤ length s → length t ≡ length s → (a : ℕ) → lo ≤ a → number 2 s a ≤ ranOver → a + laneBytes ≤ hi → textFrom t a ≡ textFrom s a
+  pub text-kept : hi ≤ length s → length t ≡ length s → (a : ℕ) → lo ≤ a → number 2 s a ≤ ranOverOpen → a + laneBytes ≤ hi → textFrom t a ≡ textFrom s a
   unfolding textFrom
-  text-kept long size a p q r = rw (number-kept 2 a p (omega arith)) (go (eqb (number 2 s a) ranOver) refl)
+  text-kept long size a p q r = rw (number-kept 2 a p (omega arith)) (go (eqb (number 2 s a) ranOver) (eqb (number 2 s a) ranOverOpen) refl refl)
     where
-      go : (b : Bool) → eqb (number 2 s a) ranOver ≡ b
-          → (if b then overrun else holding (take (number 2 s a) (drop (a + 8) t))) ≡ (if b then overrun else holding (take (number 2 s a) (drop (a + 8) s)))
-      go true e = refl
-      go false e =
-          let f = eqb-false (number 2 s a) ranOver e in
+      go : (b c : Bool) → eqb (number 2 s a) ranOver ≡ b → eqb (number 2 s a) ranOverOpen ≡ c
+          → (if b then overrun false else if c then overrun true else holding (take (number 2 s a) (drop (a + 8) t)))
+          ≡ (if b then overrun false else if c then overrun true else holding (take (number 2 s a) (drop (a + 8) s)))
+      go true c e f = refl
+      go false true e f = refl
+      go false false e f =
+          let x = eqb-false (number 2 s a) ranOver e in
+          let y = eqb-false (number 2 s a) ranOverOpen f in
           ap holding (run-same t s (a + 8) (a + 8) (number 2 s a) (omega arith) (omega arith) (λ i h. same (a + 8 + i) (omega arith) (omega arith)))
 
   -- ---- all trees, of at most 62 splits each, and all lanes
@@ -71,7 +74,7 @@ module _ (s t : List ℕ) (lo hi : ℕ) (same : Kept s t lo hi) where
       pub lengths-kept : upTo (λ l. number 2 t (laneFrom l)) (n .lanes) ≡ upTo (λ l. number 2 s (laneFrom l)) (n .lanes)
       lengths-kept = let z = tree-from n 0 in upTo-same _ _ (n .lanes) (λ l h. let x = lane-from l in number-kept 2 (laneFrom l) (omega arith) (omega arith))
 
-      pub texts-kept : hi ≤ length s → length t ≡ length s → ((l : ℕ) → l < n .lanes → number 2 s (laneFrom l) ≤ ranOver)
+      pub texts-kept : hi ≤ length s → length t ≡ length s → ((l : ℕ) → l < n .lanes → number 2 s (laneFrom l) ≤ ranOverOpen)
           → upTo (λ l. textFrom t (laneFrom l)) (n .lanes) ≡ upTo (λ l. textFrom s (laneFrom l)) (n .lanes)
       texts-kept long size fits =
           let z = tree-from n 0 in

@@ -11,7 +11,7 @@ use lib.ListN.{length}
 use Rattle.trees.specs.Opening.{Opening}
 use Rattle.trees.specs.Hash.{place}
 use Rattle.head.specs.Head.{numbersAt, openingAt}
-use Rattle.layout.specs.Store.{Parts, partsAt, splitsIn, treesIn, countIn, lengthIn, ranOver}
+use Rattle.layout.specs.Store.{Parts, partsAt, splitsIn, treesIn, countIn, lengthIn, ranOverOpen}
 use Rattle.layout.specs.StoreLaws.{size-is, Shaped, shaped-at}
 use Rattle.layout.specs.WholeStore.{listedIn, wholeAt}
 use Rattle.layout.specs.WholeFacts.{HeadAt, SplitsIn, ListIn, ChainsIn, whole-at-facts, facts-whole-at}
@@ -22,7 +22,7 @@ pub record Sound (o : Opening) (p : Parts) : Type 0 where
   pub lists : (i : ℕ) → i < treesIn p → ListIn p i
   pub counts : (k : ℕ) → k < splitsIn p → countIn p k ≡ listedIn p k (treesIn p)
   pub chains : ChainsIn (place (o .first) (o .numbers .places)) (o .numbers .places) p
-  pub lanes : (l : ℕ) → l < o .numbers .lanes → lengthIn p l ≤ ranOver
+  pub lanes : (l : ℕ) → l < o .numbers .lanes → lengthIn p l ≤ ranOverOpen
 
 pub whole-sound : (s : List ℕ) → wholeAt s ≡ true → Sound (openingAt s) (partsAt s)
 unfolding openingAt

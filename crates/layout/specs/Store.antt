@@ -1,6 +1,7 @@
 -- Every byte of a store, and what it holds. docs/STORE.md says the same in words.
 --
---   ranOver, mostSplits            the length of a lane that ran over; the most splits of a tree
+--   ranOver, ranOverOpen           the lengths of a lane that ran over: no quotes are open, quotes are
+--   mostSplits                     the most splits of a tree
 --   laneFrom, treeFrom             where lane l and tree i begin, by the opening's numbers
 --   masksFrom, identifiersFrom, countsFrom, linksFrom, orderFrom, placesFrom     where the splits' columns and the places begin
 --   sizeAt s                       the store's size, by its numbers
@@ -13,6 +14,7 @@
 --   heldIn o p                     what a store with the opening o and the parts p holds
 --   treesHeldAt .. heldAt          the same of the bytes s
 use Prim.Native.Nat.{ℕ, _+_, _*_}
+use mathlib.Core.Bool.{true, false}
 use mathlib.Core.List.{List, [], map}
 use lib.Dec.{eqb}
 use lib.ListN.{length, getD, take, drop}
@@ -25,9 +27,12 @@ use Rattle.layout.specs.Columns.{columnAt}
 
 -- ---- limits
 
--- the length of a lane that ran over: one more than a text can have
+-- the lengths of a lane that ran over: more than a text can have
 abbrev pub ranOver : ℕ
-ranOver = 4097
+ranOver = 4609
+
+abbrev pub ranOverOpen : ℕ
+ranOverOpen = 4610
 
 -- the most splits of a tree over 64 taxa, which fit its bytes
 abbrev pub mostSplits : ℕ
@@ -35,7 +40,7 @@ mostSplits = 62
 
 -- ---- where things begin
 
--- 4,104 bytes a lane: its length in 2 bytes, 6 that are not used, 4,096 for the text
+-- 4,616 bytes a lane: its length in 2 bytes, 6 that are not used, 4,608 for the text
 unfoldable pub laneFrom : ℕ → ℕ
 laneFrom l = headBytes + laneBytes * l
 
@@ -96,9 +101,12 @@ pub record Parts : Type 0 where
 unfoldable pub listFrom : List ℕ → ℕ → List ℕ
 listFrom s a = columnAt 2 (a + 2) (number 2 s a) s
 
--- the lane that begins at a; a length of 4,097 says that it ran over
+-- the lane that begins at a; a length of 4,609 or 4,610 says that it ran over
 unfoldable pub textFrom : List ℕ → ℕ → Lane
-textFrom s a = if eqb (number 2 s a) ranOver then overrun else holding (take (number 2 s a) (drop (a + 8) s))
+textFrom s a =
+    if eqb (number 2 s a) ranOver then overrun false
+    else if eqb (number 2 s a) ranOverOpen then overrun true
+    else holding (take (number 2 s a) (drop (a + 8) s))
 
 -- the head has the numbers of trees and splits beside the opening's
 unfoldable pub partsAt : List ℕ → Parts

@@ -9,16 +9,13 @@
 use Prim.Native.Nat.{ℕ, _+_, _*_, _<_}
 use mathlib.Core.Path.{_≡_, refl, _∙_, sym}
 use mathlib.Core.List.{List, []}
-use lib.Dec.{eqb}
-use lib.ListN.{length, getD, take, drop}
-use Rattle.trees.specs.Plain.{if_then_else_}
+use lib.ListN.{length, getD}
 use Rattle.trees.specs.Opening.{Numbers, storeSize, laneBytes, headBytes, treeBytes}
-use Rattle.trees.specs.Held.{holding, overrun}
 use Rattle.fields.specs.Field.{number}
 use Rattle.head.specs.Head.{numbersAt}
 use Rattle.head.specs.HeadLaws.{upTo-length, upTo-at}
 use Rattle.layout.specs.Columns.{columnAt, column-length, column-at}
-use Rattle.layout.specs.Store.{laneFrom, treeFrom, masksFrom, identifiersFrom, countsFrom, linksFrom, orderFrom, placesFrom, sizeAt, Parts, listFrom, textFrom, partsAt, splitsIn, treesHeldAt, splitsHeldAt, maskAt, identifierAt, countAt, linkAt, startAt, orderAt, listAt, lengthAt, laneAt, ranOver}
+use Rattle.layout.specs.Store.{laneFrom, treeFrom, masksFrom, identifiersFrom, countsFrom, linksFrom, orderFrom, placesFrom, sizeAt, Parts, listFrom, textFrom, partsAt, splitsIn, treesHeldAt, splitsHeldAt, maskAt, identifierAt, countAt, linkAt, startAt, orderAt, listAt, lengthAt, laneAt}
 
 -- ---- where things begin
 
@@ -151,6 +148,6 @@ module _ (s : List ℕ) where
     unfolding partsAt
     length-is = upTo-at _ (numbersAt s .lanes) l 0 h
 
-    pub lane-is : laneAt s l ≡ (if eqb (number 2 s (laneFrom l)) ranOver then overrun else holding (take (number 2 s (laneFrom l)) (drop (laneFrom l + 8) s)))
-    unfolding partsAt textFrom
+    pub lane-is : laneAt s l ≡ textFrom s (laneFrom l)
+    unfolding partsAt
     lane-is = upTo-at _ (numbersAt s .lanes) l _ h

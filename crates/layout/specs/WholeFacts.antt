@@ -24,7 +24,7 @@ use Rattle.trees.specs.Whole.{rising, agreeInPairs, goodOpening}
 use Rattle.theorems.specs.ListLaws.{and-true, Mem, every-at, every-intro}
 use Rattle.theorems.specs.OpeningLaws.{both}
 use Rattle.head.specs.Head.{numbersAt, secondAt, openingAt}
-use Rattle.layout.specs.Store.{sizeAt, Parts, partsAt, splitsIn, treesIn, maskIn, masksIn, identifierIn, countIn, linkIn, startIn, orderIn, listIn, treeIn, treesHeldAt, splitsHeldAt, lengthAt, mostSplits, ranOver}
+use Rattle.layout.specs.Store.{sizeAt, Parts, partsAt, splitsIn, treesIn, maskIn, masksIn, identifierIn, countIn, linkIn, startIn, orderIn, listIn, treeIn, treesHeldAt, splitsHeldAt, lengthAt, mostSplits, ranOverOpen}
 use Rattle.layout.specs.AllLaws.{all-at, all-intro}
 use Rattle.layout.specs.WholeStore.{allBelow, orderGood, identifierGood, splitsGood, listGood, listedIn, countGood, highestIn, linkGood, startGood, chainsGood, laneGood, wholeIn, goodHead, wholeAt, placeIn, goodSplits, goodChains}
 
@@ -169,7 +169,7 @@ pub record WholeAt (s : List ℕ) : Type 0 where
   pub lists : (i : ℕ) → i < treesHeldAt s → ListAt s i
   pub counts : (k : ℕ) → k < splitsHeldAt s → CountAt s k
   pub chains : ChainsAt s
-  pub lanes : (l : ℕ) → l < numbersAt s .lanes → lengthAt s l ≤ ranOver
+  pub lanes : (l : ℕ) → l < numbersAt s .lanes → lengthAt s l ≤ ranOverOpen
 
 pub whole-at-facts : (s : List ℕ) → wholeAt s ≡ true → WholeAt s
 unfolding wholeAt wholeIn openingAt laneGood

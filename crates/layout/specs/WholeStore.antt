@@ -24,7 +24,7 @@ use Rattle.trees.specs.Consensus.{count}
 use Rattle.trees.specs.Hash.{place, identifier}
 use Rattle.trees.specs.Whole.{rising, agreeInPairs, goodOpening}
 use Rattle.head.specs.Head.{numbersAt, firstAt, secondAt, openingAt}
-use Rattle.layout.specs.Store.{sizeAt, Parts, partsAt, splitsIn, treesIn, maskIn, masksIn, identifierIn, countIn, linkIn, startIn, orderIn, listIn, treeIn, lengthIn, treesHeldAt, splitsHeldAt, mostSplits, ranOver}
+use Rattle.layout.specs.Store.{sizeAt, Parts, partsAt, splitsIn, treesIn, maskIn, masksIn, identifierIn, countIn, linkIn, startIn, orderIn, listIn, treeIn, lengthIn, treesHeldAt, splitsHeldAt, mostSplits, ranOverOpen}
 
 unfoldable pub allBelow : (ℕ → Bool) → ℕ → Bool
 allBelow p zero = true
@@ -90,9 +90,9 @@ chainsGood h places p = allBelow (linkGood h p) (splitsIn p) && allBelow (startG
 
 -- ---- lanes
 
--- 0 to 4,096, or 4,097 for a lane that ran over
+-- 0 to 4,608, or 4,609 or 4,610 for a lane that ran over
 unfoldable pub laneGood : Parts → ℕ → Bool
-laneGood p l = leb (lengthIn p l) ranOver
+laneGood p l = leb (lengthIn p l) ranOverOpen
 
 -- ---- all of it
 

@@ -16,16 +16,19 @@ use answers::Tree;
 pub const HEAD_BYTES: usize = 4096;
 
 // How many bytes a lane takes: 8, and a text.
-pub const LANE_BYTES: usize = 4104;
+pub const LANE_BYTES: usize = 4616;
 
 // How many bytes a tree takes.
 pub const TREE_BYTES: usize = 128;
 
 // How many bytes a text has at most.
-pub const MOST_TEXT: usize = 4096;
+pub const MOST_TEXT: usize = 4608;
 
-// The length that says of a lane that it ran over.
-pub const RAN_OVER: usize = 4097;
+// The length that says of a lane that it ran over, and no quotes are open.
+pub const RAN_OVER: usize = 4609;
+
+// The length that says of a lane that it ran over, and quotes are open.
+pub const RAN_OVER_OPEN: usize = 4610;
 
 // How many splits a tree has at most.
 pub const MOST_SPLITS: usize = 62;

@@ -2,7 +2,7 @@
 --
 --   joined-nil, joined-beside         nodes that are read in two runs
 --   spans-beside, labels-append       what is noted of nodes beside each other
---   read-leaf, read-bracket, read-deep, read-other     a node
+--   read-leaf, read-stray, read-bracket, read-deep, read-other     a node
 --   Sofar, sofar-none, sofar-more     the children that are read before the place where the loop stands
 --   children-fault, children-read     what the children and the bracket behind them come to
 --   shape-good, shape-fault           a whole text
@@ -18,13 +18,13 @@ use lib.Dec.{leb}
 use lib.ListN.{length, set, length-append}
 use lib.Seq.{slice, sets}
 use borrow.Author.Tests.{leb-true, leb-false}
-use Rattle.trees.specs.Text.{Symbol, openBracket, closeBracket, comma, colon, stray, token}
+use Rattle.trees.specs.Text.{Symbol, openBracket, closeBracket, comma, colon, stray, token, ended}
 use Rattle.trees.specs.Tree.{Nodes, nil, leaf, inner, beside, width, leaves}
 use Rattle.trees.specs.Reading.{Read, readLength, bracketed, joined, readComma, followed, readNode, readNodes, alone, reading}
 use Rattle.theorems.specs.TextLaws.{symbols-end}
 use Rattle.theorems.specs.FewLaws.{width-beside, leaves-beside}
-use Rattle.text.specs.Read.{kindAt, NoBlank, symbolsAt, Skipped, RunEnd, Behind, ClosingBehind}
-use Rattle.text.specs.PlaceLaws.{front, front-at, front-not, there, behind, kind-small, mark-at, token-at, end-stops}
+use Rattle.text.specs.Read.{kindAt, NoBlank, symbolsAt, Skipped, LabelEnd, Behind, ClosingBehind}
+use Rattle.text.specs.PlaceLaws.{front, front-not, there, behind, kind-small, mark-at, end-stops}
 use Rattle.newick.specs.Shape.{Labels, none, one, spans, Ready, NodeReads, ChildrenReads, Noted, NodeRead, ShapeRead}
 use Rattle.newick.specs.declared.shape.Mark.{Mark}
 
@@ -149,11 +149,11 @@ bracket-reads s (suc d) i a x v z h l q (suc f) g =
     ap (readNode (suc f) (suc d)) v ∙ subst (λ (n : ℕ). bracketed (readNodes f n (symbolsAt s (a + 1))) ≡ x) (sub-one (suc d)) (q f (omega arith))
 
 module _ (s : List ℕ) (d : ℕ) (c : Mark) (tokens nodes : List ℕ) where
-  pub read-leaf : (a e r : ℕ) (tokens′ : List ℕ) → Ready s c → Skipped s (c .at) a → kindAt s a ≡ 1 → RunEnd s (a + 1) e → tokens′ ≡ sets tokens (2 * c .leaves) (a ∷ e ∷ []) → Behind readLength s e r
+  pub read-leaf : (a e r : ℕ) (tokens′ : List ℕ) → Ready s c → Skipped s (c .at) a → LabelEnd s a e → e ≤ length s → a < e → tokens′ ≡ sets tokens (2 * c .leaves) (a ∷ e ∷ []) → Behind readLength s e r
       → NodeRead (NodeReads s d (c .at)) s c (record { at = r; leaves = c .leaves + 1; inner = c .inner }) tokens nodes tokens′ nodes
   unfolding width leaves spans readNode
-  read-leaf a e r tokens′ z p k w l b =
-      let v : symbolsAt s (c .at) ≡ token (slice a e s) ∷ symbolsAt s e = p .tokens ∙ token-at s a e k w in
+  read-leaf a e r tokens′ z p w m k l b =
+      let v : symbolsAt s (c .at) ≡ token (slice a e s) ∷ symbolsAt s e = p .tokens ∙ w .good k m .2 in
       record {
         good = λ h.
             let q = b .good h in (
@@ -161,7 +161,7 @@ module _ (s : List ℕ) (d : ℕ) (c : Mark) (tokens nodes : List ℕ) where
               record { reads = λ f g. first f g v ∙ q .0 (leaf (slice a e s) nil); one = refl; past = omega (arith, p .past, w .past, q .1); stop = q .2 },
               record {
                 ends = a ∷ e ∷ [];
-                labels = one {b = a} {e = e} (omega (arith, w .past)) (w .within) none;
+                labels = one {b = a} {e = e} (w .past) m none;
                 tokened = l;
                 spanned = refl;
                 leaved = refl;
@@ -181,8 +181,16 @@ module _ (s : List ℕ) (d : ℕ) (c : Mark) (tokens nodes : List ℕ) where
   fault-mark : (R : Read → Type 0) (r : Mark) (tokens′ nodes′ : List ℕ) → r .at ≡ length s + 1 → R nothing → NodeRead R s c r tokens nodes tokens′ nodes′
   fault-mark R r tokens′ nodes′ e p = record { good = λ h. absurd (omega arith); fault = λ h. p }
 
-  pub read-other : (a : ℕ) (r : Mark) → Skipped s (c .at) a → (kindAt s a ≡ 1 → ⊥) → (kindAt s a ≡ 2 → ⊥) → r .at ≡ length s + 1 → NodeRead (NodeReads s d (c .at)) s c r tokens nodes tokens nodes
-  read-other a r p h g e = fault-mark (NodeReads s d (c .at)) r tokens nodes e (λ f l. ap (readNode f d) (p .tokens) ∙ node-front f d (symbolsAt s a) (front-not s a 1 (p .stop) h) (front-not s a 2 (p .stop) g))
+  -- what is no label
+  pub read-stray : (a e : ℕ) (r : Mark) → Skipped s (c .at) a → LabelEnd s a e → length s < e → r .at ≡ length s + 1 → NodeRead (NodeReads s d (c .at)) s c r tokens nodes tokens nodes
+  read-stray a e r p w h z =
+      let g = w .fault h in
+      fault-mark (NodeReads s d (c .at)) r tokens nodes z (λ f l. ap (readNode f d) (p .tokens ∙ g .3) ∙ node-front f d (stray ∷ g .2) (λ n. omega arith) (λ n. omega arith))
+
+  pub read-other : (a e : ℕ) (r : Mark) → Skipped s (c .at) a → LabelEnd s a e → e ≤ a → (kindAt s a ≡ 2 → ⊥) → r .at ≡ length s + 1 → NodeRead (NodeReads s d (c .at)) s c r tokens nodes tokens nodes
+  read-other a e r p w h g z =
+      fault-mark (NodeReads s d (c .at)) r tokens nodes z
+      (λ f l. ap (readNode f d) (p .tokens) ∙ node-front f d (symbolsAt s a) (front-not s a 1 (λ n. omega arith) (p .stop) (w .absent (omega (arith, w .past)))) (front-not s a 2 (λ n. omega arith) (p .stop) g))
 
   pub read-deep : (a : ℕ) (r : Mark) → Skipped s (c .at) a → kindAt s a ≡ 2 → d ≡ 0 → r .at ≡ length s + 1 → NodeRead (NodeReads s d (c .at)) s c r tokens nodes tokens nodes
   read-deep a r p k z e = fault-mark (NodeReads s d (c .at)) r tokens nodes e (λ f l. subst (λ (n : ℕ). readNode f n (symbolsAt s (c .at)) ≡ nothing) (sym z) (ap (readNode f 0) (p .tokens ∙ mark-at s a openBracket (omega arith) k) ∙ no-depth f (symbolsAt s (a + 1))))
@@ -234,7 +242,7 @@ with-comma s d i j u x q h l v p (suc f) g = first-of s d i j u q f (omega arith
 
 with-none : (s : List ℕ) (d i j : ℕ) (u : Nodes) → NodeReads s d i (some (u, symbolsAt s j)) → NoBlank s j → (kindAt s j ≡ 4 → ⊥) → NodesReads s d i (some (u, symbolsAt s j))
 with-none s d i j u q b k zero g = absurd (omega arith)
-with-none s d i j u q b k (suc f) g = first-of s d i j u q f (omega arith) ∙ comma-front u (symbolsAt s j) (λ r. readNodes f d r) (front-not s j 4 b k)
+with-none s d i j u q b k (suc f) g = first-of s d i j u q f (omega arith) ∙ comma-front u (symbolsAt s j) (λ r. readNodes f d r) (front-not s j 4 (λ n. omega arith) b k)
 
 with-fault : (s : List ℕ) (d i : ℕ) → NodeReads s d i nothing → NodesReads s d i nothing
 unfolding readNodes followed
@@ -352,6 +360,7 @@ module _ (s : List ℕ) (d : ℕ) (c : Mark) (tokens nodes : List ℕ) where
 -- ---- a whole text
 
 symbols-none : (s : List ℕ) (i : ℕ) → length s ≤ i → symbolsAt s i ≡ []
+unfolding ended
 symbols-none s i h = symbols-end s i h []
 
 past-not : (s : List ℕ) (i : ℕ) → i < length s → kindAt s i ≡ 8 → ⊥
@@ -394,5 +403,5 @@ module _ (s : List ℕ) (tokens nodes tokens′ nodes′ : List ℕ) (r : Mark) 
       go true l =
           let i = leb-true (r .at) (length s) l in
           let g = p .good i in
-          whole-read s (some (g .0, symbolsAt s (r .at))) (g .1 .reads) ∙ alone-front (g .0) (symbolsAt s (r .at)) (λ x. past-not s (r .at) (omega arith) (sym (front-at s (r .at) (g .1 .stop)) ∙ x))
+          whole-read s (some (g .0, symbolsAt s (r .at))) (g .1 .reads) ∙ alone-front (g .0) (symbolsAt s (r .at)) (front-not s (r .at) 8 (λ n. omega arith) (g .1 .stop) (past-not s (r .at) (omega arith)))
       go false l = whole-read s nothing (p .fault (leb-false (r .at) (length s) l))

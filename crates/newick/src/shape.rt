@@ -60,8 +60,11 @@ pub(crate) fn read_node(
 {
     let from = c.at;
     let at = text::skip_blanks(text, from);
-    if text::has_label_byte(text, at) {
-        let e = text::token_end(text, at + 1);
+    let e = text::label_end(text, at);
+    if text.len() < e {
+        return fault(text);
+    }
+    if at < e {
         note(tokens, c.leaves, at, e);
         return Mark {
             at: text::past_length(text, e),

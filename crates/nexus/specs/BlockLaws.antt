@@ -33,12 +33,12 @@ use Rattle.nexus.specs.ReadsLaws.{reads-last, reads-moved}
 -- ---- another block
 
 module _ (f : List ℕ) (i e : ℕ) (c : CommandEnd f i e) where
-  other-ends : e < length f → endsOther (uncommented (part i e f)) ≡ true → (came : Bool)
+  other-ends : e < length f → endsOther (uncommented false (part i e f)) ≡ true → (came : Bool)
       → reads (inOther came) (commandsAt f i) ≡ reads (outside came) (commandsAt f (e + 1))
   unfolding moved readsOn
   other-ends l h came = reads-moved f i e c l (inOther came) (to (outside came)) (if-true _ _ h)
 
-  other-goes-on : e < length f → endsOther (uncommented (part i e f)) ≡ false → (came : Bool)
+  other-goes-on : e < length f → endsOther (uncommented false (part i e f)) ≡ false → (came : Bool)
       → reads (inOther came) (commandsAt f i) ≡ reads (inOther came) (commandsAt f (e + 1))
   unfolding moved readsOn
   other-goes-on l h came = reads-moved f i e c l (inOther came) (to (inOther came)) (if-false _ _ h)
@@ -57,7 +57,7 @@ pub beyond-none : (f : List ℕ) (i : ℕ) → i ≤ length f → Beyond f i i
 beyond-none f i h = record { past = omega arith; within = h; same = λ came. refl }
 
 module _ (f : List ℕ) (i k e : ℕ) (b : Beyond f i k) (c : CommandEnd f k e) where
-  pub beyond-more : (e ≡ length f → ⊥) → endsOther (uncommented (part k e f)) ≡ false → Beyond f i (e + 1)
+  pub beyond-more : (e ≡ length f → ⊥) → endsOther (uncommented false (part k e f)) ≡ false → Beyond f i (e + 1)
   beyond-more n h =
       let p = c .past in
       let q = c .within in
@@ -67,7 +67,7 @@ module _ (f : List ℕ) (i k e : ℕ) (b : Beyond f i k) (c : CommandEnd f k e) 
         same = λ came. b .same came ∙ other-goes-on f k e c (omega (arith, n)) h came;
       }
 
-  pub beyond-good : (e ≡ length f → ⊥) → endsOther (uncommented (part k e f)) ≡ true → OtherEnd f i (e + 1)
+  pub beyond-good : (e ≡ length f → ⊥) → endsOther (uncommented false (part k e f)) ≡ true → OtherEnd f i (e + 1)
   beyond-good n h =
       let p = c .past in
       let q = c .within in

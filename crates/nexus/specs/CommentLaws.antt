@@ -1,75 +1,84 @@
 -- Laws of comments and blanks, a turn of the code at a time. Assumes nothing.
 -- Bytes: 91 `[` and 93 `]` begin and end a comment, which reads as 32, a blank.
 --
---   Inside s i r          the bytes of s from i up to r lie inside one comment, whatever stands behind them
---   inside-none, inside-more     no byte, and one byte more
---   comment-ends, comment-open     the comment ends at its bracket, or never
+--   Others s x i r        none of the bytes of s from i up to r is x
+--   others-none, others-more     no byte, and one byte more
+--   next-here, next-none  the next byte x is found, or there is none
+--   comment-ended         the comment ends at the next bracket, or never
 --   blank-open, blank-comment, blank-here, blank-none     what stands at a place: a comment that never ends, a comment, a blank, another byte
 --   Blanks s i r          blanks and comments stand from i up to r
 --   blanks-none, blanks-more     none, and one more
 --   skipped-here, skipped-all     they end at a byte, or at the file's end
 use Prim.Native.Nat.{ℕ, _+_, _≤_, _<_}
 use native.Mathlib.Omega.{arith}
-use mathlib.Core.Path.{_≡_, refl, ap, _∙_}
-use mathlib.Core.Bool.{true, false}
-use mathlib.Core.List.{List, [], _∷_, _++_, append-assoc}
-use lib.ListN.{length, getD, drop}
-use borrow.Author.Tests.{eq-eqb, ne-eqb}
-use Rattle.trees.specs.Plain.{byte, member, bytes}
+use mathlib.Core.Path.{_≡_, refl, sym, ap, _∙_}
+use mathlib.Core.Bool.{Bool, true, false, not, true≢false}
+use mathlib.Core.List.{List, [], _∷_, _++_, append-assoc, append-nil}
+use lib.ListN.{length, getD, drop, drop-of-length-le}
+use borrow.Author.Tests.{ne-eqb}
+use Rattle.trees.specs.Plain.{every, byte, member, bytes}
 use Rattle.trees.specs.Text.{isBlank}
 use Rattle.trees.specs.Nexus.{behindRun, begins, uncommented, behindComment}
-use Rattle.theorems.specs.ListLaws.{if-true, if-false}
+use Rattle.theorems.specs.ListLaws.{and-left, and-right, and-true}
 use Rattle.theorems.specs.RunOfLaws.{behind-here, behind-over}
-use Rattle.nexus.specs.Places.{part, plainAt, CommentEnd, BlankEnd, Skipped}
-use Rattle.nexus.specs.PlaceLaws.{plain-none, plain-byte, plain-comment, comment-none}
+use Rattle.nexus.specs.Places.{part, plainAt, other, NextByte, CommentEnd, BlankEnd, Skipped}
 use Rattle.nexus.specs.PartLaws.{part-none, part-more, part-rest}
+use Rattle.nexus.specs.ByteLaws.{comment-closed, comment-open}
+use Rattle.nexus.specs.PlaceLaws.{plain-none, plain-front, plain-byte, plain-comment}
 
--- ---- one comment
+-- ---- the next byte
 
-pub record Inside (s : List ℕ) (i r : ℕ) : Type 0 where
+pub record Others (s : List ℕ) (x i r : ℕ) : Type 0 where
   pub past : i ≤ r
   pub within : r ≤ length s
-  pub same : (t : List ℕ) → behindComment (part i r s ++ t) ≡ behindComment t
+  pub each : every (other x) (part i r s) ≡ true
 
-pub inside-none : (s : List ℕ) (i : ℕ) → i ≤ length s → Inside s i i
-inside-none s i h = record { past = omega arith; within = h; same = λ t. ap (λ (l : List ℕ). behindComment (l ++ t)) (part-none s i i refl) }
+every-more : (p : ℕ → Bool) (a : List ℕ) (b : ℕ) → every p a ≡ true → p b ≡ true → every p (a ++ (b ∷ [])) ≡ true
+unfolding every
+every-more p [] b e f = and-true f refl
+every-more p (x ∷ a) b e f = and-true (and-left (p x) (every p a) e) (every-more p a b (and-right (p x) (every p a) e) f)
 
-module _ (s : List ℕ) (i r : ℕ) (d : Inside s i r) where
-  -- the byte at r, and then t
-  same-byte : r < length s → (t : List ℕ) → behindComment (part i (r + 1) s ++ t) ≡ behindComment (getD s r 0 ∷ t)
-  same-byte h t =
-      ap (λ (l : List ℕ). behindComment (l ++ t)) (part-more s i r (d .past) h)
-      ∙ ap behindComment (append-assoc (part i r s) (getD s r 0 ∷ []) t)
-      ∙ d .same (getD s r 0 ∷ t)
+pub others-none : (s : List ℕ) (x i : ℕ) → i ≤ length s → Others s x i i
+unfolding every
+others-none s x i h = record { past = omega arith; within = h; each = ap (every (other x)) (part-none s i i refl) }
 
-  pub inside-more : r < length s → (getD s r 0 ≡ 93 → ⊥) → Inside s i (r + 1)
-  unfolding behindComment
-  inside-more h n =
+module _ (s : List ℕ) (x i r : ℕ) (d : Others s x i r) where
+  pub others-more : r < length s → (getD s r 0 ≡ x → ⊥) → Others s x i (r + 1)
+  others-more h n =
       record {
         past = omega (arith, d .past);
         within = omega arith;
-        same = λ t. same-byte h t ∙ if-false _ _ (ne-eqb _ _ n);
+        each = rw (part-more s i r (d .past) h) (every-more (other x) (part i r s) (getD s r 0) (d .each) (ap not (ne-eqb _ _ n)));
       }
 
-  pub comment-ends : r < length s → getD s r 0 ≡ 93 → CommentEnd s i (r + 1)
-  unfolding behindComment
-  comment-ends h e =
+  pub next-here : r < length s → getD s r 0 ≡ x → NextByte s x i (r + 1)
+  next-here h e =
       record {
-        closed = λ g. (omega (arith, d .past), ap behindComment (part-rest s i (r + 1) (omega (arith, d .past))) ∙ alone (drop (r + 1) s));
-        unclosed = λ g. absurd (omega arith);
-        alone = λ g. alone;
+        found = λ _. (omega (arith, d .past), part i r s, part-more s i r (d .past) h ∙ ap (λ (b : ℕ). part i r s ++ (b ∷ [])) e, d .each);
+        lacking = λ g. absurd (omega arith);
       }
-    where
-      alone : (t : List ℕ) → behindComment (part i (r + 1) s ++ t) ≡ byte " " ∷ uncommented t
-      alone t = same-byte h t ∙ if-true _ _ (eq-eqb _ _ e)
 
-  pub comment-open : length s ≤ r → CommentEnd s i (length s + 1)
-  comment-open h =
+  pub next-none : length s ≤ r → NextByte s x i (length s + 1)
+  next-none h =
       record {
-        closed = λ g. absurd (omega arith);
-        unclosed = λ g. (refl, ap behindComment (part-rest s i r (d .past)) ∙ d .same (drop r s) ∙ comment-none s r h);
-        alone = λ g. absurd (omega arith);
+        found = λ g. absurd (omega arith);
+        lacking = λ _. (refl, ap (every (other x)) (part-rest s i r (d .past) ∙ ap (λ (l : List ℕ). part i r s ++ l) (drop-of-length-le s h) ∙ append-nil (part i r s)) ∙ d .each);
       }
+
+-- ---- one comment
+
+pub comment-ended : (s : List ℕ) (i r : ℕ) → NextByte s 93 i r → CommentEnd s i r
+comment-ended s i r n =
+    record {
+      closed = λ g. (n .found g .0, ap behindComment (part-rest s i r (omega (arith, n .found g .0))) ∙ alone g (drop r s));
+      unclosed = λ g. (n .lacking g .0, comment-open (drop i s) (n .lacking g .1));
+      alone = alone;
+    }
+  where
+    alone : r ≤ length s → (t : List ℕ) → behindComment (part i r s ++ t) ≡ byte " " ∷ uncommented false t
+    alone g t =
+        let f = n .found g in
+        ap (λ (l : List ℕ). behindComment (l ++ t)) (f .2) ∙ ap behindComment (append-assoc (f .1) (93 ∷ []) t) ∙ comment-closed (f .1) t (f .3)
 
 -- ---- one blank
 
@@ -93,10 +102,12 @@ module _ (s : List ℕ) (i : ℕ) (h : i < length s) where
       }
 
   pub blank-here : (getD s i 0 ≡ 91 → ⊥) → isBlank (getD s i 0) ≡ true → BlankEnd s i (i + 1)
+  unfolding isBlank
   blank-here n b =
+      let m : getD s i 0 ≡ 39 → ⊥ = λ e. true≢false (sym b ∙ ap isBlank e) in
       record {
         within = omega arith;
-        past = λ _. (omega arith, ap (behindRun isBlank) (plain-byte s i h n) ∙ behind-here isBlank _ _ b);
+        past = λ _. (omega arith, ap (behindRun isBlank) (plain-byte s i h n m) ∙ behind-here isBlank _ _ b);
         stop = λ q. absurd (omega arith);
       }
 
@@ -106,7 +117,7 @@ module _ (s : List ℕ) (i : ℕ) (h : i < length s) where
       record {
         within = omega arith;
         past = λ m. absurd (m refl);
-        stop = λ _. ap (begins isBlank) (plain-byte s i h n) ∙ b;
+        stop = λ _. ap (begins isBlank) (plain-front s i h n .1) ∙ b;
       }
 
 -- ---- blanks

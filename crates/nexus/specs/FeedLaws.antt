@@ -1,6 +1,6 @@
 -- The trees of a file, fed one after another. Assumes nothing.
 --
---   lane-is            a plain text handed whole to an empty lane
+--   verdict-is         the verdict on a plain text handed whole to an empty lane
 --   judges-hands       the text that stands at the front of a buffer
 --   small-finished     the number of a tree that is accepted is at most 1,024
 --   refusal-only, none-last     a refusal's number, and that of the last verdict where none accepts
@@ -15,13 +15,12 @@ use mathlib.Core.Logic.{_⊎_, inl, inr}
 use mathlib.Core.Bool.{true, false}
 use mathlib.Core.List.{List, [], _∷_, _++_, map, append-assoc, append-nil}
 use mathlib.Core.Option.{some}
-use lib.Dec.{ltb}
 use lib.ListN.{length, getD, set, take, drop, length-set, take-append-drop}
 use lib.Seq.{length-take-le, drop-drop, take-suc-set, drop-set-lt}
 use borrow.Author.Tests.{lt-ltb, le-ltb, ltb-true}
-use Rattle.trees.specs.Plain.{if_then_else_, every, Answer, refused, gives}
+use Rattle.trees.specs.Plain.{every, Answer, refused, gives}
 use Rattle.trees.specs.Opening.{Opening, storeSize}
-use Rattle.trees.specs.Held.{Held, holding, overrun, mostText, longer, verdict, finished, recording}
+use Rattle.trees.specs.Held.{Held, holding, mostText, longer, verdict, finished, recording}
 use Rattle.trees.specs.Batch.{verdictNumber, isRefusal, noneAccepted, withVerdict}
 use Rattle.trees.specs.Nexus.{uncommented, Pair}
 use Rattle.trees.specs.NexusReading.{inTrees, reads}
@@ -49,21 +48,24 @@ use Rattle.nexus.specs.LineTextLaws.{only, textsOf}
 
 -- ---- the verdict on a plain text
 
-lane-is : (t : List ℕ) (n : ℕ) (p : List ℕ) → TextAs t n p → laneWith n p ≡ longer (holding []) t
-unfolding longer
-lane-is t n p x = go (less-or-not mostText (length t))
+-- one that is too long is refused, quotes open or not
+verdict-is : (s t : List ℕ) (n : ℕ) (p : List ℕ) → TextAs t n p → verdict (heldAt s) (laneWith n p) ≡ onText (heldAt s) t
+unfolding onText verdict longer
+verdict-is s t n p x = go (less-or-not mostText (length t))
   where
-    go : (mostText < length t) ⊎ (length t ≤ mostText) → laneWith n p ≡ (if ltb mostText (length t) then overrun else holding t)
-    go (inl h) = if-true _ _ (lt-ltb mostText n (omega (arith, x .over h))) ∙ sym (if-true _ _ (lt-ltb mostText (length t) h))
+    go : (mostText < length t) ⊎ (length t ≤ mostText) → verdict (heldAt s) (laneWith n p) ≡ verdict (heldAt s) (longer (holding []) t)
+    go (inl h) =
+        ap (verdict (heldAt s)) (if-true _ _ (lt-ltb mostText n (omega (arith, x .over h))))
+        ∙ sym (ap (verdict (heldAt s)) (if-true _ _ (lt-ltb mostText (length t) h)))
     go (inr h) =
-        if-false _ _ (le-ltb mostText n (omega (arith, x .fits h .0))) ∙ ap holding (x .fits h .1)
-        ∙ sym (if-false _ _ (le-ltb mostText (length t) h))
+        ap (verdict (heldAt s))
+        (if-false _ _ (le-ltb mostText n (omega (arith, x .fits h .0))) ∙ ap holding (x .fits h .1)
+        ∙ sym (if-false _ _ (le-ltb mostText (length t) h)))
 
 -- the text that stands at the front of the buffer
 pub judges-hands : (s x : List ℕ) (n : ℕ) (p : List ℕ) (r : Progress) (t : List ℕ) → TextAs x n p → Judges s p n r t → Hands s x r t
-unfolding onText
 judges-hands s x n p r t h j =
-    let e : verdict (heldAt s) (laneWith n p) ≡ onText (heldAt s) x = ap (verdict (heldAt s)) (lane-is x n p h) in
+    let e = verdict-is s x n p h in
     record {
       answer = j .answer ∙ ap (finished (heldAt s)) e;
       holds = subst (λ (v : Answer (List ℕ)). Holds (recording (heldAt s) v) s t) e (j .holds);
@@ -149,14 +151,14 @@ module _ (ps : List Pair) (f : List ℕ) (from n : ℕ) (s v t w : List ℕ) (at
     next-read = g .read ∙ ap (λ (us : List (List ℕ)). some (only us)) (some-text .2)
 
     module _ (k : Token) (l : LineAt f at k) (room : n ≤ length v) (r : Progress) (u : List ℕ)
-        (j : Hands t (replaced ps (uncommented (part (k .from) (k .end) f))) r u) (y : ℕ) (e : y ≡ verdictNumber (progressGiven r)) where
-      line-is : uncommented (part (k .from) (k .end) f) ≡ next
+        (j : Hands t (replaced ps (uncommented false (part (k .from) (k .end) f))) r u) (y : ℕ) (e : y ≡ verdictNumber (progressGiven r)) where
+      line-is : uncommented false (part (k .from) (k .end) f) ≡ next
       line-is = l .gives next later-ones next-read .1
 
       verdict-there : Answer (List ℕ)
       verdict-there = onText (heldAt t) (replaced ps next)
 
-      judged-there : onText (heldAt t) (replaced ps (uncommented (part (k .from) (k .end) f))) ≡ verdict-there
+      judged-there : onText (heldAt t) (replaced ps (uncommented false (part (k .from) (k .end) f))) ≡ verdict-there
       unfolding verdict-there
       judged-there = ap (λ (b : List ℕ). onText (heldAt t) (replaced ps b)) line-is
 
@@ -175,7 +177,7 @@ module _ (ps : List Pair) (f : List ℕ) (from n : ℕ) (s v t w : List ℕ) (at
 
       behind-on : (q : ℕ) → sizeAt s ≤ q → getD u q 0 ≡ getD s q 0
       behind-on q b =
-          let z : storeSize (recording (heldAt t) (onText (heldAt t) (replaced ps (uncommented (part (k .from) (k .end) f)))) .opening .numbers) ≡ sizeAt s =
+          let z : storeSize (recording (heldAt t) (onText (heldAt t) (replaced ps (uncommented false (part (k .from) (k .end) f)))) .opening .numbers) ≡ sizeAt s =
           ap (λ (o : Opening). storeSize (o .numbers)) (recording-opening (heldAt t) _ ∙ g .opening) ∙ size-held s in
           j .holds .behind q (omega arith) ∙ g .behind q b
 

@@ -11,8 +11,8 @@ use mathlib.Core.List.{List, [], _∷_, _++_, map, append-nil}
 use mathlib.Core.Option.{none, some}
 use lib.ListN.{length}
 use Rattle.trees.specs.Plain.{sameBytes, bytes}
-use Rattle.trees.specs.Text.{semicolon}
-use Rattle.trees.specs.Nexus.{uncommented, parts, capital, isWord, Pair, File}
+use Rattle.trees.specs.Text.{semicolon, parts}
+use Rattle.trees.specs.Nexus.{uncommented, capital, isWord, Pair, File}
 use Rattle.trees.specs.NexusReading.{firstToken, outside, inTrees, withPairs, closes, reads, readFile}
 use Rattle.theorems.specs.ListLaws.{if-true, if-false}
 use Rattle.nexus.specs.declared.blocks.Next.the-variants.{Trees, Last, Wrong}
@@ -79,7 +79,7 @@ module _ (f : List ℕ) (t : Token) (w : TokenAt f 0 t) where
   abbrev isNexus : Bool
   isNexus = sameBytes (map capital (part (t .from) (t .end) f)) (35 ∷ 78 ∷ 69 ∷ 88 ∷ 85 ∷ 83 ∷ [])
 
-  file-begins : isWord "#NEXUS" (firstToken (uncommented f)) ≡ isNexus
+  file-begins : isWord "#NEXUS" (firstToken (uncommented false f)) ≡ isNexus
   unfolding isWord bytes
   file-begins = ap (λ (x : List ℕ). sameBytes (map capital x) (35 ∷ 78 ∷ 69 ∷ 88 ∷ 85 ∷ 83 ∷ [])) (w .token)
 
@@ -89,7 +89,7 @@ module _ (f : List ℕ) (t : Token) (w : TokenAt f 0 t) where
 
   file-reads : isNexus ≡ true → readFile f ≡ reads (outside false) (commandsAt f (t .end))
   unfolding readFile
-  file-reads e = if-true _ _ (file-begins ∙ e) ∙ ap (λ (x : List ℕ). reads (outside false) (parts semicolon x)) (w .behind)
+  file-reads e = if-true _ _ (file-begins ∙ e) ∙ ap (λ (x : List ℕ). reads (outside false) (parts semicolon false x)) (w .behind)
 
   module _ (e : isNexus ≡ true) where
     pub file-wrong : NextAs f (t .end) Wrong → readFile f ≡ none

@@ -18,7 +18,7 @@ use mathlib.Core.Option.{none, some}
 use lib.ListN.{length, getD, drop, drop-of-length-le}
 use lib.Seq.{slice, drop-cons}
 use Rattle.trees.specs.Plain.{if_then_else_, sameBytes, inNames}
-use Rattle.trees.specs.Names.{taxonFrom, taxonOf, different}
+use Rattle.trees.specs.Names.{taxonFrom, different}
 use Rattle.trees.specs.Nexus.{Pair}
 use Rattle.trees.specs.NexusCall.{keysOf, nameOf}
 use Rattle.head.specs.Head.{fromTo, upTo}
@@ -158,10 +158,9 @@ module _ (s ps : List ℕ) (w : List ℕ) where
 
   module _ (n r : ℕ) (p : FoundAs (keysOf (pairsIn s n ps)) w r) where
     pub name-stays : r ≡ 0 → nameOf (pairsIn s n ps) w ≡ w
-    unfolding taxonOf
     name-stays z = name-none (pairsIn s n ps) 0 w (p .none z)
 
     pub name-found : (b e : ℕ) → (r ≡ 0 → ⊥) → b ≡ getD ps (4 * (r - 1) + 2) 0 → e ≡ getD ps (4 * (r - 1) + 3) 0
         → nameOf (pairsIn s n ps) w ≡ part b e s
-    unfolding taxonOf pairsIn
+    unfolding pairsIn
     name-found b e z f g = name-from 0 n (r - 1) (p .some (omega (arith, z))) ∙ rw (← f, ← g)

@@ -7,12 +7,12 @@ use mathlib.Core.Path.{_≡_}
 use mathlib.Core.List.{List}
 use mathlib.Core.Option.{none, some}
 use lib.ListN.{getD}
-use Rattle.trees.specs.Names.{taxonOf}
+use Rattle.trees.specs.Names.{taxonFrom}
 use Rattle.nexus.specs.Places.{part}
 
 abbrev pub keyIn : List ℕ → List ℕ → ℕ → List ℕ
 keyIn s ps i = part (getD ps (4 * i) 0) (getD ps (4 * i + 1) 0) s
 
 pub record FoundAs (ks : List (List ℕ)) (w : List ℕ) (r : ℕ) : Type 0 where
-  pub none : r ≡ 0 → taxonOf ks w ≡ none
-  pub some : 0 < r → taxonOf ks w ≡ some (r - 1)
+  pub none : r ≡ 0 → taxonFrom 0 ks w ≡ none
+  pub some : 0 < r → taxonFrom 0 ks w ≡ some (r - 1)

@@ -1,6 +1,7 @@
 -- What the call promises, what places in a file stand for, and their laws.
 pub mod Places
 pub mod PartLaws
+pub mod ByteLaws
 pub mod PlaceLaws
 pub mod CommentLaws
 pub mod PlainLaws
@@ -21,6 +22,7 @@ pub mod CountLaws
 pub mod FileLaws
 pub mod Keys
 pub mod KeyLaws
+pub mod LabelLaws
 pub mod Texts
 pub mod TextLaws
 pub mod CopyLaws

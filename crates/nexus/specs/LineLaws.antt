@@ -38,11 +38,11 @@ abbrev isKey : List ℕ → Token → List ℕ → Bool
 isKey c t k = sameBytes (map capital (part (t .from) (t .end) c)) k
 
 module _ (c : List ℕ) (t : Token) (u : TokenAt c 0 t) where
-  pub end-not : isKey c t (bytes "END") ≡ false → isEnd (uncommented c) ≡ false
+  pub end-not : isKey c t (bytes "END") ≡ false → isEnd (uncommented false c) ≡ false
   unfolding isEnd isWord
   end-not e = rw (u .token, e)
 
-  pub end-is : (r : ℕ) → isKey c t (bytes "END") ≡ true → Skipped c (t .end) r → isEnd (uncommented c) ≡ eqb r (length c)
+  pub end-is : (r : ℕ) → isKey c t (bytes "END") ≡ true → Skipped c (t .end) r → isEnd (uncommented false c) ≡ eqb r (length c)
   unfolding isEnd isWord
   end-is r e k = rw (u .token, e, u .behind) (blanks-only c (t .end) r k)
 
@@ -60,14 +60,14 @@ areTwo s = leb 1 (length (firstToken s)) && (leb 1 (length (firstToken (behindFi
 module _ (c : List ℕ) (t : Token) (u : TokenAt c 0 t) where
   pub not-begin : isKey c t (bytes "BEGIN") ≡ false → BegunAs c Wrong
   unfolding twoTokens blockBegun isWord
-  not-begin e came = go (areTwo (uncommented c))
+  not-begin e came = go (areTwo (uncommented false c))
     where
-      go : (b : Bool) → blockBegun came (if b then some (firstToken (uncommented c), firstToken (behindFirst (uncommented c))) else none) ≡ wrong
+      go : (b : Bool) → blockBegun came (if b then some (firstToken (uncommented false c), firstToken (behindFirst (uncommented false c))) else none) ≡ wrong
       go true = rw (u .token, e)
       go false = refl
 
   module _ (x : Token) (v : TokenAt c (t .end) x) (b : isKey c t (bytes "BEGIN") ≡ true) where
-    two : twoTokens (uncommented c)
+    two : twoTokens (uncommented false c)
         ≡ (if leb 1 (length (part (x .from) (x .end) c)) && every isBlank (plainAt c (x .end)) then some (part (t .from) (t .end) c, part (x .from) (x .end) c) else none)
     unfolding twoTokens bytes
     two = rw (u .behind, v .token, v .behind, u .token, key-there (part (t .from) (t .end) c) _ _ b)
@@ -79,7 +79,7 @@ module _ (c : List ℕ) (t : Token) (u : TokenAt c 0 t) where
         ap (blockBegun came) two ∙ rw l
 
     module _ (n : x .from ≡ x .end → ⊥) (r : ℕ) (k : Skipped c (x .end) r) where
-      named : twoTokens (uncommented c) ≡ (if eqb r (length c) then some (part (t .from) (t .end) c, part (x .from) (x .end) c) else none)
+      named : twoTokens (uncommented false c) ≡ (if eqb r (length c) then some (part (t .from) (t .end) c, part (x .from) (x .end) c) else none)
       named =
           let l = part-length c (x .from) (x .end) (v .order) (v .within) in
           let o = v .order in
@@ -89,7 +89,7 @@ module _ (c : List ℕ) (t : Token) (u : TokenAt c 0 t) where
       unfolding blockBegun
       more-behind h came = ap (blockBegun came) named ∙ rw (ne-eqb r (length c) (λ e. omega arith))
 
-      alone : length c ≤ r → twoTokens (uncommented c) ≡ some (part (t .from) (t .end) c, part (x .from) (x .end) c)
+      alone : length c ≤ r → twoTokens (uncommented false c) ≡ some (part (t .from) (t .end) c, part (x .from) (x .end) c)
       alone h = let w = k .within in named ∙ if-true _ _ (eq-eqb r (length c) (omega arith))
 
       pub trees-begun : length c ≤ r → isKey c x (bytes "TREES") ≡ true → BegunAs c Trees
@@ -118,7 +118,7 @@ text-lacks : (c : List ℕ) (i : ℕ) → hasByte c i 61 ≡ false → textBehin
 unfolding textBehind
 text-lacks c i e =
     ⊎-elim
-    (λ h. plain-as (λ l. textBehind l ≡ none) c i h refl (λ t. refl) (if-false _ _ (sym (has-at c i 61 h) ∙ e)))
+    (λ h. plain-as (λ l. textBehind l ≡ none) c i h refl (λ t. refl) (λ t. if-false _ _ (sym (has-at c i 61 h) ∙ e)))
     (λ h. ap textBehind (plain-none c i h))
     (less-or-not i (length c))
 
@@ -127,9 +127,9 @@ unfolding textBehind
 text-there c i e =
     let h = has-there c i 61 e in
     let q : getD c i 0 ≡ 61 = eqb-true (getD c i 0) 61 (sym (has-at c i 61 h) ∙ e) in
-    ap textBehind (plain-byte c i h (λ b. omega arith)) ∙ if-true _ _ (eq-eqb _ 61 q)
+    ap textBehind (plain-byte c i h (λ b. omega arith) (λ b. omega arith)) ∙ if-true _ _ (eq-eqb _ 61 q)
 
-line-none : (c : List ℕ) → readLine (uncommented c) ≡ none → LineAs c (length c + 1)
+line-none : (c : List ℕ) → readLine (uncommented false c) ≡ none → LineAs c (length c + 1)
 line-none c e = record { good = λ h. absurd (omega arith); fault = λ h. e }
 
 module _ (c : List ℕ) (t : Token) (u : TokenAt c 0 t) where
@@ -138,7 +138,7 @@ module _ (c : List ℕ) (t : Token) (u : TokenAt c 0 t) where
   not-tree e = line-none c (rw (u .token, e))
 
   module _ (k : isKey c t (bytes "TREE") ≡ true) (i e : ℕ) (v : Skipped c (t .end) i) (w : NameEnd c i e) where
-    line-named : readLine (uncommented c) ≡ nameAndText (plainAt c i)
+    line-named : readLine (uncommented false c) ≡ nameAndText (plainAt c i)
     unfolding readLine isWord
     line-named = rw (u .token, k, u .behind, v .plain)
 
@@ -147,7 +147,7 @@ module _ (c : List ℕ) (t : Token) (u : TokenAt c 0 t) where
     name-lacks q = line-none c (line-named ∙ rw (w .begun, le-ltb i e (omega arith)))
 
     module _ (n : e ≡ i → ⊥) (q : ℕ) (x : Skipped c e q) where
-      line-behind : readLine (uncommented c) ≡ textBehind (plainAt c q)
+      line-behind : readLine (uncommented false c) ≡ textBehind (plainAt c q)
       unfolding nameAndText
       line-behind = let l = w .past in line-named ∙ rw (w .begun, lt-ltb i e (omega arith), w .behind, x .plain)
 
@@ -160,11 +160,11 @@ module _ (c : List ℕ) (t : Token) (u : TokenAt c 0 t) where
 -- ---- a command of the TREES block
 
 module _ (c : List ℕ) where
-  pub ends-trees : isEnd (uncommented c) ≡ true → LineMoves c End
+  pub ends-trees : isEnd (uncommented false c) ≡ true → LineMoves c End
   unfolding moved
   ends-trees e = record { moves = if-true _ _ e; within = λ i q. let z : _≡_ {A = ℕ} 0 1 = cc in absurd (omega arith) }
 
-  module _ (r : ℕ) (e : isEnd (uncommented c) ≡ false) (l : LineAs c r) where
+  module _ (r : ℕ) (e : isEnd (uncommented false c) ≡ false) (l : LineAs c r) where
     pub line-wrong : length c < r → LineMoves c line.Wrong
     unfolding moved lineGiven
     line-wrong h = record { moves = rw (e, l .fault h); within = λ i q. let z : _≡_ {A = ℕ} 0 1 = cc in absurd (omega arith) }

@@ -120,7 +120,7 @@ module _ (f : List ℕ) (i e : ℕ) (c : CommandEnd f i e) where
     gives = λ t ts h.
         let d = inside (only (t ∷ ts)) h in
         let q = with-text (plainAt (part i e f) j) t ts _ (sym (reads-moved f i e c d (inTrees false) (brings (plainAt (part i e f) j)) (l .moves)) ∙ h) in
-        (d, ap uncommented (sym (part-of f i e j b (c .within))) ∙ q .0, q .1);
+        (d, ap (uncommented false) (sym (part-of f i e j b (c .within))) ∙ q .0, q .1);
   }
 
   abbrev nowhere : Token

@@ -1,7 +1,8 @@
--- Laws of runs of plain bytes, which neither end a command nor begin a comment, a turn of the code at a time. Assumes nothing.
+-- Laws of runs of plain bytes, which neither end a command nor begin a comment or a run in quotes, a turn of the code at a time.
+-- Assumes nothing.
 --
 --   plain-dropped, plain-kept     a byte compared: it is one that is not plain, or not that one
---   all-turn, all-done     whether every byte of a block is plain, so far and in the rest
+--   soFar, all-turn, all-done     whether every byte of a block is plain, so far and in the rest
 --   run-none, run-more, run-block     a run: none, one byte more, a block more
 --   run-ends              where a run ends
 --   run-every             every byte of a run is plain
@@ -19,7 +20,7 @@ use borrow.Author.Tests.{eq-eqb, ne-eqb}
 use Rattle.trees.specs.Plain.{every}
 use Rattle.theorems.specs.ListLaws.{less-or-not, and-true}
 use Rattle.theorems.specs.OpeningLaws.{every-getD}
-use Rattle.nexus.specs.Places.{part, plain, PlainRun, PlainEnd}
+use Rattle.nexus.specs.Places.{part, other, plain, PlainRun, PlainEnd}
 
 -- ---- a block
 
@@ -39,31 +40,40 @@ module _ (t u : Bool) (b x : ℕ) where
       and-yes true = refl
       and-yes false = refl
 
+-- whether no byte so far is a semicolon, a bracket, an apostrophe, and none in the rest
+abbrev pub soFar : Bool → Bool → Bool → List ℕ → ℕ → Bool
+soFar t v w p i = (t && (v && w)) && every plain (drop i p)
+
 module _ (p : List ℕ) (i : ℕ) where
-  -- t and v say whether no byte so far is a semicolon or a bracket, and u and w whether the byte at i is none, too
-  pub all-turn : (t v u w : Bool) → ((t && v) && every plain (drop i p)) ≡ every plain p → i < length p
-      → u ≡ (t && not (eqb (getD p i 0) 59))
-      → w ≡ (v && not (eqb (getD p i 0) 91))
-      → ((u && w) && every plain (drop (i + 1) p)) ≡ every plain p
+  -- t, v and w say whether no byte so far is a semicolon, a bracket, an apostrophe; x, y and z whether the byte at i is none, too
+  pub all-turn : (t v w x y z : Bool) → soFar t v w p i ≡ every plain p → i < length p
+      → x ≡ (t && other 59 (getD p i 0))
+      → y ≡ (v && other 91 (getD p i 0))
+      → z ≡ (w && other 39 (getD p i 0))
+      → soFar x y z p (i + 1) ≡ every plain p
   unfolding every
-  all-turn t v u w f h q r =
+  all-turn t v w x y z f h a b c =
       let d : drop i p ≡ getD p i 0 ∷ drop (i + 1) p = rw (add-one i) (drop-cons p i 0 h) in
-      rw (q, r)
-      (regroup t v (not (eqb (getD p i 0) 59)) (not (eqb (getD p i 0) 91)) (every plain (drop (i + 1) p))
-      ∙ sym (ap (λ (l : List ℕ). (t && v) && every plain l) d)
+      rw (a, b, c)
+      (regroup t v w (other 59 (getD p i 0)) (other 91 (getD p i 0)) (other 39 (getD p i 0)) (every plain (drop (i + 1) p))
+      ∙ sym (ap (λ (l : List ℕ). (t && (v && w)) && every plain l) d)
       ∙ f)
     where
-      regroup : (a b c d e : Bool) → (((a && c) && (b && d)) && e) ≡ ((a && b) && ((c && d) && e))
-      regroup true true c d e = refl
-      regroup true false true d e = refl
-      regroup true false false d e = refl
-      regroup false b c d e = refl
+      regroup : (a b c d e f g : Bool) → (((a && d) && ((b && e) && (c && f))) && g) ≡ ((a && (b && c)) && ((d && (e && f)) && g))
+      regroup true true true d e f g = refl
+      regroup true true false true true f g = refl
+      regroup true true false true false f g = refl
+      regroup true true false false e f g = refl
+      regroup true false c true e f g = refl
+      regroup true false c false e f g = refl
+      regroup false b c d e f g = refl
 
-  pub all-done : (t v : Bool) → ((t && v) && every plain (drop i p)) ≡ every plain p → length p ≤ i → (t && v) ≡ every plain p
+  pub all-done : (t v w : Bool) → soFar t v w p i ≡ every plain p → length p ≤ i → (t && (v && w)) ≡ every plain p
   unfolding every
-  all-done true true f h = rw (drop-of-length-le p h) at f
-  all-done true false f h = f
-  all-done false v f h = f
+  all-done true true true f h = rw (drop-of-length-le p h) at f
+  all-done true true false f h = f
+  all-done true false w f h = f
+  all-done false v w f h = f
 
 -- ---- a run
 

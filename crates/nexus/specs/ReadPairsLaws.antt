@@ -9,16 +9,18 @@
 use Prim.Native.Nat.{ℕ, _+_, _*_, _≤_, _<_}
 use native.Mathlib.Omega.{arith}
 use mathlib.Core.Path.{_≡_, refl, sym, ap, _∙_}
+use mathlib.Core.Bool.{false}
 use mathlib.Core.List.{List, [], _∷_, _++_, append-nil}
 use mathlib.Core.Option.{Option, none, some}
 use lib.ListN.{length, getD, length-append}
 use borrow.Author.Tests.{lt-leb}
-use Rattle.trees.specs.Nexus.{parts, Pair, mostKeys}
+use Rattle.trees.specs.Text.{parts}
+use Rattle.trees.specs.Nexus.{Pair, mostKeys}
 use Rattle.trees.specs.NexusReading.{withPair, readPairs, wrong, listed}
 use Rattle.theorems.specs.ListLaws.{if-false}
 use Rattle.nexus.specs.declared.tokens.Token.{Token}
 use Rattle.nexus.specs.Places.{plainAt, Skipped, TokenAt}
-use Rattle.nexus.specs.Commands.{pairsIn, Placed, placedPair, PairsAs}
+use Rattle.nexus.specs.Commands.{pairsIn, Placed, LabelAt, placedPair, PairsAs}
 use Rattle.nexus.specs.PairLaws.{pairOf, pairs-step, list-last, list-more}
 use Rattle.nexus.specs.PlacedLaws.{pairs-length, pairs-more, placed-more, placed-none}
 
@@ -57,14 +59,14 @@ too-many ps (some p) (some qs) h =
 pub record ReadTo (c : List ℕ) (i at n : ℕ) (ps : List ℕ) : Type 0 where
   pub here : at ≤ length c
   pub placed : Placed c n ps
-  pub rest : readPairs (parts 44 (plainAt c i)) ≡ prepended (pairsIn c n ps) (readPairs (parts 44 (plainAt c at)))
+  pub rest : readPairs (parts 44 false (plainAt c i)) ≡ prepended (pairsIn c n ps) (readPairs (parts 44 false (plainAt c at)))
 
 pub read-none : (c : List ℕ) (i : ℕ) (ps : List ℕ) → i ≤ length c → ReadTo c i i 0 ps
 unfolding pairsIn prepended
 read-none c i ps h = record { here = h; placed = placed-none c ps; rest = refl }
 
 module _ (c : List ℕ) (i at n : ℕ) (ps : List ℕ) (r : ReadTo c i at n ps) where
-  pub read-fault : (qs : List ℕ) → readPairs (parts 44 (plainAt c at)) ≡ none → PairsAs c i 0 qs
+  pub read-fault : (qs : List ℕ) → readPairs (parts 44 false (plainAt c at)) ≡ none → PairsAs c i 0 qs
   unfolding listed
   read-fault qs e =
       record { good = λ h. absurd (omega arith); fault = λ z. ap listed (r .rest ∙ ap (prepended (pairsIn c n ps)) e ∙ prepended-none (pairsIn c n ps)) }
@@ -85,15 +87,15 @@ module _ (c : List ℕ) (i at n : ℕ) (ps : List ℕ) (r : ReadTo c i at n ps) 
       (few : n < mostKeys)
       (room : 4 * n + 4 ≤ length ps)
       (tk : TokenAt c at k)
-      (tv : TokenAt c (k .end) v)
+      (tv : LabelAt c (k .end) v)
       (two : (k .from ≡ k .end → ⊥) × (v .from ≡ v .end → ⊥))
       (sk : Skipped c (v .end) e)
       (put : qs ≡ placedPair ps n k v) where
     placed-next : Placed c (n + 1) qs
     placed-next = rw put (placed-more ps n k v room c few (r .placed) (tk .order) (tk .within) (tv .order) (tv .within))
 
-    rest-next : (x : Option (List Pair)) → readPairs (parts 44 (plainAt c at)) ≡ withPair (some (pairOf c k v)) x
-        → readPairs (parts 44 (plainAt c i)) ≡ prepended (pairsIn c (n + 1) qs) x
+    rest-next : (x : Option (List Pair)) → readPairs (parts 44 false (plainAt c at)) ≡ withPair (some (pairOf c k v)) x
+        → readPairs (parts 44 false (plainAt c i)) ≡ prepended (pairsIn c (n + 1) qs) x
     rest-next x q =
         r .rest ∙ ap (prepended (pairsIn c n ps)) q
         ∙ sym (prepended-more (pairsIn c n ps) _ x)

@@ -1,11 +1,11 @@
 -- Laws of writing a tree's plain text. Assumes nothing.
--- Bytes: 41 `)`, 58 `:`, 91 `[`, and 32, a blank.
+-- Bytes: 39 is the apostrophe, 91 `[`, and 32 a blank.
 --
---   free-blank, free-mark, free-other            whether a token behind a byte may be replaced
 --   shown-blank, shown-bracket, shown-byte       the byte that is read at a place: for a comment, for a bracket whose comment never ends, any other
---   passed-blank, passed-bracket, passed-byte    past it
+--   passed-blank, passed-bracket, passed-byte    past it, if it is no quote
 --   put-over, put-byte, put-run                  bytes that are put
---   put-kept, put-named                          a token that may not be replaced, and one that may
+--   shown-kept, put-kept, put-named              a token that may not be replaced, and one that may
+--   label-more, label-end, token-end             the text from a label byte on, from another byte, and behind a token
 --   token-step, byte-step                        a token of the text, or a byte, written
 --   written-none, written-more                   the text as the loop writes it
 --   text-over, text-all                          it runs over, or is whole
@@ -14,47 +14,29 @@ use native.Mathlib.Numerals.{add-one}
 use native.Mathlib.Omega.{arith}
 use mathlib.Core.Path.{_≡_, refl, sym, ap, _∙_}
 use mathlib.Core.Logic.{⊎-elim}
-use mathlib.Core.Bool.{Bool, true, false, not, _||_}
+use mathlib.Core.Bool.{Bool, true, false, true≢false}
 use mathlib.Core.List.{List, [], _∷_, _++_, append-assoc, append-nil}
 use lib.Dec.{eqb}
 use lib.ListN.{length, getD, set, take, length-set, length-append}
 use lib.Seq.{sets-eq, take-at, take-suc-set, length-take-le}
-use borrow.Author.Tests.{eq-eqb, ne-eqb}
-use Rattle.trees.specs.Plain.{every, member, bytes}
-use Rattle.trees.specs.Text.{isBlank, isLabelByte}
+use borrow.Author.Tests.{ne-eqb, eqb-false}
+use Rattle.trees.specs.Plain.{every}
+use Rattle.trees.specs.Text.{isLabelByte, turned}
 use Rattle.trees.specs.Held.{mostText}
 use Rattle.trees.specs.Nexus.{Pair, begins, uncommented}
 use Rattle.trees.specs.NexusCall.{nameOf, shown, freeBehind, replaced, replacedAfter}
-use Rattle.theorems.specs.ListLaws.{less-or-not, if-true, if-false, and-left, and-right}
+use Rattle.theorems.specs.ListLaws.{less-or-not, by-elim, and-left, and-right}
+use Rattle.theorems.specs.QuoteLaws.{other-turned}
 use Rattle.fields.specs.Run.{copied}
 use Rattle.fields.specs.RunLaws.{copied-length}
 use Rattle.text.specs.Read.{RunEnd}
 use Rattle.layout.specs.Store.{ranOver}
 use Rattle.nexus.specs.Places.{part, plainAt, CommentEnd}
 use Rattle.nexus.specs.PartLaws.{part-length}
-use Rattle.nexus.specs.PlaceLaws.{plain-none, plain-byte, plain-comment}
+use Rattle.nexus.specs.PlaceLaws.{plain-none, plain-front, plain-byte, plain-comment}
 use Rattle.nexus.specs.TokenLaws.{label-every, label-plain, label-stop}
+use Rattle.nexus.specs.LabelLaws.{none-begins}
 use Rattle.nexus.specs.Texts.{behindOne, ShownAt, PassedAt, PutAs, TextAs, Written, Stepped}
-
--- ---- whether a token may be replaced
-
-module _ (free : Bool) (b : ℕ) where
-  pub free-blank : isBlank b ≡ true → freeBehind free [] b ≡ free
-  unfolding freeBehind
-  free-blank e = if-true _ _ e
-
-  pub free-mark : isBlank b ≡ false → b ≡ 41 → freeBehind free [] b ≡ false
-  unfolding freeBehind member bytes
-  free-mark e q = if-false _ _ e ∙ ap (λ (t : Bool). not (t || (eqb b 58 || false))) (eq-eqb _ _ q)
-
-  pub free-other : isBlank b ≡ false → (b ≡ 41 → ⊥) → freeBehind free [] b ≡ not (eqb b 58)
-  unfolding freeBehind member bytes
-  free-other e q =
-      if-false _ _ e ∙ ap (λ (t : Bool). not (t || (eqb b 58 || false))) (ne-eqb _ _ q) ∙ ap not (or-none (eqb b 58))
-    where
-      or-none : (t : Bool) → (t || false) ≡ t
-      or-none true = refl
-      or-none false = refl
 
 -- ---- the byte that is read at a place
 
@@ -63,9 +45,9 @@ module _ (s : List ℕ) (i : ℕ) (h : i < length s) where
   unfolding behindOne
   first-shown b r e = record { is = e ∙ ap (λ (l : List ℕ). b ∷ l) (sym (ap behindOne e)) }
 
-  rest-passed : (b z : ℕ) → plainAt s i ≡ b ∷ plainAt s z → i < z → z ≤ length s → PassedAt s i z
+  rest-passed : (b z : ℕ) → ((getD s i 0 ≡ 39 → ⊥) → plainAt s i ≡ b ∷ plainAt s z) → i < z → z ≤ length s → PassedAt s i z
   unfolding behindOne
-  rest-passed b z e p q = record { past = p; within = q; is = ap behindOne e }
+  rest-passed b z e p q = record { past = p; within = q; is = λ n. ap behindOne (e n) }
 
   module _ (e : getD s i 0 ≡ 91) (z : ℕ) (p : CommentEnd s (i + 1) z) where
     pub shown-blank : z ≤ length s → ShownAt s i 32
@@ -75,16 +57,16 @@ module _ (s : List ℕ) (i : ℕ) (h : i < length s) where
     shown-bracket l = rw e (first-shown 91 [] (plain-comment s i h e ∙ p .unclosed l .1))
 
     pub passed-blank : z ≤ length s → PassedAt s i z
-    passed-blank l = let q = p .closed l .0 in rest-passed 32 z (plain-comment s i h e ∙ p .closed l .1) (omega arith) l
+    passed-blank l = let q = p .closed l .0 in rest-passed 32 z (λ m. plain-comment s i h e ∙ p .closed l .1) (omega arith) l
 
     pub passed-bracket : length s < z → PassedAt s i (length s)
     passed-bracket l =
         let q : [] ≡ plainAt s (length s) = sym (plain-none s (length s) (omega arith)) in
-        rest-passed 91 (length s) (plain-comment s i h e ∙ p .unclosed l .1 ∙ ap (λ (r : List ℕ). 91 ∷ r) q) h (omega arith)
+        rest-passed 91 (length s) (λ m. plain-comment s i h e ∙ p .unclosed l .1 ∙ ap (λ (r : List ℕ). 91 ∷ r) q) h (omega arith)
 
   module _ (n : getD s i 0 ≡ 91 → ⊥) where
     pub shown-byte : ShownAt s i (getD s i 0)
-    shown-byte = first-shown (getD s i 0) _ (plain-byte s i h n)
+    shown-byte = first-shown (getD s i 0) _ (plain-front s i h n .1)
 
     pub passed-byte : PassedAt s i (i + 1)
     passed-byte = rest-passed (getD s i 0) (i + 1) (plain-byte s i h n) (omega arith) (omega arith)
@@ -117,7 +99,7 @@ put-run o s to b e p l h f g q =
 
 -- ---- a token, as it is shown
 
-shown-kept : (ps : List Pair) (w : List ℕ) → shown ps false w ≡ w
+pub shown-kept : (ps : List Pair) (w : List ℕ) → shown ps false w ≡ w
 unfolding shown
 shown-kept ps [] = refl
 shown-kept ps (b ∷ w) = refl
@@ -136,32 +118,39 @@ module _ (ps : List Pair) (free : Bool) (w : List ℕ) (to r : ℕ) (o p : List 
 
 -- ---- a token of the text
 
-module _ (ps : List Pair) (free : Bool) where
-  pub label-more : (w : List ℕ) (b : ℕ) (r : List ℕ) → isLabelByte b ≡ true → replacedAfter ps free w (b ∷ r) ≡ replacedAfter ps free (w ++ b ∷ []) r
+module _ (ps : List Pair) where
+  pub label-more : (free : Bool) (w : List ℕ) (b : ℕ) (r : List ℕ) → isLabelByte b ≡ true
+      → replacedAfter ps false free w (b ∷ r) ≡ replacedAfter ps false free (w ++ b ∷ []) r
   unfolding replacedAfter
-  label-more w b r e = if-true _ _ e
+  label-more free w b r e =
+      by-elim (λ (l : List ℕ). l ≡ replacedAfter ps false free (w ++ b ∷ []) r) (isLabelByte b) (λ q. refl) (λ q. absurd (true≢false (sym e ∙ q)))
 
-  pub label-end : (w : List ℕ) (b : ℕ) (r : List ℕ) → isLabelByte b ≡ false
-      → replacedAfter ps free w (b ∷ r) ≡ shown ps free w ++ (b ∷ replacedAfter ps (freeBehind free w b) [] r)
+  pub label-end : (free : Bool) (w : List ℕ) (b : ℕ) (r : List ℕ) → isLabelByte b ≡ false
+      → replacedAfter ps false free w (b ∷ r) ≡ shown ps free w ++ (b ∷ replacedAfter ps (turned false b) (freeBehind free w b) [] r)
   unfolding replacedAfter
-  label-end w b r e = if-false _ _ e
+  label-end free w b r e =
+      by-elim
+      (λ (l : List ℕ). l ≡ shown ps free w ++ (b ∷ replacedAfter ps (turned false b) (freeBehind free w b) [] r))
+      (isLabelByte b)
+      (λ q. absurd (true≢false (sym q ∙ e)))
+      (λ q. refl)
 
   -- behind a token the next may be replaced again, but for `)` and `:` between
-  pub token-end : (w r : List ℕ) → 0 < length w → begins isLabelByte r ≡ false
-      → replacedAfter ps free w r ≡ shown ps free w ++ replacedAfter ps true [] r
+  pub token-end : (free : Bool) (w r : List ℕ) → 0 < length w → begins isLabelByte r ≡ false
+      → replacedAfter ps false free w r ≡ shown ps free w ++ replacedAfter ps false true [] r
   unfolding replacedAfter shown begins freeBehind
-  token-end [] r h n = absurd (omega arith)
-  token-end (x ∷ w) [] h n = sym (append-nil _)
-  token-end (x ∷ w) (b ∷ r) h n = if-false _ _ n ∙ ap (λ (l : List ℕ). shown ps free (x ∷ w) ++ l) (sym (if-false _ _ n))
+  token-end free [] r h n = absurd (omega arith)
+  token-end free (x ∷ w) [] h n = sym (append-nil _)
+  token-end free (x ∷ w) (b ∷ r) h n = label-end free (x ∷ w) b r n ∙ ap (λ (l : List ℕ). shown ps free (x ∷ w) ++ l) (sym (label-end true [] b r n))
 
   -- the bytes u of a token, behind its bytes w
-  label-run : (w u r : List ℕ) → every isLabelByte u ≡ true → replacedAfter ps free w (u ++ r) ≡ replacedAfter ps free (w ++ u) r
+  label-run : (free : Bool) (w u r : List ℕ) → every isLabelByte u ≡ true → replacedAfter ps false free w (u ++ r) ≡ replacedAfter ps false free (w ++ u) r
   unfolding every
-  label-run w [] r e = ap (λ (v : List ℕ). replacedAfter ps free v r) (sym (append-nil w))
-  label-run w (b ∷ u) r e =
-      label-more w b (u ++ r) (and-left (isLabelByte b) (every isLabelByte u) e)
-      ∙ label-run (w ++ b ∷ []) u r (and-right (isLabelByte b) (every isLabelByte u) e)
-      ∙ ap (λ (v : List ℕ). replacedAfter ps free v r) (append-assoc w (b ∷ []) u)
+  label-run free w [] r e = ap (λ (v : List ℕ). replacedAfter ps false free v r) (sym (append-nil w))
+  label-run free w (b ∷ u) r e =
+      label-more free w b (u ++ r) (and-left (isLabelByte b) (every isLabelByte u) e)
+      ∙ label-run free (w ++ b ∷ []) u r (and-right (isLabelByte b) (every isLabelByte u) e)
+      ∙ ap (λ (v : List ℕ). replacedAfter ps false free v r) (append-assoc w (b ∷ []) u)
 
 module _ (ps : List Pair) (free : Bool) (s : List ℕ) where
   module _ (at to : ℕ) (o : List ℕ) (r : ℕ) (p : List ℕ) (e : ℕ) (x : RunEnd s at e) where
@@ -174,25 +163,31 @@ module _ (ps : List Pair) (free : Bool) (s : List ℕ) where
           within = x .within;
           put = q;
           rest =
-              ap (replacedAfter ps free []) (label-plain s at e x)
+              ap (replacedAfter ps false free []) (label-plain s at e x)
               ∙ label-run ps free [] (part at e s) (plainAt s e) (label-every s at e x)
               ∙ token-end ps free (part at e s) (plainAt s e) (omega arith) (label-stop s at e x);
         }
 
-    pub byte-step : (b z : ℕ) (next : Bool) → e ≤ at → ShownAt s at b → PassedAt s at z → PutAs (b ∷ []) to r o p
+    pub byte-step : (b z : ℕ) (next : Bool) → e ≤ at → (getD s at 0 ≡ 39 → ⊥) → ShownAt s at b → PassedAt s at z → PutAs (b ∷ []) to r o p
         → next ≡ freeBehind free [] b → Stepped ps s at to free o z r next p
     unfolding begins shown
-    byte-step b z next h y m q d =
+    byte-step b z next h j y m q d =
         let n = x .past in
         let g : e ≡ at = omega arith in
-        let k : plainAt s at ≡ b ∷ plainAt s z = y .is ∙ ap (λ (l : List ℕ). b ∷ l) (m .is) in
+        let k : plainAt s at ≡ b ∷ plainAt s z = y .is ∙ ap (λ (l : List ℕ). b ∷ l) (m .is j) in
+        let u : eqb 39 b ≡ false = sym (ap (begins (eqb 39)) k) ∙ none-begins s at (λ v. j) in
+        let c : turned false b ≡ false = other-turned false b (ne-eqb b 39 (λ v. eqb-false 39 b u (sym v))) in
         let f : isLabelByte b ≡ false = sym (ap (begins isLabelByte) k) ∙ ap (λ (j : ℕ). begins isLabelByte (plainAt s j)) (sym g) ∙ label-stop s at e x in
         record {
           shows = b ∷ [];
           past = m .past;
           within = m .within;
           put = q;
-          rest = rw d (ap (replacedAfter ps free []) k ∙ label-end ps free [] b (plainAt s z) f);
+          rest =
+              rw d
+              (ap (replacedAfter ps false free []) k
+              ∙ label-end ps free [] b (plainAt s z) f
+              ∙ ap (λ (o : Bool). b ∷ replacedAfter ps o (freeBehind free [] b) [] (plainAt s z)) c);
         }
 
 -- ---- the text as the loop writes it
@@ -203,21 +198,21 @@ module _ (ps : List Pair) (s : List ℕ) where
   written-none o l = record { within = omega arith; few = omega arith; size = l; rest = refl }
 
   module _ (at to : ℕ) (free : Bool) (o : List ℕ) (x : Written ps s at to free o) where
-    pub text-all : length s ≤ at → TextAs (replaced ps (uncommented s)) to o
+    pub text-all : length s ≤ at → TextAs (replaced ps (uncommented false s)) to o
     unfolding replacedAfter shown
     text-all h =
         let f = x .few in
         let g = x .size in
-        let e : replaced ps (uncommented s) ≡ take to o =
-        x .rest ∙ ap (λ (l : List ℕ). take to o ++ replacedAfter ps free [] l) (plain-none s at h) ∙ append-nil (take to o) in
-        let n : length (replaced ps (uncommented s)) ≡ to = ap length e ∙ length-take-le to o (omega arith) in
+        let e : replaced ps (uncommented false s) ≡ take to o =
+        x .rest ∙ ap (λ (l : List ℕ). take to o ++ replacedAfter ps false free [] l) (plain-none s at h) ∙ append-nil (take to o) in
+        let n : length (replaced ps (uncommented false s)) ≡ to = ap length e ∙ length-take-le to o (omega arith) in
         record { fits = λ l. (sym n, sym e); over = λ l. absurd (omega arith) }
 
     module _ (z r : ℕ) (next : Bool) (p : List ℕ) (y : Stepped ps s at to free o z r next p) where
-      text-rest : replaced ps (uncommented s) ≡ take to o ++ y .shows ++ replacedAfter ps next [] (plainAt s z)
+      text-rest : replaced ps (uncommented false s) ≡ take to o ++ y .shows ++ replacedAfter ps false next [] (plainAt s z)
       text-rest = x .rest ∙ ap (λ (l : List ℕ). take to o ++ l) (y .rest) ∙ sym (append-assoc (take to o) (y .shows) _)
 
-      text-length : to + length (y .shows) ≤ length (replaced ps (uncommented s))
+      text-length : to + length (y .shows) ≤ length (replaced ps (uncommented false s))
       text-length =
           let f = x .few in
           let g = x .size in
@@ -236,10 +231,10 @@ module _ (ps : List Pair) (s : List ℕ) where
             within = y .within;
             few = omega arith;
             size = y .put .size ∙ x .size;
-            rest = text-rest ∙ ap (λ (l : List ℕ). l ++ replacedAfter ps next [] (plainAt s z)) (sym (q .1));
+            rest = text-rest ∙ ap (λ (l : List ℕ). l ++ replacedAfter ps false next [] (plainAt s z)) (sym (q .1));
           }
 
-      pub text-over : r ≡ ranOver → TextAs (replaced ps (uncommented s)) r p
+      pub text-over : r ≡ ranOver → TextAs (replaced ps (uncommented false s)) r p
       text-over e =
           let n = text-length in
           let f : mostText < to + length (y .shows) =

@@ -1,12 +1,12 @@
 -- Laws of tokens and keywords at places in a file. Assumes nothing.
--- Bytes: 61 `=`, 91 `[`, and 32, a blank.
+-- Bytes: 61 `=`, 91 `[`, 39, the apostrophe, and 32, a blank.
 --
 --   name-equals, name-label     which bytes stand in a tree's name
 --   Alike s b e k i             the first i bytes of the keyword k are those from b on, in any case: the rest up to e decides
 --   word-unlike, word-begun, word-more, word-other, word-end     the comparison, a byte at a time
 --   Run p s i r                 the bytes from i up to r pass the test p
 --   run-none, run-more          such a run, a byte at a time
---   run-every, run-plain        every byte of it passes; a run without brackets stands as it is
+--   run-every, run-plain        every byte of it passes; a run without brackets and quotes stands as it is
 --   run-stop                    no byte that passes is read where none stands
 --   run-at, behind-at           the longest run from a place on, and what stands behind it
 --   begun-at                    whether a byte of it stands there
@@ -27,13 +27,14 @@ use Rattle.trees.specs.Plain.{every, sameBytes}
 use Rattle.trees.specs.Text.{isLabelByte}
 use Rattle.trees.specs.Nexus.{runOf, behindRun, begins, uncommented, capital, isNameByte}
 use Rattle.trees.specs.NexusReading.{firstToken, behindFirst}
-use Rattle.theorems.specs.ListLaws.{if-false, and-left, and-right, and-true, less-or-not}
+use Rattle.theorems.specs.ListLaws.{and-true, less-or-not}
 use Rattle.theorems.specs.RunOfLaws.{run-of, behind-of}
 use Rattle.text.specs.Read.{RunEnd}
 use Rattle.head.specs.FindLaws.{run-unlike}
 use Rattle.nexus.specs.Places.{part, plainAt, Skipped, TokenAt, NameEnd}
 use Rattle.nexus.specs.PartLaws.{part-first, part-length, part-rest}
-use Rattle.nexus.specs.PlaceLaws.{plain-none, plain-byte, plain-as}
+use Rattle.nexus.specs.PlaceLaws.{plain-none, plain-front, plain-as}
+use Rattle.nexus.specs.ByteLaws.{plain-append}
 
 -- ---- bytes of a tree's name
 
@@ -106,18 +107,8 @@ run-more {p} {s} {i} {r} w h e = record { past = let l = w .past in omega arith;
     go j f (inl l) g = w .each j f l
     go j f (inr l) g = let q : j ≡ r = omega arith in ap (λ (x : ℕ). p (getD s x 0)) q ∙ e
 
--- no bracket passes, and no blank as which a comment reads
-module _ (p : ℕ → Bool) (n : p 91 ≡ false) (z : p 32 ≡ false) where
-  not-bracket : (b : ℕ) → p b ≡ true → b ≡ 91 → ⊥
-  not-bracket b e q = true≢false (sym e ∙ ap p q ∙ n)
-
-  plain-append : (w r : List ℕ) → every p w ≡ true → uncommented (w ++ r) ≡ w ++ uncommented r
-  unfolding uncommented every
-  plain-append [] r e = refl
-  plain-append (b ∷ w) r e =
-      if-false _ _ (ne-eqb b 91 (not-bracket b (and-left (p b) (every p w) e)))
-      ∙ ap (λ (l : List ℕ). b ∷ l) (plain-append w r (and-right (p b) (every p w) e))
-
+-- no bracket and no apostrophe passes, and no blank as which a comment reads
+module _ (p : ℕ → Bool) (n : p 91 ≡ false) (m : p 39 ≡ false) (z : p 32 ≡ false) where
   every-each : (w : List ℕ) → ((j : ℕ) → j < length w → p (getD w j 0) ≡ true) → every p w ≡ true
   unfolding every
   every-each [] f = refl
@@ -127,7 +118,7 @@ module _ (p : ℕ → Bool) (n : p 91 ≡ false) (z : p 32 ≡ false) where
   unfolding begins
   run-stop s r f =
       ⊎-elim
-      (λ l. plain-as (λ x. begins p x ≡ false) s r l n (λ t. z) (f l))
+      (λ l. plain-as (λ x. begins p x ≡ false) s r l n (λ t. z) (λ t. f l))
       (λ l. ap (begins p) (plain-none s r l))
       (less-or-not r (length s))
 
@@ -140,7 +131,7 @@ module _ (p : ℕ → Bool) (n : p 91 ≡ false) (z : p 32 ≡ false) where
         ap p (getD-take (r - i) (drop i s) j 0 f ∙ getD-drop i s j 0) ∙ w .each (i + j) (omega arith) (omega arith))
 
     pub run-plain : plainAt s i ≡ part i r s ++ plainAt s r
-    run-plain = ap uncommented (part-rest s i r (w .past)) ∙ plain-append (part i r s) (drop r s) run-every
+    run-plain = ap (uncommented false) (part-rest s i r (w .past)) ∙ plain-append p n m (part i r s) (drop r s) run-every
 
     module _ (f : r < length s → p (getD s r 0) ≡ false) where
       stops : begins p (plainAt s r) ≡ false
@@ -160,7 +151,7 @@ module _ (p : ℕ → Bool) (n : p 91 ≡ false) (z : p 32 ≡ false) where
           go (inl l) =
               let e = w .each i (omega arith) l in
               let h = w .within in
-              ap (begins p) (plain-byte s i (omega arith) (not-bracket _ e)) ∙ e ∙ sym (lt-ltb i r l)
+              ap (begins p) (plain-front s i (omega arith) (λ q. true≢false (sym e ∙ ap p q ∙ n)) .1) ∙ e ∙ sym (lt-ltb i r l)
           go (inr l) =
               let h = w .past in
               let q : i ≡ r = omega arith in
@@ -175,23 +166,23 @@ module _ (s : List ℕ) (i r : ℕ) (w : RunEnd s i r) where
 
   pub label-every : every isLabelByte (part i r s) ≡ true
   unfolding isLabelByte
-  label-every = run-every isLabelByte refl refl s i r label-run
+  label-every = run-every isLabelByte refl refl refl s i r label-run
 
   pub label-plain : plainAt s i ≡ part i r s ++ plainAt s r
   unfolding isLabelByte
-  label-plain = run-plain isLabelByte refl refl s i r label-run
+  label-plain = run-plain isLabelByte refl refl refl s i r label-run
 
   pub label-stop : begins isLabelByte (plainAt s r) ≡ false
   unfolding isLabelByte
-  label-stop = run-stop isLabelByte refl refl s r (w .stop)
+  label-stop = run-stop isLabelByte refl refl refl s r (w .stop)
 
   pub label-at : runOf isLabelByte (plainAt s i) ≡ part i r s
   unfolding isLabelByte
-  label-at = run-at isLabelByte refl refl s i r label-run (w .stop)
+  label-at = run-at isLabelByte refl refl refl s i r label-run (w .stop)
 
   pub label-behind : behindRun isLabelByte (plainAt s i) ≡ plainAt s r
   unfolding isLabelByte
-  label-behind = behind-at isLabelByte refl refl s i r label-run (w .stop)
+  label-behind = behind-at isLabelByte refl refl refl s i r label-run (w .stop)
 
 pub token-at : (s : List ℕ) (i a e : ℕ) → Skipped s i a → RunEnd s a e → TokenAt s i (record { from = a; end = e })
 unfolding firstToken behindFirst
@@ -208,4 +199,4 @@ token-at s i a e k w =
 pub name-at : (s : List ℕ) (i r : ℕ) → Run isNameByte s i r → (r < length s → isNameByte (getD s r 0) ≡ false) → NameEnd s i r
 unfolding isNameByte
 name-at s i r w f =
-    record { past = w .past; within = w .within; begun = begun-at isNameByte refl refl s i r w f; behind = behind-at isNameByte refl refl s i r w f }
+    record { past = w .past; within = w .within; begun = begun-at isNameByte refl refl refl s i r w f; behind = behind-at isNameByte refl refl refl s i r w f }

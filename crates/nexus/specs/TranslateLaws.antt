@@ -17,8 +17,8 @@ use mathlib.Core.Option.{Option, none, some}
 use lib.ListN.{length}
 use borrow.Author.Tests.{le-leb}
 use Rattle.trees.specs.Plain.{if_then_else_, every, sameBytes, bytes}
-use Rattle.trees.specs.Text.{isBlank}
-use Rattle.trees.specs.Nexus.{uncommented, parts, capital, isWord, File, mostKeys}
+use Rattle.trees.specs.Text.{isBlank, parts}
+use Rattle.trees.specs.Nexus.{uncommented, capital, isWord, File, mostKeys}
 use Rattle.trees.specs.NexusReading.{firstToken, behindFirst, readPairs, readLine, isEnd, outside, inTrees, wrong, to, lists, listed, lineGiven, moved, withPairs, closes, readsOn, reads}
 use Rattle.theorems.specs.ListLaws.{if-true, if-false, less-or-not}
 use Rattle.theorems.specs.NameLaws.{same-true}
@@ -46,9 +46,9 @@ module _ (c : List ℕ) where
   moved-line : isWord "TRANSLATE" (firstToken c) ≡ false → moved (inTrees true) c ≡ moved (inTrees false) c
   unfolding moved
   moved-line e =
-      ap (λ (t : Bool). if isEnd c then to (outside true) else if t then listed (readPairs (parts 44 (behindFirst c))) else lineGiven (readLine c)) e
+      ap (λ (t : Bool). if isEnd c then to (outside true) else if t then listed (readPairs (parts 44 false (behindFirst c))) else lineGiven (readLine c)) e
 
-  moved-list : isWord "TRANSLATE" (firstToken c) ≡ true → moved (inTrees true) c ≡ listed (readPairs (parts 44 (behindFirst c)))
+  moved-list : isWord "TRANSLATE" (firstToken c) ≡ true → moved (inTrees true) c ≡ listed (readPairs (parts 44 false (behindFirst c)))
   unfolding moved isEnd
   moved-list e = if-false _ _ (ap (λ (t : Bool). t && every isBlank (behindFirst c)) (no-end (firstToken c) e)) ∙ if-true _ _ e
 
@@ -71,7 +71,7 @@ module _
     (tw : TokenAt (part i e f) 0 w)
     (t : Bool)
     (word : t ≡ sameBytes (map capital (part (w .from) (w .end) (part i e f))) translateBytes) where
-  is-translate : isWord "TRANSLATE" (firstToken (uncommented (part i e f))) ≡ t
+  is-translate : isWord "TRANSLATE" (firstToken (uncommented false (part i e f))) ≡ t
   unfolding isWord
   is-translate = ap (λ (l : List ℕ). sameBytes (map capital l) translateBytes) (tw .token) ∙ sym word
 
@@ -81,7 +81,7 @@ module _
   same-read : t ≡ false → reads (inTrees true) (commandsAt f i) ≡ reads (inTrees false) (commandsAt f i)
   unfolding closes
   same-read q =
-      let m = moved-line (uncommented (part i e f)) (is-translate ∙ q) in
+      let m = moved-line (uncommented false (part i e f)) (is-translate ∙ q) in
       ⊎-elim
       (λ h. reads-moved f i e end h (inTrees true) _ m ∙ sym (reads-moved f i e end h (inTrees false) _ refl))
       (λ h. let z = in-end h in reads-last f i e end z (inTrees true) ∙ sym (reads-last f i e end z (inTrees false)))
@@ -96,8 +96,8 @@ module _
       }
 
   module _ (is : t ≡ true) where
-    list-moves : moved (inTrees true) (uncommented (part i e f)) ≡ listed (readPairs (parts 44 (plainAt (part i e f) (w .end))))
-    list-moves = moved-list (uncommented (part i e f)) (is-translate ∙ is) ∙ ap (λ (l : List ℕ). listed (readPairs (parts 44 l))) (tw .behind)
+    list-moves : moved (inTrees true) (uncommented false (part i e f)) ≡ listed (readPairs (parts 44 false (plainAt (part i e f) (w .end))))
+    list-moves = moved-list (uncommented false (part i e f)) (is-translate ∙ is) ∙ ap (λ (l : List ℕ). listed (readPairs (parts 44 false l))) (tw .behind)
 
     pub bad-list : (n : ℕ) (ps : List ℕ) → PairsAs (part i e f) (w .end) n ps → n ≡ 0 → ListedAs f i (record { from = i; end = e; pairs = 0; at = length f + 1 }) ps
     unfolding readsOn closes
@@ -112,7 +112,7 @@ module _
         }
 
     module _ (n : ℕ) (ps : List ℕ) (p : PairsAs (part i e f) (w .end) n ps) (some-there : n ≡ 0 → ⊥) where
-      listed-pairs : listed (readPairs (parts 44 (plainAt (part i e f) (w .end)))) ≡ lists (pairsIn (part i e f) n ps)
+      listed-pairs : listed (readPairs (parts 44 false (plainAt (part i e f) (w .end)))) ≡ lists (pairsIn (part i e f) n ps)
       unfolding listed
       listed-pairs =
           let g = p .good (omega arith) in

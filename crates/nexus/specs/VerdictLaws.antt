@@ -4,7 +4,7 @@
 --   judges-refused, judges-room     a refused text, with nothing changed; a text that gives splits: refused for want of room, or recorded
 use Prim.Native.Nat.{ℕ, _≤_, _<_}
 use mathlib.Core.Path.{_≡_, refl, sym, ap, subst, _∙_}
-use mathlib.Core.Bool.{true}
+use mathlib.Core.Bool.{true, false}
 use mathlib.Core.List.{List}
 use lib.ListN.{take}
 use borrow.Author.Tests.{lt-ltb, le-ltb}
@@ -28,11 +28,11 @@ module _ (s text : List ℕ) (n : ℕ) where
 
   pub text-over : mostText < n → verdictThere ≡ refused 6
   unfolding verdict
-  text-over h = ap (verdict (heldAt s)) (if-true overrun (holding (take n text)) (lt-ltb _ _ h))
+  text-over h = ap (verdict (heldAt s)) (if-true (overrun false) (holding (take n text)) (lt-ltb _ _ h))
 
   text-fits : n ≤ mostText → verdictThere ≡ withRoom (heldAt s) (judged (openingAt s .names) (take n text))
   unfolding verdict heldIn
-  text-fits h = ap (verdict (heldAt s)) (if-false overrun (holding (take n text)) (le-ltb _ _ h))
+  text-fits h = ap (verdict (heldAt s)) (if-false (overrun false) (holding (take n text)) (le-ltb _ _ h))
 
   pub text-refused : n ≤ mostText → (k : ℕ) → judged (openingAt s .names) (take n text) ≡ refused k → verdictThere ≡ refused k
   unfolding withRoom

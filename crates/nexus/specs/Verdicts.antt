@@ -1,6 +1,6 @@
 -- The verdicts on plain texts, in a whole store.
 --
---   laneWith n text      an empty lane to which the first n bytes of a buffer were handed; 4,097 stand for any longer text
+--   laneWith n text      an empty lane to which the first n bytes of a buffer were handed; 4,609 stand for any longer text
 --   Judges s text n r t  the verdict on that text: the answer r, and the lent bytes t, which were s
 --   Hands s x r t        the verdict on the plain text x, handed whole to an empty lane
 --   LineAt f i r         the text of the tree whose line begins at i stands at r
@@ -27,8 +27,9 @@ use Rattle.store.specs.Lent.{Holds}
 use Rattle.nexus.specs.declared.tokens.Token.{Token}
 use Rattle.nexus.specs.Places.{part, commandsAt}
 
+-- no verdict asks whether quotes are open in a lane that ran over
 abbrev pub laneWith : ℕ → List ℕ → Lane
-laneWith n text = if ltb mostText n then overrun else holding (take n text)
+laneWith n text = if ltb mostText n then overrun false else holding (take n text)
 
 pub record Judges (s text : List ℕ) (n : ℕ) (r : Progress) (t : List ℕ) : Type 0 where
   pub answer : progressGiven r ≡ finished (heldAt s) (verdict (heldAt s) (laneWith n text))
@@ -47,7 +48,7 @@ pub record LineAt (f : List ℕ) (i : ℕ) (r : Token) : Type 0 where
   pub within : r .end ≤ length f
   pub gives : (t : List ℕ) (ts : List (List ℕ)) → reads (inTrees false) (commandsAt f i) ≡ some (record { pairs = []; texts = t ∷ ts })
       → (r .end < length f)
-      × (uncommented (part (r .from) (r .end) f) ≡ t)
+      × (uncommented false (part (r .from) (r .end) f) ≡ t)
       × (reads (inTrees false) (commandsAt f (r .end + 1)) ≡ some (record { pairs = []; texts = ts }))
 
 -- the lines of n trees begin at i

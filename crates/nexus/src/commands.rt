@@ -3,10 +3,10 @@ ghost use mathlib.Core.Path.{_≡_};
 ghost use Prim.Native.Nat.{_≤_};
 ghost use lib.ListN.{length};
 ghost use Rattle.trees.specs.Plain.{every};
-ghost use Rattle.nexus.specs.Places.{plain, PlainRun, PlainEnd, CommandEnd};
+ghost use Rattle.nexus.specs.Places.{plain, PlainRun, PlainEnd, closing as closingOf, CommandEnd};
 use crate::comments;
 
-// The end of the command that begins at `from`: the place of its semicolon; the length, where none stands outside comments.
+// The end of the command that begins at `from`: the place of its semicolon; the length, where none stands outside comments and quotes.
 pub(crate) fn command_end(s: &[u8], from: usize) -> usize
     requires { ⌜ from ≤ length (now s) ⌝ }
     ensures { λ r. ⌜ CommandEnd (now (s .entry)) from r ⌝ }
@@ -16,7 +16,7 @@ pub(crate) fn command_end(s: &[u8], from: usize) -> usize
         if s[at] == b';' {
             return at;
         }
-        let end = comments::past_comment(s, at + 1);
+        let end = comments::past_next(s, at + 1, closing(s[at]));
         if s.len() < end {
             return s.len();
         }
@@ -25,7 +25,17 @@ pub(crate) fn command_end(s: &[u8], from: usize) -> usize
     at
 }
 
-// Past the bytes from `from` on that neither end a command nor begin a comment.
+// The byte that ends what b begins: a comment or a run in quotes.
+fn closing(b: u8) -> u8
+    ensures { λ r. ⌜ r ≡ closingOf b ⌝ }
+{
+    if b == b'[' {
+        return b']';
+    }
+    b'\''
+}
+
+// Past the bytes from `from` on that neither end a command nor begin a comment or a run in quotes.
 fn past_plain(s: &[u8], from: usize) -> usize
     requires { ⌜ from ≤ length (now s) ⌝ }
     ensures { λ r. ⌜ PlainEnd (now (s .entry)) from r ⌝ }
@@ -63,6 +73,7 @@ fn all_plain(block: &[u8]) -> bool
 {
     let mut no_end = true;
     let mut no_comment = true;
+    let mut no_quote = true;
     let mut i = 0;
     while i < block.len() {
         if block[i] == b';' {
@@ -71,20 +82,29 @@ fn all_plain(block: &[u8]) -> bool
         if block[i] == b'[' {
             no_comment = false;
         }
+        if block[i] == b'\'' {
+            no_quote = false;
+        }
         i += 1;
     }
-    if no_end {
-        return no_comment;
+    if !no_end {
+        return false;
     }
-    false
+    if !no_comment {
+        return false;
+    }
+    no_quote
 }
 
-// Whether b neither ends a command nor begins a comment.
+// Whether b neither ends a command nor begins a comment or a run in quotes.
 fn is_plain(b: u8) -> bool
     ensures { λ r. ⌜ r ≡ plain b ⌝ }
 {
     if b == b';' {
         return false;
     }
-    b != b'['
+    if b == b'[' {
+        return false;
+    }
+    b != b'\''
 }

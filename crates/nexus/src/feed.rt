@@ -1,6 +1,6 @@
 // The trees of a file that was read, fed one after another.
 ghost use mathlib.Core.Path.{_≡_};
-ghost use mathlib.Core.Bool.{true};
+ghost use mathlib.Core.Bool.{true, false};
 ghost use Prim.Native.Nat.{_≤_};
 ghost use lib.ListN.{length};
 ghost use Rattle.trees.specs.Held.{mostText};
@@ -129,7 +129,7 @@ fn feed_text(
     requires { ⌜ Placed (now list) pairs (now places) ⌝ }
     requires { ⌜ Indexed (keysOf (pairsIn (now list) pairs (now places))) (now firsts) (now nexts) ⌝ }
     requires { ⌜ length (now text) ≡ mostText ⌝ }
-    ensures { λ r. ⌜ Hands (now (s .entry)) (replaced (pairsIn (now (list .entry)) pairs (now (places .entry))) (uncommented (now (raw .entry)))) r (now (s .exit)) ⌝ }
+    ensures { λ r. ⌜ Hands (now (s .entry)) (replaced (pairsIn (now (list .entry)) pairs (now (places .entry))) (uncommented false (now (raw .entry)))) r (now (s .exit)) ⌝ }
     ensures { λ r. ⌜ length (now (text .exit)) ≡ mostText ⌝ }
 {
     let n = plain::write_text(list, pairs, places, firsts, nexts, raw, text);

@@ -1,6 +1,6 @@
 // The keys that a TRANSLATE command lists: whether one comes twice, and looking a token up.
 //
-// The pairs are n pairs of tokens of a list, by their places: four for each, where its key and its name begin and end.
+// The pairs are n pairs of a token and a label of a list, by their places: four for each, where its key and its name begin and end.
 ghost use mathlib.Core.Path.{_≡_};
 ghost use mathlib.Core.Bool.{not};
 ghost use Prim.Native.Nat.{_+_, _*_, _≤_, _<_};

@@ -1,5 +1,7 @@
-// What a command is: a block's beginning or end, a tree's line. A command is lent without its semicolon, comments and all.
+// What a command is: a block's beginning or end, a tree's line. A command is lent without its semicolon, comments and quotes and all.
 ghost use mathlib.Core.Path.{_≡_};
+ghost use mathlib.Core.Bool.{false};
+ghost use Rattle.trees.specs.Text.{openAfter};
 ghost use Rattle.trees.specs.Nexus.{uncommented};
 ghost use Rattle.trees.specs.NexusReading.{endsOther, isEnd};
 ghost use Rattle.nexus.specs.Commands.{BegunAs, WordAt, WordEnd, LineAs, LineMoves};
@@ -34,9 +36,10 @@ pub(crate) fn block_begun(c: &[u8]) -> Begun
     Begun::Other
 }
 
-// Whether a command of another block ends it: its last token is END.
+// Whether a command of another block ends it: its last token is END. Quotes are paired in a command.
 pub(crate) fn ends_other(c: &[u8]) -> bool
-    ensures { λ r. ⌜ r ≡ endsOther (uncommented (now (c .entry))) ⌝ }
+    requires { ⌜ openAfter false (uncommented false (now c)) ≡ false ⌝ }
+    ensures { λ r. ⌜ r ≡ endsOther (uncommented false (now (c .entry))) ⌝ }
 {
     let mut at = comments::skip(c, 0);
     while at < c.len() {
@@ -51,7 +54,8 @@ pub(crate) fn ends_other(c: &[u8]) -> bool
     false
 }
 
-// Past the token from `at` up to `end`, or past the one byte that stands there; the length, behind a comment that never ends.
+// Past the token from `at` up to `end`, or past the run in quotes or the one byte that stands there; the length, behind a comment that
+// never ends.
 fn past_word(c: &[u8], at: usize, end: usize) -> usize
     requires { ⌜ WordAt (now c) at end ⌝ }
     ensures { λ r. ⌜ WordEnd (now (c .entry)) at r ⌝ }
@@ -61,6 +65,9 @@ fn past_word(c: &[u8], at: usize, end: usize) -> usize
     }
     if c[at] == b'[' {
         return c.len();
+    }
+    if c[at] == b'\'' {
+        return comments::past_next(c, at + 1, b'\'');
     }
     at + 1
 }
@@ -87,7 +94,7 @@ fn text_from(c: &[u8]) -> usize
 
 // Whether a command ends the TREES block: END alone.
 fn is_end(c: &[u8]) -> bool
-    ensures { λ r. ⌜ r ≡ isEnd (uncommented (now (c .entry))) ⌝ }
+    ensures { λ r. ⌜ r ≡ isEnd (uncommented false (now (c .entry))) ⌝ }
 {
     let w = tokens::first_token(c, 0);
     if !tokens::is_word(c, w.from, w.end, b"END") {

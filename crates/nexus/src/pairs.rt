@@ -3,7 +3,7 @@ ghost use mathlib.Core.Path.{_≡_};
 ghost use Prim.Native.Nat.{_+_, _*_, _≤_};
 ghost use lib.ListN.{length};
 ghost use Rattle.trees.specs.Nexus.{mostKeys};
-ghost use Rattle.nexus.specs.Commands.{PairsAs, NoneOf, placedPair};
+ghost use Rattle.nexus.specs.Commands.{LabelAt, PairsAs, NoneOf, placedPair};
 use crate::comments;
 use crate::tokens;
 use crate::tokens::Token;
@@ -23,7 +23,7 @@ pub(crate) fn read_pairs(c: &[u8], from: usize, places: &mut [usize]) -> usize
     let mut n = 0;
     while n < MOST_KEYS {
         let key = tokens::first_token(c, at);
-        let name = tokens::first_token(c, key.end);
+        let name = first_label(c, key.end);
         if is_none(key, name) {
             return 0;
         }
@@ -41,7 +41,26 @@ pub(crate) fn read_pairs(c: &[u8], from: usize, places: &mut [usize]) -> usize
     0
 }
 
-// Whether one of two tokens is none.
+// The first label from `from` on, behind blanks and comments, with its quotes, if it has any; none, where what stands there is no label.
+fn first_label(c: &[u8], from: usize) -> Token
+    requires { ⌜ from ≤ length (now c) ⌝ }
+    ensures { λ r. ⌜ LabelAt (now (c .entry)) from r ⌝ }
+{
+    let at = comments::skip(c, from);
+    if !text::has_byte(c, at, b'\'') {
+        return Token {
+            from: at,
+            end: text::token_end(c, at),
+        };
+    }
+    let end = text::quoted_end(c, at);
+    if c.len() < end {
+        return Token { from: at, end: at };
+    }
+    Token { from: at, end }
+}
+
+// Whether a key or its name is none.
 fn is_none(key: Token, name: Token) -> bool
     ensures { λ r. ⌜ NoneOf key name r ⌝ }
 {

@@ -1,9 +1,10 @@
-// A tree's plain text: a blank for each comment, and its keys replaced by names except after `)` or `:`.
+// A tree's plain text: a blank for each comment, and its keys replaced by names except after `)` or `:`. What stands in quotes stays.
 ghost use mathlib.Core.Path.{_≡_};
 ghost use mathlib.Core.List.{[], _∷_};
-ghost use mathlib.Core.Bool.{true};
+ghost use mathlib.Core.Bool.{true, false};
 ghost use Prim.Native.Nat.{_+_, _≤_, _<_};
-ghost use lib.ListN.{length};
+ghost use lib.ListN.{length, getD};
+ghost use Rattle.trees.specs.Text.{apostrophe};
 ghost use Rattle.trees.specs.Held.{mostText};
 ghost use Rattle.trees.specs.Nexus.{uncommented};
 ghost use Rattle.trees.specs.NexusCall.{keysOf, shown, replaced, freeBehind};
@@ -12,14 +13,14 @@ ghost use Rattle.head.specs.Index.{Indexed};
 ghost use Rattle.nexus.specs.Places.{part};
 ghost use Rattle.nexus.specs.Commands.{pairsIn, Placed};
 ghost use Rattle.nexus.specs.TokenLaws.{Run};
-ghost use Rattle.nexus.specs.Texts.{ShownAt, PassedAt, PutAs, TextAs, isMark, isKept, isOpening, KeptEnd, KeptAs};
+ghost use Rattle.nexus.specs.Texts.{ShownAt, PassedAt, PutAs, TextAs, isMark, isKept, isOpening, KeptEnd, KeptAs, QuotePast, QuotesAs};
 use crate::comments;
 use crate::keys;
 use head::KEYS;
 use layout::MOST_TEXT;
 use layout::RAN_OVER;
 
-// Writes the plain text of the bytes that stand in a file for a tree, and answers its length; 4,097 where it is longer than 4,096.
+// Writes the plain text of the bytes that stand in a file for a tree, and answers its length; 4,609 where it is longer than 4,608.
 pub(crate) fn write_text(
     list: &[u8],
     n: usize,
@@ -32,7 +33,7 @@ pub(crate) fn write_text(
     requires { ⌜ Placed (now list) n (now places) ⌝ }
     requires { ⌜ Indexed (keysOf (pairsIn (now list) n (now places))) (now starts) (now links) ⌝ }
     requires { ⌜ length (now out) ≡ mostText ⌝ }
-    ensures { λ r. ⌜ TextAs (replaced (pairsIn (now (list .entry)) n (now (places .entry))) (uncommented (now (raw .entry)))) r (now (out .exit)) ⌝ }
+    ensures { λ r. ⌜ TextAs (replaced (pairsIn (now (list .entry)) n (now (places .entry))) (uncommented false (now (raw .entry)))) r (now (out .exit)) ⌝ }
     ensures { λ r. ⌜ length (now (out .exit)) ≡ mostText ⌝ }
 {
     let mut at = 0;
@@ -64,28 +65,46 @@ pub(crate) fn write_text(
     to
 }
 
-// Past the bytes from `from` on that stand in the plain text as they are: what may stand from a mark on, then `(` and commas. Most of
-// a text is in such runs, which are put at once; `from` where there are none.
+// Past the bytes from `from` on that stand in the plain text as they are: a run in quotes or what may stand from a mark on, then `(` and
+// commas. Most of a text is in such runs, which are put at once; `from` where there are none.
 fn kept_end(raw: &[u8], from: usize, free: bool) -> usize
     requires { ⌜ from < length (now raw) ⌝ }
     ensures { λ r. ⌜ KeptAs (now (raw .entry)) from free r ⌝ }
+    ensures { λ r. ⌜ QuotePast (now (raw .entry)) from r ⌝ }
 {
     let at = past_marked(raw, from, free);
     past_openings(raw, at)
 }
 
-// Past the kept bytes from `from` on, if a mark stands there or no token may be replaced; `from` if not.
+// Past the run in quotes at `from`, or the kept bytes from `from` on, if a mark stands there or no token may be replaced; `from` if not.
 fn past_marked(raw: &[u8], from: usize, free: bool) -> usize
     requires { ⌜ from < length (now raw) ⌝ }
     ensures { λ r. ⌜ KeptAs (now (raw .entry)) from free r ⌝ }
+    ensures { λ r. ⌜ QuotePast (now (raw .entry)) from r ⌝ }
 {
-    if is_mark(raw[from]) {
+    let b = raw[from];
+    if is_mark(b) {
         return past_kept(raw, from + 1);
+    }
+    if b == b'\'' {
+        return past_quotes(raw, from);
     }
     if free {
         return from;
     }
     past_kept(raw, from)
+}
+
+// Past the run in quotes at `from`; the length, where they never close.
+fn past_quotes(raw: &[u8], from: usize) -> usize
+    requires { ⌜ (from < length (now raw)) × (getD (now raw) from 0 ≡ apostrophe) ⌝ }
+    ensures { λ r. ⌜ QuotesAs (now (raw .entry)) from r ⌝ }
+{
+    let end = comments::past_next(raw, from + 1, b'\'');
+    if raw.len() < end {
+        return raw.len();
+    }
+    end
 }
 
 // Past the label bytes and marks from `from` on.
@@ -181,7 +200,7 @@ fn put_token(
     put_run(out, to, list, name.from, name.end)
 }
 
-// Puts the bytes of s from b up to e at `to`, and answers where they end; 4,097, and nothing is put, where they end past 4,096.
+// Puts the bytes of s from b up to e at `to`, and answers where they end; 4,609, and nothing is put, where they end past 4,608.
 fn put_run(out: &mut [u8], to: usize, s: &[u8], b: usize, e: usize) -> usize
     requires { ⌜ b ≤ e ⌝ }
     requires { ⌜ e ≤ length (now s) ⌝ }
@@ -226,7 +245,7 @@ fn put_words(out: &mut [u8], to: usize, s: &[u8], b: usize)
     fields::put64(out, to + 8, second);
 }
 
-// Puts a byte at `to`, and answers where it ends; 4,097 where there is no room for it.
+// Puts a byte at `to`, and answers where it ends; 4,609 where there is no room for it.
 fn put_byte(out: &mut [u8], to: usize, b: u8) -> usize
     requires { ⌜ to ≤ mostText ⌝ }
     requires { ⌜ length (now out) ≡ mostText ⌝ }
@@ -275,8 +294,5 @@ fn is_free(free: bool, b: u8) -> bool
     if text::is_blank(b) {
         return free;
     }
-    if b == b')' {
-        return false;
-    }
-    b != b':'
+    !is_mark(b)
 }

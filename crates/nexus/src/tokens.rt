@@ -8,7 +8,7 @@ ghost use Rattle.trees.specs.Nexus.{capital as capitalOf, isNameByte};
 ghost use Rattle.nexus.specs.Places.{part, TokenAt, NameEnd};
 use crate::comments;
 
-// A token's place: its bytes from `from` up to `end`; none, where they are the same.
+// The place of a token or a label: its bytes from `from` up to `end`; none, where they are the same.
 pub(crate) struct Token {
     pub from: usize,
     pub end: usize,

@@ -16,7 +16,7 @@ use layout::MOST_TEXT;
 use newick::Judged;
 use records::MOST_WORDS;
 
-// The verdict on the text of n bytes at the front of a buffer; 4,097 bytes stand for any text that is longer than 4,096.
+// The verdict on the text of n bytes at the front of a buffer; 4,609 bytes stand for any text that is longer than 4,608.
 pub(crate) fn judge_text(
     s: &mut [u8],
     starts: &[u8; KEYS],

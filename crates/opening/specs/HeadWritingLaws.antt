@@ -2,7 +2,7 @@
 --
 --   names-short            the names of a good list have at most 32 bytes
 --   checked                the three checks of an opening, as facts
---   few-names, few-first, few-second, first-fits     what the calls that write it ask
+--   few-first, few-second, first-fits     what the calls that write it ask
 --   written-calls          what these calls leave
 --   written-opening        the opening that was written is read
 --   written-none           no trees and no splits are counted
@@ -17,7 +17,7 @@ use mathlib.Core.List.{List, [], _∷_}
 use lib.ListN.{length, getD, drop, length-drop}
 use lib.Seq.{getD-drop, ext-getD}
 use Rattle.trees.specs.Plain.{every}
-use Rattle.trees.specs.Names.{namesIn, isName, goodNames}
+use Rattle.trees.specs.Names.{isName, goodNames}
 use Rattle.trees.specs.Opening.{Numbers, Opening, inRange, goodConstants, headBytes}
 use Rattle.theorems.specs.ListLaws.{and-left, and-right}
 use Rattle.theorems.specs.NameLaws.{isName-short}
@@ -28,10 +28,12 @@ use Rattle.fields.specs.Run.{cleared}
 use Rattle.fields.specs.RunLaws.{cleared-length, cleared-outside, number-cleared-inside}
 use Rattle.head.specs.Head.{numbersAt, nameAt, namesAt, firstAt, secondAt, openingAt}
 use Rattle.head.specs.HeadLaws.{names-length as listed-names, first-length as listed-first, second-length as listed-second, names-at, first-at, second-at}
-use Rattle.opening.specs.Given.{openingOf}
-use Rattle.opening.specs.Writing.{puts, withNames, inOrder, Lies}
+use Rattle.opening.specs.Given.{openingWith}
+use Rattle.opening.specs.Places.{Lies}
+use Rattle.opening.specs.PlacesLaws.{lies-name, lies-kept}
+use Rattle.opening.specs.Writing.{puts, withNames, inOrder}
 use Rattle.opening.specs.HeadWriting.{clear, numbered, called, firsts, written}
-use Rattle.opening.specs.WritingLaws.{puts-length, puts-outside, number-puts-outside, puts-at, names-length, names-outside, names-lie, lies-name, lies-kept}
+use Rattle.opening.specs.WritingLaws.{puts-length, puts-outside, number-puts-outside, puts-at, names-length, names-outside, names-lie}
 
 pub names-short : (ws : List (List ℕ)) → every isName ws ≡ true → (i : ℕ) → length (getD ws i []) ≤ 32
 unfolding every
@@ -41,15 +43,12 @@ names-short (w ∷ ws) e (suc i) = names-short ws (and-right (isName w) (every i
 
 -- ---- an opening that passed the checks
 
-pub checked : (x : Numbers) (list first second : List ℕ) → inRange x ≡ true → goodConstants x first second ≡ true
-    → goodNames (x .taxa) (namesIn list) ≡ true → GoodOpening (openingOf x list first second)
-checked x list first second a b d =
-    record { ranges = in-range x a; constants = constants x first second b; named = named (x .taxa) (namesIn list) d }
+pub checked : (x : Numbers) (ns : List (List ℕ)) (first second : List ℕ) → inRange x ≡ true → goodConstants x first second ≡ true
+    → goodNames (x .taxa) ns ≡ true → GoodOpening (openingWith x ns first second)
+checked x ns first second a b d =
+    record { ranges = in-range x a; constants = constants x first second b; named = named (x .taxa) ns d }
 
 module _ (o : Opening) (g : GoodOpening o) where
-  pub few-names : length (o .names) ≤ 64
-  few-names = omega (arith, g .named .count, g .ranges .most-taxa)
-
   pub few-first : length (o .first) ≤ 64
   few-first = omega (arith, g .constants .first-length, g .ranges .most-taxa)
 

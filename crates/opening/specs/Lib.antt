@@ -3,8 +3,9 @@ pub mod Given
 pub mod GivenLaws
 pub mod Walk
 pub mod WalkLaws
-pub mod NameList
-pub mod NameListLaws
+pub mod Places
+pub mod PlacesLaws
+pub mod NameTestLaws
 pub mod Writing
 pub mod WritingLaws
 pub mod HeadWriting

@@ -4,34 +4,27 @@
 --   puts-more, puts-all                 numbers as the loop puts them
 --   numbers-put                         the five numbers as the code puts them
 --   name-length, name-outside, name-lies     one name
---   lies-name, lies-kept                a name that lies in its place is read there
 --   names-length, names-outside, names-lie   names in their places
---   reached-none, reached-name, reached-more, reached-all     names as the loop writes them
---   copied-name                         a name of a list, as the code copies it
-use Prim.Native.Nat.{ℕ, zero, suc, _+_, _*_, _-_, _^_, _≤_, _<_}
+--   names-more, names-all               names as the loop writes them
+--   copied-name                         a name, as the code copies it
+use Prim.Native.Nat.{ℕ, zero, suc, _+_, _*_, _^_, _≤_, _<_}
 use native.Mathlib.Nat.{add-zero, mul-zero, mul-suc}
 use native.Mathlib.Numerals.{add-one}
 use native.Mathlib.Omega.{arith}
 use mathlib.Core.Path.{_≡_, refl, sym, ap, _∙_}
 use mathlib.Core.Logic.{_⊎_, inl, inr}
-use mathlib.Core.Bool.{true, _&&_}
 use mathlib.Core.List.{List, [], _∷_}
 use lib.ListN.{length, getD, set, take, drop, length-set, length-drop, drop-of-length-le}
-use lib.Seq.{slice, length-slice, length-take-le, take-length, drop-cons, getD-set-same, getD-set-other, getD-take, getD-drop, ext-getD}
-use Rattle.trees.specs.Plain.{every}
-use Rattle.trees.specs.Names.{namesIn, isName}
+use lib.Seq.{sets, length-take-le, take-all, drop-cons, getD-set-same, getD-set-other}
 use Rattle.trees.specs.Opening.{Numbers}
-use Rattle.theorems.specs.ListLaws.{and-left, and-right}
-use Rattle.theorems.specs.NameLaws.{isName-short}
 use Rattle.fields.specs.Field.{number, put}
 use Rattle.fields.specs.FieldLaws.{put-length, put-outside, number-same, number-put}
 use Rattle.fields.specs.Run.{copied}
 use Rattle.fields.specs.RunLaws.{copied-length, copied-inside, copied-outside}
 use Rattle.head.specs.Head.{nameAt}
-use Rattle.head.specs.HeadLaws.{run-slice}
-use Rattle.opening.specs.Walk.{namesFrom, NameEnd}
-use Rattle.opening.specs.WalkLaws.{names-all, names-none}
-use Rattle.opening.specs.Writing.{puts, withName, withNames, inOrder, Lies, Reached}
+use Rattle.opening.specs.Places.{Lies}
+use Rattle.opening.specs.PlacesLaws.{lies-kept}
+use Rattle.opening.specs.Writing.{puts, withName, withNames, inOrder}
 
 -- ---- numbers, one behind the other
 
@@ -119,26 +112,6 @@ module _ (s : List ℕ) (i : ℕ) (w : List ℕ) where
               copied-inside _ _ w 0 (length w) (17 + 33 * i + j) j (omega arith) (omega arith) (omega arith) (omega arith) (omega arith);
         }
 
--- ---- a name that lies in its place
-
-pub lies-name : (s : List ℕ) (i : ℕ) (w : List ℕ) → Lies s i w → 17 + 33 * i + length w ≤ length s → nameAt s i ≡ w
-unfolding nameAt
-lies-name s i w p f =
-    let d = length-drop (17 + 33 * i) s in
-    let n : length (take (length w) (drop (17 + 33 * i) s)) ≡ length w = length-take-le (length w) (drop (17 + 33 * i) s) (omega arith) in
-    rw (p .size)
-    (ext-getD 0 _ w n (λ j h.
-    let l : j < length w = omega arith in
-    rw (getD-take, getD-drop) (p .bytes j l)))
-
-pub lies-kept : (s t : List ℕ) (i : ℕ) (w : List ℕ) → length w ≤ 32
-    → ((j : ℕ) → 16 + 33 * i ≤ j → j < 49 + 33 * i → getD t j 0 ≡ getD s j 0) → Lies s i w → Lies t i w
-lies-kept s t i w short h p =
-    record {
-      size = h (16 + 33 * i) (omega arith) (omega arith) ∙ p .size;
-      bytes = λ j l. h (17 + 33 * i + j) (omega arith) (omega arith) ∙ p .bytes j l;
-    }
-
 -- ---- names in their places
 
 pub names-length : (ws : List (List ℕ)) (s : List ℕ) (i : ℕ) → length (withNames s i ws) ≡ length s
@@ -170,53 +143,28 @@ names-lie (w ∷ ws) s i (suc j) short f h =
     let l = name-length s i w in
     rw e (names-lie ws (withName s i w) (suc i) j (λ m. short (suc m)) (omega arith) (omega arith))
 
--- ---- names as the loop writes them
+-- ---- names as the loop writes them: those from i on are left
 
-module _ (list s : List ℕ) where
-  pub reached-none : length (namesIn list) ≤ 64 → every isName (namesIn list) ≡ true → Reached list s 0 0 s
-  reached-none few good =
-      let e = names-all list in
-      record { same = refl; few = rw e (omega arith); good = rw e good; rest = rw e refl }
-
-  reached-good : (t : List ℕ) (at i e : ℕ) → Reached list s at i t → NameEnd list at e
-      → (isName (slice at e list) && every isName (namesFrom list (e + 1))) ≡ true
-  unfolding every
-  reached-good t at i e p q = sym (ap (every isName) (q .parts)) ∙ p .good
-
-  -- the next name has its place, and fits it
-  pub reached-name : (t : List ℕ) (at i e : ℕ) → Reached list s at i t → NameEnd list at e → (i < 64) × (e ≤ at + 32)
-  reached-name t at i e p q =
-      let n = p .few in
-      let l : length (namesFrom list at) ≡ suc (length (namesFrom list (e + 1))) = ap length (q .parts) in
-      let w = isName-short (slice at e list) (and-left _ (every isName (namesFrom list (e + 1))) (reached-good t at i e p q)) in
-      let k = length-slice at e list (q .within) in
-      let a = q .past in
-      (omega arith, omega arith)
-
-  pub reached-more : (t u : List ℕ) (at i e : ℕ) → Reached list s at i t → NameEnd list at e → u ≡ withName t i (slice at e list)
-      → Reached list s (e + 1) (i + 1) u
+module _ (ns : List (List ℕ)) (s : List ℕ) (i : ℕ) where
+  pub names-more : i < length ns → withNames s i (drop i ns) ≡ withNames (withName s i (getD ns i [])) (i + 1) (drop (i + 1) ns)
   unfolding withNames
-  reached-more t u at i e p q d =
-      let l : length (namesFrom list at) ≡ suc (length (namesFrom list (e + 1))) = ap length (q .parts) in
-      let n = p .few in
-      record {
-        same = rw d (name-length t i (slice at e list) ∙ p .same);
-        few = omega arith;
-        good = and-right (isName (slice at e list)) _ (reached-good t at i e p q);
-        rest = rw (d, add-one i) (sym (ap (withNames t i) (q .parts)) ∙ p .rest);
-      }
+  names-more h = rw (drop-cons ns i [] h, add-one i)
 
-  pub reached-all : (t : List ℕ) (at i : ℕ) → Reached list s at i t → length list < at → t ≡ withNames s 0 (namesIn list)
+  pub names-all : length ns ≤ i → withNames s i (drop i ns) ≡ s
   unfolding withNames
-  reached-all t at i p h = sym (ap (withNames t i) (names-none list at h)) ∙ p .rest
+  names-all h = rw (drop-of-length-le ns h)
 
--- ---- a name of a list
+-- ---- a name, copied with the byte of its length
 
-pub copied-name : (s t : List ℕ) (i b e : ℕ) → b ≤ e → e ≤ length t
-    → copied (set s (16 + 33 * i) (e - b)) (17 + 33 * i) t b (e - b) ≡ withName s i (slice b e t)
-unfolding withName copied
-copied-name s t i b e p h =
-    let z : b + (e - b) ≡ e = omega arith in
-    let r : take (e - b) (drop b t) ≡ slice b e t = run-slice b (e - b) t ∙ rw z in
-    let n = length-slice b e t h in
-    rw (r, take-length (slice b e t), n)
+pub copied-name : (s t : List ℕ) (i n : ℕ) → n ≡ getD t (16 + 33 * i) 0 → 17 + 33 * i + n ≤ length t
+    → copied s (16 + 33 * i) t (16 + 33 * i) (n + 1) ≡ withName s i (nameAt t i)
+unfolding withName copied nameAt
+copied-name s t i n q h =
+    let k : suc (16 + 33 * i) ≡ 17 + 33 * i = omega arith in
+    let d = length-drop (17 + 33 * i) t in
+    let w : List ℕ = take n (drop (17 + 33 * i) t) in
+    let l : length w ≡ n = length-take-le n (drop (17 + 33 * i) t) (omega arith) in
+    let e : take (n + 1) (drop (16 + 33 * i) t) ≡ n ∷ w = rw (add-one n, drop-cons t (16 + 33 * i) 0 (omega arith), k, ← q) refl in
+    ap (sets s (16 + 33 * i)) e
+    ∙ ap (λ (m : ℕ). sets (set s (16 + 33 * i) n) m w) k
+    ∙ rw (← q, l) (ap (sets (set s (16 + 33 * i) n) (17 + 33 * i)) (sym (take-all n w (omega arith))))

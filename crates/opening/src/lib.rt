@@ -1,31 +1,33 @@
 // The checks of an opening's arguments, and the writing of a store's head.
 //
-// Its contracts cite `specs/Given.antt` (`numbersOf`, `openingOf`); crate trees, `specs/Opening.antt`
-// and `specs/Names.antt`, says what an opening is and what is refused, and crate head,
-// `specs/Head.antt`, how it lies in the bytes. The laws that callers use stand in `GivenLaws`;
-// `Walk`, `NameList` and `Writing` say what the functions between the public ones do.
+// Its contracts cite `specs/Given.antt` (`numbersOf`, `openingWith`) and `specs/Places.antt`
+// (`firstNames`); crate trees, `specs/Opening.antt` and `specs/Names.antt`, says what an opening is and
+// what is refused, and crate head, `specs/Head.antt`, how it lies in the bytes. The laws that callers
+// use stand in `GivenLaws`; `Walk` and `Writing` say what the functions between the public ones do.
 ghost use mathlib.Core.Path.{_≡_};
 ghost use mathlib.Core.Bool.{true};
-ghost use Prim.Native.Nat.{ℕ, _+_, _*_, _≤_, _<_};
+ghost use Prim.Native.Nat.{ℕ, _≤_, _<_};
 ghost use lib.Dec.{ltb};
 ghost use lib.ListN.{length, getD, drop};
-ghost use lib.Seq.{slice};
-ghost use Rattle.trees.specs.Plain.{every, sameBytes, inNames};
-ghost use Rattle.trees.specs.Text.{isLabelByte};
-ghost use Rattle.trees.specs.Names.{namesIn, isName, different, goodNames};
+ghost use Rattle.trees.specs.Plain.{every};
+ghost use Rattle.trees.specs.Names.{goodNames};
 ghost use Rattle.trees.specs.Opening.{between, inRange, storeSize, goodConstants, headBytes};
 ghost use Rattle.theorems.specs.OpeningLaws.{InRange};
 ghost use Rattle.fields.specs.Field.{number};
-ghost use Rattle.head.specs.Head.{openingAt};
-ghost use Rattle.opening.specs.Given.{numbersOf, openingOf};
-ghost use Rattle.opening.specs.Walk.{namesFrom, NameEnd};
-ghost use Rattle.opening.specs.NameList.{allNames};
+ghost use Rattle.head.specs.Head.{nameAt, openingAt};
+ghost use Rattle.opening.specs.Given.{numbersOf, openingWith};
+ghost use Rattle.opening.specs.Places.{firstNames};
 ghost use Rattle.opening.specs.Writing.{puts, withName, withNames, inOrder};
 ghost use Rattle.opening.specs.HeadWriting.{written};
 use layout::HEAD_BYTES;
 use layout::LANE_BYTES;
 use layout::MOST_ROOM;
 use layout::TREE_BYTES;
+
+mod names;
+
+pub use names::names_good;
+pub use names::read_names;
 
 // Whether the numbers of an opening are in their ranges.
 pub fn numbers_in_range(taxa: u32, lanes: u32, tree_room: u32, split_room: u32, places: u32) -> bool
@@ -97,136 +99,7 @@ fn all_below(list: &[u64], most: u64) -> bool
     true
 }
 
-// Whether the list has a name for each taxon, all different, of 1 to 32 label bytes each.
-pub fn names_good(list: &[u8], taxa: u32) -> bool
-    ensures { λ r. ⌜ r ≡ goodNames taxa (namesIn (now (list .entry))) ⌝ }
-{
-    if !all_names(list, taxa) {
-        return false;
-    }
-    all_different(list)
-}
-
-// Whether the list has a name for each taxon; it ends at the first that is too many, or none.
-fn all_names(list: &[u8], taxa: u32) -> bool
-    ensures { λ r. ⌜ r ≡ allNames taxa (namesIn (now (list .entry))) ⌝ }
-{
-    let mut at = 0;
-    let mut left = taxa;
-    while at <= list.len() {
-        if left == 0 {
-            return false;
-        }
-        let e = name_end(list, at);
-        if !is_name(list, at, e) {
-            return false;
-        }
-        at = e + 1;
-        left -= 1;
-    }
-    left == 0
-}
-
-// Whether no name of the list comes twice.
-fn all_different(list: &[u8]) -> bool
-    ensures { λ r. ⌜ r ≡ different (namesIn (now (list .entry))) ⌝ }
-{
-    let mut at = 0;
-    while at <= list.len() {
-        let e = name_end(list, at);
-        if comes_again(list, at, e) {
-            return false;
-        }
-        at = e + 1;
-    }
-    true
-}
-
-// Whether the name from b up to e is one of those behind it.
-fn comes_again(list: &[u8], b: usize, e: usize) -> bool
-    requires { ⌜ b ≤ e ⌝ }
-    requires { ⌜ e ≤ length (now list) ⌝ }
-    ensures { λ r. ⌜ r ≡ inNames (slice b e (now (list .entry))) (namesFrom (now (list .entry)) (e + 1)) ⌝ }
-{
-    let mut at = e + 1;
-    while at <= list.len() {
-        let z = name_end(list, at);
-        if same_names(list, at, z, b, e) {
-            return true;
-        }
-        at = z + 1;
-    }
-    false
-}
-
-// Whether the bytes of the list from a up to z are those from b up to e.
-pub fn same_names(list: &[u8], a: usize, z: usize, b: usize, e: usize) -> bool
-    requires { ⌜ (a ≤ z) × (z ≤ length (now list)) ⌝ }
-    requires { ⌜ (b ≤ e) × (e ≤ length (now list)) ⌝ }
-    ensures { λ r. ⌜ r ≡ sameBytes (slice a z (now (list .entry))) (slice b e (now (list .entry))) ⌝ }
-{
-    if z - a != e - b {
-        return false;
-    }
-    let mut i = a;
-    let mut j = b;
-    while i < z {
-        if list[i] != list[j] {
-            return false;
-        }
-        i += 1;
-        j += 1;
-    }
-    true
-}
-
-// Whether the bytes of the list from b up to e are a name: 1 to 32 label bytes.
-pub fn is_name(list: &[u8], b: usize, e: usize) -> bool
-    requires { ⌜ b ≤ e ⌝ }
-    requires { ⌜ e ≤ length (now list) ⌝ }
-    ensures { λ r. ⌜ r ≡ isName (slice b e (now (list .entry))) ⌝ }
-{
-    if e - b < 1 {
-        return false;
-    }
-    if 32 < e - b {
-        return false;
-    }
-    all_label_bytes(list, b, e)
-}
-
-// Whether the bytes of the list from b up to e are label bytes.
-fn all_label_bytes(list: &[u8], b: usize, e: usize) -> bool
-    requires { ⌜ b ≤ e ⌝ }
-    requires { ⌜ e ≤ length (now list) ⌝ }
-    ensures { λ r. ⌜ r ≡ every isLabelByte (slice b e (now (list .entry))) ⌝ }
-{
-    let mut i = b;
-    while i < e {
-        if !text::is_label_byte(list[i]) {
-            return false;
-        }
-        i += 1;
-    }
-    true
-}
-
-// The end of the name that begins at b: the next space, or the end of the list.
-fn name_end(list: &[u8], b: usize) -> usize
-    requires { ⌜ b ≤ length (now list) ⌝ }
-    ensures { λ r. ⌜ NameEnd (now (list .entry)) b r ⌝ }
-{
-    let mut e = b;
-    while e < list.len() {
-        if list[e] == 32 {
-            return e;
-        }
-        e += 1;
-    }
-    e
-}
-
-// Writes an opening into the head of a store, where nothing is counted yet.
+// Writes an opening, with the names that lie in their places, into the head of a store, where nothing is counted yet.
 pub fn write_head(
     s: &mut [u8],
     taxa: u32,
@@ -234,18 +107,19 @@ pub fn write_head(
     tree_room: u32,
     split_room: u32,
     places: u32,
-    list: &[u8],
+    names: &[u8],
     first: &[u64],
     second: &[u64],
 )
     requires { ⌜ headBytes ≤ length (now s) ⌝ }
     requires { ⌜ inRange (numbersOf taxa lanes «tree_room» «split_room» places) ≡ true ⌝ }
     requires { ⌜ goodConstants (numbersOf taxa lanes «tree_room» «split_room» places) (now first) (now second) ≡ true ⌝ }
-    requires { ⌜ goodNames taxa (namesIn (now list)) ≡ true ⌝ }
+    requires { ⌜ headBytes ≤ length (now names) ⌝ }
+    requires { ⌜ goodNames taxa (firstNames taxa (now names)) ≡ true ⌝ }
     ensures { λ r. ⌜ now (s .exit) ≡ written (now (s .entry))
-        (openingOf (numbersOf taxa lanes «tree_room» «split_room» places) (now (list .entry)) (now (first .entry)) (now (second .entry))) ⌝ }
+        (openingWith (numbersOf taxa lanes «tree_room» «split_room» places) (firstNames taxa (now (names .entry))) (now (first .entry)) (now (second .entry))) ⌝ }
     ensures { λ r. ⌜ openingAt (now (s .exit))
-        ≡ openingOf (numbersOf taxa lanes «tree_room» «split_room» places) (now (list .entry)) (now (first .entry)) (now (second .entry)) ⌝ }
+        ≡ openingWith (numbersOf taxa lanes «tree_room» «split_room» places) (firstNames taxa (now (names .entry))) (now (first .entry)) (now (second .entry)) ⌝ }
     ensures { λ r. ⌜ number 2 (now (s .exit)) 10 ≡ 0 ⌝ }
     ensures { λ r. ⌜ number 2 (now (s .exit)) 12 ≡ 0 ⌝ }
     ensures { λ r. ⌜ drop headBytes (now (s .exit)) ≡ drop headBytes (now (s .entry)) ⌝ }
@@ -253,7 +127,7 @@ pub fn write_head(
 {
     fields::clear_run(s, 0, HEAD_BYTES);
     write_numbers(s, taxa, lanes, tree_room, split_room, places);
-    write_names(s, list);
+    write_names(s, names, taxa as usize);
     write_first(s, first);
     write_second(s, second);
 }
@@ -271,33 +145,30 @@ fn write_numbers(s: &mut [u8], taxa: u32, lanes: u32, tree_room: u32, split_room
     fields::put16(s, 8, places as u16);
 }
 
-// Writes the names of a list, each into the place of its taxon.
-fn write_names(s: &mut [u8], list: &[u8])
+// Writes the first n names, each into its place.
+fn write_names(s: &mut [u8], names: &[u8], n: usize)
     requires { ⌜ headBytes ≤ length (now s) ⌝ }
-    requires { ⌜ length (namesIn (now list)) ≤ 64 ⌝ }
-    requires { ⌜ every isName (namesIn (now list)) ≡ true ⌝ }
-    ensures { λ r. ⌜ now (s .exit) ≡ withNames (now (s .entry)) 0 (namesIn (now (list .entry))) ⌝ }
+    requires { ⌜ headBytes ≤ length (now names) ⌝ }
+    requires { ⌜ n ≤ 64 ⌝ }
+    ensures { λ r. ⌜ now (s .exit) ≡ withNames (now (s .entry)) 0 (firstNames n (now (names .entry))) ⌝ }
 {
-    let mut at = 0;
     let mut i = 0;
-    while at <= list.len() {
-        let e = name_end(list, at);
-        write_name(s, i, list, at, e);
-        at = e + 1;
+    while i < n {
+        write_name(s, names, i);
         i += 1;
     }
 }
 
-// Writes the name of taxon i, the bytes of the list from b up to e: its length, then its bytes.
-fn write_name(s: &mut [u8], i: usize, list: &[u8], b: usize, e: usize)
+// Writes the name in place i, the byte of its length before it.
+fn write_name(s: &mut [u8], names: &[u8], i: usize)
     requires { ⌜ headBytes ≤ length (now s) ⌝ }
+    requires { ⌜ headBytes ≤ length (now names) ⌝ }
     requires { ⌜ i < 64 ⌝ }
-    requires { ⌜ (b ≤ e) × (e ≤ b + 32) ⌝ }
-    requires { ⌜ e ≤ length (now list) ⌝ }
-    ensures { λ r. ⌜ now (s .exit) ≡ withName (now (s .entry)) i (slice b e (now (list .entry))) ⌝ }
+    ensures { λ r. ⌜ now (s .exit) ≡ withName (now (s .entry)) i (nameAt (now (names .entry)) i) ⌝ }
 {
-    s[16 + 33 * i] = (e - b) as u8;
-    fields::copy_from(s, 17 + 33 * i, list, b, e - b);
+    let from = 16 + 33 * i;
+    let n = names::name_length(names, i);
+    fields::copy_from(s, from, names, from, n + 1);
 }
 
 // Writes the first list's constants, two bytes each.

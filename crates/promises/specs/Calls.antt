@@ -9,11 +9,13 @@
 --   told lent h c        what the call c answers of the collection h in so many lent bytes
 --   after h c            what is held after it
 --   toldAll, afterAll    the same of the calls cs, one after another
---   cut n p              the piece p in pieces: n texts, each with its semicolon, and what is behind them
---   textsIn f room       the plain texts that the NEXUS file f hands in, with room for so many verdicts
---   handed n c           the feedings and closings that the call c comes to, on n lanes: a batch feeds its texts one after another, and a file
---                        hands in its plain texts
---   handedAll n cs       those of the calls cs, one after another
+--   cut n q p            the piece p in pieces: n texts, each with its semicolon, and what is behind them; q: whether quotes are open before p
+--   fileTexts f room     the plain texts that the NEXUS file f hands in, with room for so many verdicts
+--   handed h c           the feedings and closings that the call c on the collection h comes to: a batch feeds its texts one after another, and a
+--                        file hands in its plain texts
+--   handedAll h cs       those of the calls cs, one after another
+--   LeavesMade j h c     the call c on the collection h neither ends nor closes the text of lane j, nor is it a batch that would
+--   QuietMade j h cs     so do all the calls cs, one after another
 --   verdictOf v          the verdict that a batch or a file gives as the number v
 --   verdictsTold as      the verdicts among the answers as, in order, those of a batch or a file in their places
 --   isCollisions c       the call c asks for the collision number
@@ -25,16 +27,17 @@ use mathlib.Core.Option.{none, some}
 use lib.Dec.{ltb}
 use lib.ListN.{length, take, drop}
 use Rattle.trees.specs.Plain.{if_then_else_, Answer, refused, gives}
-use Rattle.trees.specs.Text.{semicolon}
+use Rattle.trees.specs.Text.{semicolon, beforeEnd}
 use Rattle.trees.specs.Names.{different}
 use Rattle.trees.specs.Opening.{Numbers, opening}
-use Rattle.trees.specs.Held.{Held, beforeSemicolon}
-use Rattle.trees.specs.Batch.{semicolons, Batched, batch}
+use Rattle.trees.specs.Held.{Held, laneOf, openIn}
+use Rattle.trees.specs.Batch.{textsIn, Batched, batch}
 use Rattle.trees.specs.Nexus.{File}
 use Rattle.trees.specs.NexusReading.{readFile}
 use Rattle.trees.specs.NexusCall.{keysOf, plainTexts, nexus}
 use Rattle.trees.specs.Questions.{treesHeld, splitsHeld, splitList, splitNumber, treeNumber, oneSidedOf, doubledOf, matrixOf, collisionsOf, strictOf, majorityOf, bothOf, writtenOf}
 use Rattle.trees.specs.Runs.{Call, feed, hand, Heard, answer, next, Final, acceptedAs, refusedWith, finals}
+use Rattle.theorems.specs.Quiet.{Leaves}
 use Rattle.answers.specs.Filled.{lengthGiven, front, firstOf, secondOf, lengthsGiven}
 
 -- ---- questions
@@ -149,34 +152,54 @@ afterAll h (c ∷ cs) = afterAll (after h c) cs
 
 -- ---- the texts that are handed in
 
--- "up to the first semicolon and that semicolon, or all if there is none"
-unfoldable pub cut : ℕ → List ℕ → List (List ℕ)
-unfolding beforeSemicolon
-cut zero p = p ∷ []
-cut (suc n) p = (beforeSemicolon p ++ semicolon ∷ []) ∷ cut n (drop (suc (length (beforeSemicolon p))) p)
+-- "up to the first semicolon and that semicolon, or all if there is none": the first that ends a text, behind which no quotes are open
+unfoldable pub cut : ℕ → Bool → List ℕ → List (List ℕ)
+unfolding beforeEnd
+cut zero q p = p ∷ []
+cut (suc n) q p = (beforeEnd q p ++ semicolon ∷ []) ∷ cut n false (drop (suc (length (beforeEnd q p))) p)
 
 -- a file that is refused hands in nothing
 unfoldable pub textsFor : File → ℕ → List (List ℕ)
 unfolding different keysOf plainTexts
 textsFor x room = if different (keysOf (x .pairs)) then if ltb room (length (x .texts)) then [] else plainTexts x else []
 
-unfoldable pub textsIn : List ℕ → ℕ → List (List ℕ)
+unfoldable pub fileTexts : List ℕ → ℕ → List (List ℕ)
 unfolding readFile textsFor
-textsIn f room = elim (readFile f) [ none ↦ [] | some x ↦ textsFor x room ]
+fileTexts f room = elim (readFile f) [ none ↦ [] | some x ↦ textsFor x room ]
 
 -- a batch that is refused, for its lane or for its buffer, takes nothing
-unfoldable pub handed : ℕ → Made → List Call
-unfolding semicolons cut textsIn
-handed n (one c) = c ∷ []
-handed n (many l p v) = if ltb l n then if ltb (length v) (semicolons p) then [] else map (feed l) (cut (semicolons p) p) else []
-handed n (file f v) = map hand (textsIn f (length v))
-handed n (ask q) = []
-handed n (reopen x names first second) = []
+unfoldable pub handed : Held → Made → List Call
+unfolding laneOf openIn textsIn cut fileTexts
+handed h (one c) = c ∷ []
+handed h (many l p v) =
+    let q = openIn (laneOf h l) in
+    if ltb l (h .opening .numbers .lanes) then
+    if ltb (length v) (textsIn q p) then [] else map (feed l) (cut (textsIn q p) q p)
+    else []
+handed h (file f v) = map hand (fileTexts f (length v))
+handed h (ask q) = []
+handed h (reopen x names first second) = []
 
-unfoldable pub handedAll : ℕ → List Made → List Call
-unfolding handed
-handedAll n [] = []
-handedAll n (c ∷ cs) = handed n c ++ handedAll n cs
+unfoldable pub handedAll : Held → List Made → List Call
+unfolding handed after
+handedAll h [] = []
+handedAll h (c ∷ cs) = handed h c ++ handedAll (after h c) cs
+
+-- ---- unfinished text
+
+-- a batch whose piece ends a text is none of these, also where it is refused for its buffer: how many texts it has goes by the lane's own
+unfoldable pub LeavesMade : ℕ → Held → Made → Type 0
+unfolding Leaves
+LeavesMade j h (one c) = Leaves j h c
+LeavesMade j h (many l p v) = Leaves j h (feed l p)
+LeavesMade j h (file f v) = Unit {0}
+LeavesMade j h (ask q) = Unit {0}
+LeavesMade j h (reopen x names first second) = Unit {0}
+
+unfoldable pub QuietMade : ℕ → Held → List Made → Type 0
+unfolding LeavesMade after
+QuietMade j h [] = Unit {0}
+QuietMade j h (c ∷ cs) = LeavesMade j h c × QuietMade j (after h c) cs
 
 -- ---- verdicts
 

@@ -6,18 +6,18 @@
 --   masks       is-within-once, are-apart-once, is-proper-once, count-taxa-once, lowest-taxon-once, comes-before-once, is-same-once,
 --               is-empty-once, every-taxon-once, side-once, union-of-once, taxa-without-once, without-lowest-once, has-taxon-once,
 --               only-taxon-once
---   text        is-blank-once, is-label-byte-once, has-byte-once, has-label-byte-once
+--   text        is-blank-once, is-label-byte-once, is-quoted-byte-once, has-byte-once, text-end-once, count-texts-once,
+--               open-after-once, is-plain-label-once, read-label-once, read-up-to-once
 --   words       decimal-once
 --   records     mask-of-once, place-of-once, identifier-of-once, insert-record-once, put-record-once
 --   head        taxa-once, lanes-once, tree-room-once, split-room-once, places-once, first-constant-once, second-constant-once, find-
 --               taxon-once, key-of-once, same-runs-once
---   opening     numbers-in-range-once, constants-good-once, names-good-once, is-name-once, same-names-once, store-size-once, write-
---               head-once
+--   opening     numbers-in-range-once, constants-good-once, read-names-once, names-good-once, store-size-once, write-head-once
 --   layout      trees-held-once, splits-held-once, lane-from-once, tree-from-once, masks-from-once, identifiers-from-once, counts-
 --               from-once, links-from-once, order-from-once, places-from-once, number16-once
 --   rows        row-of-once, mask-at-once, identifier-at-once, count-at-once, link-at-once, start-at-once, rows-tree-from-once,
 --               splits-in-once, row-in-once, copy-tree-once
---   lanes       lane-length-once, text-of-once, closing-answer-once
+--   lanes       lane-length-once, text-of-once, quotes-open-once, closing-answer-once
 --   distances   distances-one-sided-once, distances-doubled-once, write-row-once, write-matrix-once
 --   colliding   collision-number-once
 --   consensus   write-strict-once, write-majority-once
@@ -49,8 +49,14 @@ use Rattle.masks.proofs.has_taxon.Reads as has-taxon
 use Rattle.masks.proofs.only_taxon.Reads as only-taxon
 use Rattle.text.proofs.is_blank.Reads as is-blank
 use Rattle.text.proofs.is_label_byte.Reads as is-label-byte
+use Rattle.text.proofs.is_quoted_byte.Reads as is-quoted-byte
 use Rattle.text.proofs.has_byte.Reads as has-byte
-use Rattle.text.proofs.has_label_byte.Reads as has-label-byte
+use Rattle.text.proofs.text_end.Reads as text-end
+use Rattle.text.proofs.count_texts.Reads as count-texts
+use Rattle.text.proofs.open_after.Reads as open-after
+use Rattle.text.proofs.is_plain_label.Reads as is-plain-label
+use Rattle.text.proofs.read_label.Reads as read-label
+use Rattle.text.proofs.read_up_to.Reads as read-up-to
 use Rattle.words.proofs.decimal.Reads as decimal
 use Rattle.records.proofs.mask_of.Reads as mask-of
 use Rattle.records.proofs.place_of.Reads as place-of
@@ -69,9 +75,8 @@ use Rattle.head.proofs.key_of.Reads as key-of
 use Rattle.head.proofs.same_runs.Reads as same-runs
 use Rattle.opening.proofs.numbers_in_range.Reads as numbers-in-range
 use Rattle.opening.proofs.constants_good.Reads as constants-good
+use Rattle.opening.proofs.read_names.Reads as read-names
 use Rattle.opening.proofs.names_good.Reads as names-good
-use Rattle.opening.proofs.is_name.Reads as is-name
-use Rattle.opening.proofs.same_names.Reads as same-names
 use Rattle.opening.proofs.store_size.Reads as store-size
 use Rattle.opening.proofs.write_head.Reads as write-head
 use Rattle.layout.proofs.trees_held.Reads as trees-held
@@ -97,6 +102,7 @@ use Rattle.rows.proofs.row_in.Reads as row-in
 use Rattle.rows.proofs.copy_tree.Reads as copy-tree
 use Rattle.lanes.proofs.lane_length.Reads as lane-length
 use Rattle.lanes.proofs.text_of.Reads as text-of
+use Rattle.lanes.proofs.quotes_open.Reads as quotes-open
 use Rattle.lanes.proofs.closing_answer.Reads as closing-answer
 use Rattle.distances.proofs.one_sided.Reads as distances-one-sided
 use Rattle.distances.proofs.doubled.Reads as distances-doubled
@@ -105,7 +111,7 @@ use Rattle.distances.proofs.write_matrix.Reads as write-matrix
 use Rattle.colliding.proofs.collision_number.Reads as collision-number
 use Rattle.consensus.proofs.write_strict.Reads as write-strict
 use Rattle.consensus.proofs.write_majority.Reads as write-majority
-use Rattle.promises.specs.Once.{Once, AnswerOnce, arg1, arg2, arg3}
+use Rattle.promises.specs.Once.{Once, AnswerOnce, arg1, arg2, arg3, arg4}
 use Rattle.promises.specs.Outcomes.{both, finish-both, filled-both}
 
 -- ---- numbers in bytes, runs of bytes
@@ -190,13 +196,31 @@ pub is-blank-once : AnswerOnce is-blank.Post
 is-blank-once k x q r y z a b = both (a .0) (b .0)
 
 pub is-label-byte-once : AnswerOnce is-label-byte.Post
-is-label-byte-once k x q r y z a b = both (a .0) (b .0)
+is-label-byte-once k x q r y z a b = both a b
+
+pub is-quoted-byte-once : AnswerOnce is-quoted-byte.Post
+is-quoted-byte-once k x q r y z a b = both a b
 
 pub has-byte-once : AnswerOnce has-byte.Post
 has-byte-once k x q r y z a b = both a b
 
-pub has-label-byte-once : AnswerOnce has-label-byte.Post
-has-label-byte-once k x q r y z a b = both a b
+pub text-end-once : AnswerOnce text-end.Post
+text-end-once k x q r y z a b = both (a .0) (b .0)
+
+pub count-texts-once : AnswerOnce count-texts.Post
+count-texts-once k x q r y z a b = both a b
+
+pub open-after-once : AnswerOnce open-after.Post
+open-after-once k x q r y z a b = both a b
+
+pub is-plain-label-once : AnswerOnce is-plain-label.Post
+is-plain-label-once k x q r y z a b = both a b
+
+pub read-label-once : Once read-label.Post (λ x q r y z. (q ≡ r) × (now (arg4 y) ≡ now (arg4 z)))
+read-label-once k x q r y z a b = (both (a .counted) (b .counted), both (a .stored) (b .stored))
+
+pub read-up-to-once : Once read-up-to.Post (λ x q r y z. (q ≡ r) × (now (arg4 y) ≡ now (arg4 z)))
+read-up-to-once k x q r y z a b = (both (a .counted) (b .counted), both (a .stored) (b .stored))
 
 pub decimal-once : AnswerOnce decimal.Post
 decimal-once k x q r y z a b = both a b
@@ -256,14 +280,11 @@ numbers-in-range-once k x q r y z a b = both a b
 pub constants-good-once : AnswerOnce constants-good.Post
 constants-good-once k x q r y z a b = both (a 0 0 0) (b 0 0 0)
 
+pub read-names-once : AnswerOnce read-names.Post
+read-names-once k x q r y z a b = both (a .0) (b .0)
+
 pub names-good-once : AnswerOnce names-good.Post
 names-good-once k x q r y z a b = both a b
-
-pub is-name-once : AnswerOnce is-name.Post
-is-name-once k x q r y z a b = both a b
-
-pub same-names-once : AnswerOnce same-names.Post
-same-names-once k x q r y z a b = both a b
 
 pub store-size-once : AnswerOnce store-size.Post
 store-size-once k x q r y z a b = both a b
@@ -343,6 +364,9 @@ lane-length-once k x q r y z a b = both (a .0) (b .0)
 
 pub text-of-once : Once text-of.Post (λ x q r y z. now q ≡ now r)
 text-of-once k x q r y z a b = both a b
+
+pub quotes-open-once : AnswerOnce quotes-open.Post
+quotes-open-once k x q r y z a b = both a b
 
 pub closing-answer-once : AnswerOnce closing-answer.Post
 closing-answer-once k x q r y z a b = finish-both q r a b

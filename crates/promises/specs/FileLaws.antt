@@ -22,7 +22,7 @@ use Rattle.trees.specs.NexusCall.{keysOf, plainTexts, onText, handing, handedIn
 use Rattle.trees.specs.Runs.{Call, hand, Heard, answer, next, answers, ending, Final, finals}
 use Rattle.theorems.specs.NexusFedLaws.{heardVerdict}
 use Rattle.answers.specs.Filled.{lengthGiven, front}
-use Rattle.promises.specs.Calls.{file, Told, batched, numbersIn, afterBatch, told, textsFor, textsIn, verdictOf, verdictsTold}
+use Rattle.promises.specs.Calls.{file, Told, batched, numbersIn, afterBatch, told, textsFor, fileTexts, verdictOf, verdictsTold}
 use Rattle.promises.specs.VerdictNumbers.{verdict-small, finished-settled, settled-read}
 
 -- ---- the texts that are handed in
@@ -56,8 +56,8 @@ texts room o = elim o as (λ _. List (List ℕ)) [ none ↦ [] | some x ↦ text
 
 -- what holds of the three refusals, which hand in nothing, and of the texts that are handed in
 by-file : (P : Answer Batched → List (List ℕ) → Type 0) (h : Held) (f : List ℕ) (room : ℕ)
-    → ((k : ℕ) → P (refused k) []) → ((ts : List (List ℕ)) → P (gives (handing h ts)) ts) → P (nexus h f room) (textsIn f room)
-unfolding nexus textsIn
+    → ((k : ℕ) → P (refused k) []) → ((ts : List (List ℕ)) → P (gives (handing h ts)) ts) → P (nexus h f room) (fileTexts f room)
+unfolding nexus fileTexts
 by-file P h f room r g = go (readFile f)
   where
     some-file : (x : File) (b c : Bool)
@@ -70,7 +70,7 @@ by-file P h f room r g = go (readFile f)
     go none = r 15
     go (some x) = unfold handedIn textsFor in some-file x (different (keysOf (x .pairs))) (ltb room (length (x .texts)))
 
-pub file-after : (h : Held) (f : List ℕ) (room : ℕ) → afterBatch h (nexus h f room) ≡ ending h (map hand (textsIn f room))
+pub file-after : (h : Held) (f : List ℕ) (room : ℕ) → afterBatch h (nexus h f room) ≡ ending h (map hand (fileTexts f room))
 unfolding afterBatch ending
 file-after h f room = by-file (λ a ts. afterBatch h a ≡ ending h (map hand ts)) h f room (λ k. refl) (λ ts. handing-ends h ts)
 
@@ -79,7 +79,7 @@ abbrev toldOf : Answer Batched → List ℕ → Told
 toldOf a v = batched (lengthGiven (numbersIn a)) (front (numbersIn a) v)
 
 pub file-verdicts : (lent : ℕ) (h : Held) (f v : List ℕ) (rest : List Told)
-    → verdictsTold (told lent h (file f v) ∷ rest) ≡ finals (answers h (map hand (textsIn f (length v)))) ++ verdictsTold rest
+    → verdictsTold (told lent h (file f v) ∷ rest) ≡ finals (answers h (map hand (fileTexts f (length v)))) ++ verdictsTold rest
 unfolding told verdictsTold numbersIn lengthGiven front answers finals
 file-verdicts lent h f v rest =
     by-file (λ a ts. verdictsTold (toldOf a v ∷ rest) ≡ finals (answers h (map hand ts)) ++ verdictsTold rest) h f (length v)
@@ -100,8 +100,8 @@ heardOf room o as′ v =
     elim o as (λ _. Told) [ none ↦ batched (refused 15) v | some x ↦ heardFile (different (keysOf (x .pairs))) (ltb room (length (x .texts))) as′ v ]
 
 file-told : (lent : ℕ) (h : Held) (f v : List ℕ)
-    → told lent h (file f v) ≡ heardOf (length v) (readFile f) (answers h (map hand (textsIn f (length v)))) v
-unfolding told nexus textsIn
+    → told lent h (file f v) ≡ heardOf (length v) (readFile f) (answers h (map hand (fileTexts f (length v)))) v
+unfolding told nexus fileTexts
 file-told lent h f v = go (readFile f)
   where
     some-file : (x : File) (b c : Bool)
@@ -117,7 +117,7 @@ file-told lent h f v = go (readFile f)
     go none = unfold numbersIn lengthGiven front in refl
     go (some x) = unfold handedIn textsFor in some-file x (different (keysOf (x .pairs))) (ltb (length v) (length (x .texts)))
 
-pub file-same : (lent : ℕ) (h k : Held) (f v : List ℕ) → answers h (map hand (textsIn f (length v))) ≡ answers k (map hand (textsIn f (length v)))
+pub file-same : (lent : ℕ) (h k : Held) (f v : List ℕ) → answers h (map hand (fileTexts f (length v))) ≡ answers k (map hand (fileTexts f (length v)))
     → told lent h (file f v) ≡ told lent k (file f v)
 file-same lent h k f v e =
     file-told lent h f v ∙ ap (λ (as′ : List Heard). heardOf (length v) (readFile f) as′ v) e ∙ sym (file-told lent k f v)

@@ -18,7 +18,7 @@ use mathlib.Core.List.{List, [], _∷_, _++_}
 use lib.ListN.{length, getD, take}
 use Rattle.trees.specs.Plain.{if_then_else_, Answer, refused, gives}
 use Rattle.trees.specs.Opening.{Numbers, Opening}
-use Rattle.trees.specs.Held.{Held, moreWanted, accepted, opened}
+use Rattle.trees.specs.Held.{Held, Lane, holding, moreWanted, accepted, opened, laneOf}
 use Rattle.trees.specs.Questions.{collisionsOf}
 use Rattle.trees.specs.Runs.{Call, Heard, fed, closedLane, answers, ending, Final, acceptedAs, refusedWith, closedWith, finals, wholeTexts}
 use Rattle.theorems.specs.Alike.{Alike, withPlaces, SameAnswers}
@@ -31,9 +31,9 @@ use Rattle.layout.specs.Store.{heldAt}
 use Rattle.layout.specs.WholeStore.{wholeAt}
 use Rattle.store.specs.Lent.{Holds}
 use Rattle.summary.specs.PartLaws.{holds-then}
-use Rattle.promises.specs.Calls.{Question, tree-count, split-count, one-split, split-list, tree-splits, one-sided, doubled, matrix, collisions, strict, majority, both, write-accepted, number, split, fill, fillBoth, fillEach, reply, Made, ask, Told, replied, told, after, toldAll, afterAll, handed, handedAll, verdictsTold, isCollisions, otherTold}
+use Rattle.promises.specs.Calls.{Question, tree-count, split-count, one-split, split-list, tree-splits, one-sided, doubled, matrix, collisions, strict, majority, both, write-accepted, number, split, fill, fillBoth, fillEach, reply, Made, one, many, file, ask, reopen, Told, replied, told, after, toldAll, afterAll, handed, handedAll, verdictsTold, isCollisions, otherTold}
 use Rattle.promises.specs.Steps.{Opens, Steps}
-use Rattle.promises.specs.BatchLaws.{after-handed, verdicts-handed, told-same}
+use Rattle.promises.specs.BatchLaws.{after-handed, verdicts-handed, SameTexts, same-texts, handed-same, told-same}
 use Rattle.promises.specs.StepLaws.{opening-follows, step-follows, all-opening, steps-follow, told-lent}
 
 -- ---- a run of the definitions, by what it hands in
@@ -46,32 +46,22 @@ verdicts-append (fed n (gives (accepted t)) ∷ as′) bs = ap (λ (vs : List Fi
 verdicts-append (fed n (refused k) ∷ as′) bs = ap (λ (vs : List Final). refusedWith k ∷ vs) (verdicts-append as′ bs)
 verdicts-append (closedLane a ∷ as′) bs = ap (λ (vs : List Final). closedWith a ∷ vs) (verdicts-append as′ bs)
 
-abbrev lanesOf : Held → ℕ
-lanesOf h = h .opening .numbers .lanes
-
-module _ (n : ℕ) (h : Held) (e : lanesOf h ≡ n) (c : Made) where
-  pub after-one : after h c ≡ ending h (handed n c)
-  after-one = after-handed h c ∙ ap (λ (m : ℕ). ending h (handed m c)) e
-
-  pub after-lanes : lanesOf (after h c) ≡ n
-  after-lanes = ap lanesOf after-one ∙ ap (λ (o : Opening). o .numbers .lanes) (ending-opening h (handed n c)) ∙ e
-
-pub after-all : (n : ℕ) (cs : List Made) (h : Held) → lanesOf h ≡ n → afterAll h cs ≡ ending h (handedAll n cs)
+pub after-all : (cs : List Made) (h : Held) → afterAll h cs ≡ ending h (handedAll h cs)
 unfolding afterAll handedAll ending
-after-all n [] h e = refl
-after-all n (c ∷ cs) h e =
-    after-all n cs (after h c) (after-lanes n h e c) ∙ ap (λ (k : Held). ending k (handedAll n cs)) (after-one n h e c)
-    ∙ sym (ending-append h (handed n c) (handedAll n cs))
+after-all [] h = refl
+after-all (c ∷ cs) h =
+    after-all cs (after h c) ∙ ap (λ (k : Held). ending k (handedAll (after h c) cs)) (after-handed h c)
+    ∙ sym (ending-append h (handed h c) (handedAll (after h c) cs))
 
-pub verdicts-all : (n : ℕ) (cs : List Made) (lent : ℕ) (h : Held) → lanesOf h ≡ n → verdictsTold (toldAll lent h cs) ≡ finals (answers h (handedAll n cs))
+pub verdicts-all : (cs : List Made) (lent : ℕ) (h : Held) → verdictsTold (toldAll lent h cs) ≡ finals (answers h (handedAll h cs))
 unfolding toldAll verdictsTold handedAll answers finals
-verdicts-all n [] lent h e = refl
-verdicts-all n (c ∷ cs) lent h e =
+verdicts-all [] lent h = refl
+verdicts-all (c ∷ cs) lent h =
     verdicts-handed lent h c (toldAll lent (after h c) cs)
-    ∙ ap₂ (λ (m : ℕ) (vs : List Final). finals (answers h (handed m c)) ++ vs) e
-    (verdicts-all n cs lent (after h c) (after-lanes n h e c) ∙ ap (λ (k : Held). finals (answers k (handedAll n cs))) (after-one n h e c))
-    ∙ sym (verdicts-append (answers h (handed n c)) (answers (ending h (handed n c)) (handedAll n cs)))
-    ∙ ap finals (sym (answers-append h (handed n c) (handedAll n cs)))
+    ∙ ap (λ (vs : List Final). finals (answers h (handed h c)) ++ vs)
+    (verdicts-all cs lent (after h c) ∙ ap (λ (k : Held). finals (answers k (handedAll (after h c) cs))) (after-handed h c))
+    ∙ sym (verdicts-append (answers h (handed h c)) (answers (ending h (handed h c)) (handedAll (after h c) cs)))
+    ∙ ap finals (sym (answers-append h (handed h c) (handedAll (after h c) cs)))
 
 -- the answers to the calls cs, and the one behind them
 told-first : (lent : ℕ) (cs ds : List Made) (h : Held) → take (length cs) (toldAll lent h (cs ++ ds)) ≡ toldAll lent h cs
@@ -112,17 +102,13 @@ module _ (x : Numbers) (names first second before s : List ℕ) (o : Opens x nam
 
   -- the whole texts of the calls cs, handed in one after another in the order of their semicolons, closings in their places
   abbrev texts : List Made → List Call
-  texts cs = wholeTexts (x .lanes) (handedAll (x .lanes) cs)
-
-  begun-lanes : lanesOf begun ≡ x .lanes
-  unfolding opened
-  begun-lanes = refl
+  texts cs = wholeTexts (x .lanes) (handedAll begun cs)
 
   -- the definitions' own run
   verdicts-whole : (cs : List Made) → verdictsTold (toldAll (length before) begun cs) ≡ finals (answers begun (texts cs))
   verdicts-whole cs =
-      verdicts-all (x .lanes) cs (length before) begun begun-lanes
-      ∙ lanes-make-no-difference (openingOf x names first second) (handedAll (x .lanes) cs) .0
+      verdicts-all cs (length before) begun
+      ∙ lanes-make-no-difference (openingOf x names first second) (handedAll begun cs) .0
 
   module _ (cs : List Made) (as′ : List Told) (t : List ℕ) (run : Steps s cs as′ t) where
     -- "Lent bytes past that size keep their values", those that were there before the opening
@@ -141,8 +127,8 @@ module _ (x : Numbers) (names first second before s : List ℕ) (o : Opens x nam
     -- the trees too
     pub same-trees : heldAt t .trees ≡ ending begun (texts cs) .trees
     same-trees =
-        ap (λ (h : Held). h .trees) (run-follows .0 .held ∙ after-all (x .lanes) cs begun begun-lanes)
-        ∙ lanes-make-no-difference (openingOf x names first second) (handedAll (x .lanes) cs) .1
+        ap (λ (h : Held). h .trees) (run-follows .0 .held ∙ after-all cs begun)
+        ∙ lanes-make-no-difference (openingOf x names first second) (handedAll begun cs) .1
 
   -- and so at any point of a run, behind the calls cs
   pub same-verdicts-so-far : (cs ds : List Made) (as′ : List Told) (t : List ℕ) → Steps s (cs ++ ds) as′ t
@@ -159,10 +145,10 @@ module _ (x : Numbers) (names first second before s : List ℕ) (o : Opens x nam
   same-questions cs ds q as′ t run d =
       ap (λ (bs : List Told). getD bs (length cs) d) (run-follows (cs ++ ask q ∷ ds) as′ t run .1)
       ∙ told-at (length before) cs (ask q) ds begun d
-      ∙ ap (λ (h : Held). replied (reply h q)) (after-all (x .lanes) cs begun begun-lanes)
-      ∙ ap replied (reply-same (ending begun (handedAll (x .lanes) cs)) (ending begun (texts cs))
-      (questions-make-no-difference (openingOf x names first second) (handedAll (x .lanes) cs)) q
-      (λ _. collisions-make-no-difference (openingOf x names first second) (handedAll (x .lanes) cs)))
+      ∙ ap (λ (h : Held). replied (reply h q)) (after-all cs begun)
+      ∙ ap replied (reply-same (ending begun (handedAll begun cs)) (ending begun (texts cs))
+      (questions-make-no-difference (openingOf x names first second) (handedAll begun cs)) q
+      (λ _. collisions-make-no-difference (openingOf x names first second) (handedAll begun cs)))
 
 -- ---- places and constants
 
@@ -191,12 +177,20 @@ module _ (h k : Held) (s : Twins h k) where
         unfinished = r .texts;
       }
 
+  twins-texts : (c : Made) → SameTexts h k c
+  unfolding laneOf
+  twins-texts (one c) = tt
+  twins-texts (many l p v) = same-texts h k l p (ap (λ (xs : List Lane). getD xs l (holding [])) (s .unfinished))
+  twins-texts (file f v) = tt
+  twins-texts (ask q) = tt
+  twins-texts (reopen y names first second) = tt
+
   twins-after : (c : Made) → Twins (after h c) (after k c)
-  twins-after c = rw (after-one (lanesOf h) h refl c, after-one (lanesOf h) k (sym (s .alike .lanes)) c) (twins-run (handed (lanesOf h) c))
+  twins-after c = rw (after-handed h c, after-handed k c, ← handed-same h k (s .alike .lanes) c (twins-texts c)) (twins-run (handed h c))
 
   twins-told : (lent : ℕ) (c : Made) → isCollisions c ≡ false → told lent h c ≡ told lent k c
   twins-told lent c e =
-      told-same lent h k (s .alike .lanes) c (alike-run h k (s .alike) (s .unfinished) (handed (lanesOf h) c) .heard)
+      told-same h k (s .alike .lanes) lent c (twins-texts c) (alike-run h k (s .alike) (s .unfinished) (handed h c) .heard)
       (λ q d. reply-same h k (questions-alike h k (s .alike)) q (λ f. absurd (true≢false (sym f ∙ sym (ap isCollisions d) ∙ e))))
 
 -- the answers to one call, and those to the rest

@@ -23,7 +23,7 @@ use Rattle.trees.specs.NexusCall.{nexus}
 use Rattle.trees.specs.Questions.{treesHeld, splitsHeld, splitList, splitNumber, treeNumber, oneSidedOf, doubledOf, matrixOf, collisionsOf, strictOf, majorityOf, bothOf, writtenOf}
 use Rattle.trees.specs.Runs.{feed, hand, close, fed, closedLane, answer, next}
 use Rattle.theorems.specs.ListLaws.{by-test}
-use Rattle.theorems.specs.WrittenFedLaws.{feeding-by}
+use Rattle.theorems.specs.FeedingLaws.{feeding-by}
 use Rattle.theorems.specs.RunLaws.{ending-opening}
 use Rattle.answers.specs.declared.Finish.{Finish}
 use Rattle.answers.specs.declared.Number.{Number}
@@ -233,7 +233,7 @@ module _ (s : List ℕ) (w : wholeAt s ≡ true) (t : List ℕ) where
 -- ---- a run
 
 after-opening : (h : Held) (c : Made) → after h c .opening ≡ h .opening
-after-opening h c = ap (λ (k : Held). k .opening) (after-handed h c) ∙ ending-opening h (handed (h .opening .numbers .lanes) c)
+after-opening h c = ap (λ (k : Held). k .opening) (after-handed h c) ∙ ending-opening h (handed h c)
 
 pub all-opening : (cs : List Made) (h : Held) → afterAll h cs .opening ≡ h .opening
 unfolding afterAll

@@ -30,7 +30,7 @@ takes-stand (p ∷ ps) v a names s b after t g q =
 
 -- ---- the whole
 
-module _ (names lent : List ℕ) (a : 2112 ≤ length names) (b : summaryBytes ≤ length lent) (ps : List (List ℕ)) (out : List ℕ)
+module _ (names lent : List ℕ) (a : 4288 ≤ length names) (b : summaryBytes ≤ length lent) (ps : List (List ℕ)) (out : List ℕ)
     (run : Summarised names lent ps out) where
   -- as long as 64 bits can count the refused texts
   pub summary-printed : CountedIn (whole ps) → out ≡ summary (whole ps)

@@ -19,7 +19,6 @@ use denote.Ref.{now}
 use Rattle.trees.specs.Plain.{Answer, refused, gives}
 use Rattle.trees.specs.Opening.{Opening}
 use Rattle.trees.specs.Held.{Held, opened, closing}
-use Rattle.trees.specs.Batch.{semicolons}
 use Rattle.theorems.specs.OwnLaneLaws.{closing-opening}
 use Rattle.answers.specs.declared.Finish.{Finish}
 use Rattle.answers.specs.declared.Finish.the-variants as finish
@@ -29,6 +28,7 @@ use Rattle.layout.specs.Store.{heldAt}
 use Rattle.store.specs.Lent.{Holds}
 use Rattle.store.specs.LentLaws.{when-whole}
 use Rattle.table.specs.Promises.{OpenedAs}
+use Rattle.feeding.specs.Texts.{textsAt}
 use Rattle.feeding.specs.CutLaws.{batching-opening}
 use Rattle.summary.specs.declared.LinePart.{LinePart}
 use Rattle.summary.specs.declared.Summing.{Summing}
@@ -73,7 +73,7 @@ module _ (h : Held) (lent s s' : List ℕ) (a : Holds h lent s) (b : Holds h len
 
     fed-from : (x : List ℕ) → Holds h lent x → (r : Number) (t : List ℕ) → TextsAs x n q r t → Holds (textsFed h q .after) lent t
     fed-from x c r t f =
-        holds-then h (textsFed h q .after) lent x t (batching-opening (semicolons q) h 0 q) c
+        holds-then h (textsFed h q .after) lent x t (batching-opening (textsAt h 0 q) h 0 q) c
         (subst (λ (k : Held). Holds (textsFed k q .after) x t) (c .held) (f .holds (c .whole)))
 
     feeds-both : (r r' : Summing) (t u : List ℕ) → FeedsAs s n q r t → FeedsAs s' n q r' u → (r ≡ r') × Alike t u

@@ -22,7 +22,7 @@ use Rattle.promises.specs.Outcomes.{both, number-both, holds-both, outsi
 pub taken-both : (k : Kept) (p : List ℕ) (q r : Taken) (t u : List ℕ) → TakenAs k p q t → TakenAs k p r u → (q ≡ r) × (t ≡ u)
 taken-both k p q r t u a b =
     let e = both (a .line) (b .line) in (
-      λ i. record { taken = both (a .taken) (b .taken) i; ended = both (a .ended) (b .ended) i; line = record { used = e i .used; spaces = e i .spaces } },
+      λ i. record { taken = both (a .taken) (b .taken) i; ended = both (a .ended) (b .ended) i; line = record { used = e i .used; spaces = e i .spaces; quoted = e i .quoted } },
       ap (λ (x : Kept). x .bytes) e,
     )
 

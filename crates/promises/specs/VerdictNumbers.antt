@@ -38,7 +38,7 @@ held-room-small h t =
 
 pub verdict-small : (h : Held) (x : Lane) → Small (verdict h x)
 unfolding verdict withRoom
-verdict-small h overrun = omega arith
+verdict-small h (overrun q) = omega arith
 verdict-small h (holding s) = go (judged (h .opening .names) s) refl
   where
     go : (a : Answer (List ℕ)) → judged (h .opening .names) s ≡ a → Small (withRoom h a)

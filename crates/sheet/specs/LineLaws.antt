@@ -207,7 +207,7 @@ module _ (t old text : List ℕ) where
       no-refused k n e = let z : _≡_ {A = ℕ} 0 1 = cc in omega arith
   answer-text false (number.Gives n) e f = let m : n ≡ length t = cc in rw (f, m) (take-at t (drop (length t) old) (length t) refl)
 
-  pub answer-shown : (word : List ℕ) → length word ≤ 2000 → length t ≤ 2236 → (b : Bool) (r : Number) → numberGiven r ≡ lengthGiven (asked b t) → text ≡ front (asked b t) old
+  pub answer-shown : (word : List ℕ) → length word ≤ 2000 → length t ≤ 4349 → (b : Bool) (r : Number) → numberGiven r ≡ lengthGiven (asked b t) → text ≡ front (asked b t) old
       → Shown r word text
   unfolding numberGiven lengthGiven front Shown
   answer-shown word h l true (number.Refused r) e f = h
@@ -237,11 +237,11 @@ strict-is h = refl
 
 module _ (s : List ℕ) (w : wholeAt s ≡ true) where
   -- with so much room, a tree is refused only where there is none
-  tree-asked : (room : ℕ) (t : List ℕ) → 2236 ≤ room → length t ≤ 2236 → ifTrees (heldAt s) (ifRoom room t) ≡ asked (eqb (length (heldAt s .trees)) 0) t
+  tree-asked : (room : ℕ) (t : List ℕ) → 4349 ≤ room → length t ≤ 4349 → ifTrees (heldAt s) (ifRoom room t) ≡ asked (eqb (length (heldAt s .trees)) 0) t
   unfolding ifTrees ifRoom
   tree-asked room t h l = rw (le-ltb room (length t) (omega arith))
 
-  module _ (old text : List ℕ) (h : 2236 ≤ length old) (r : Number) (splits : List ℕ) (g : goodTree (numbersAt s .taxa) splits ≡ true)
+  module _ (old text : List ℕ) (h : 4349 ≤ length old) (r : Number) (splits : List ℕ) (g : goodTree (numbersAt s .taxa) splits ≡ true)
       (x : Answer (List ℕ)) (q : x ≡ ifTrees (heldAt s) (ifRoom (length old) (written (heldAt s .opening .names) splits)))
       (e : numberGiven r ≡ lengthGiven x) (f : text ≡ front x old) where
     abbrev none : Bool
@@ -272,7 +272,7 @@ module _ (s : List ℕ) (w : wholeAt s ≡ true) where
     unfolding majorityOf
     majority-asked = refl
 
-    module _ (e : numberGiven r ≡ lengthGiven (majorityOf (heldAt s) (length old))) (f : text ≡ front (majorityOf (heldAt s) (length old)) old) (h : 2236 ≤ length old) where
+    module _ (e : numberGiven r ≡ lengthGiven (majorityOf (heldAt s) (length old))) (f : text ≡ front (majorityOf (heldAt s) (length old)) old) (h : 4349 ≤ length old) where
       good : goodTree (numbersAt s .taxa) (majority (heldAt s .trees)) ≡ true
       good = majority-good (numbersAt s .taxa) (heldAt s .trees) (trees-good s w)
 
@@ -288,7 +288,7 @@ module _ (s : List ℕ) (w : wholeAt s ≡ true) where
     unfolding strictOf
     strict-asked = refl
 
-    module _ (e : numberGiven r ≡ lengthGiven (strictOf (heldAt s) (length old))) (f : text ≡ front (strictOf (heldAt s) (length old)) old) (h : 2236 ≤ length old) where
+    module _ (e : numberGiven r ≡ lengthGiven (strictOf (heldAt s) (length old))) (f : text ≡ front (strictOf (heldAt s) (length old)) old) (h : 4349 ≤ length old) where
       good-strict : goodTree (numbersAt s .taxa) (strict (heldAt s .trees)) ≡ true
       good-strict = strict-good (numbersAt s .taxa) (heldAt s .trees) (trees-good s w)
 
@@ -319,7 +319,7 @@ module _ (r : Number) (word text : List ℕ) where
       go (number.Gives n) k = (omega arith, k .1, k .2)
       go (number.Refused x) k = omega arith
 
-  pub shown-fits : (n : ℕ) → r ≡ number.Gives n → Shown r word text → (n ≤ 2240) × (n ≤ length text)
+  pub shown-fits : (n : ℕ) → r ≡ number.Gives n → Shown r word text → (n ≤ 4352) × (n ≤ length text)
   unfolding Shown
   shown-fits n e h = let k = subst (λ (q : Number). Shown q word text) e h in (k .1, k .2)
 

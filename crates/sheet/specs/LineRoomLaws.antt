@@ -71,6 +71,11 @@ module _ (m : ℕ) where
   line-short (w ∷ ws) a =
       omega (arith, a .0, spaced-short ws (a .1), length-append w (spaced ws), length-append (w ++ spaced ws) (10 ∷ []), suc-mul (length ws) (suc m))
 
+two-length : (v w : List ℕ) → length (lineOf (v ∷ w ∷ [])) ≡ length v + length w + 2
+unfolding lineOf fields spaced
+two-length v w =
+    omega (arith, length-append (v ++ 32 ∷ (w ++ [])) (10 ∷ []), length-append v (32 ∷ (w ++ [])), length-append w [])
+
 -- ---- numbers
 
 digits-step : (f n m : ℕ) → n < 10 ^ suc m → ((k : ℕ) → n / 10 < 10 ^ suc k → length (digitsFrom f (n / 10)) ≤ suc k) → length (digitsFrom (suc f) n) ≤ suc m
@@ -162,14 +167,14 @@ module _ (s : List ℕ) (w : wholeAt s ≡ true) where
 
   -- ---- the two trees
 
-  tree-line-short : (word : String) → length (bytes word) ≤ 2240 → (l : List ℕ) → goodTree (numbersAt s .taxa) l ≡ true → length (treeLine h word l) ≤ 8192
-  unfolding treeLine Short
-  tree-line-short word a l g = omega (arith, line-short 2240 (bytes word ∷ text ∷ []) (a, (go (eqb (length (h .trees)) 0), tt)))
+  tree-line-short : (word : String) → length (bytes word) ≤ 2000 → (l : List ℕ) → goodTree (numbersAt s .taxa) l ≡ true → length (treeLine h word l) ≤ 8192
+  unfolding treeLine
+  tree-line-short word a l g = omega (arith, two-length (bytes word) text, go (eqb (length (h .trees)) 0))
     where
       text : List ℕ
       text = if eqb (length (h .trees)) 0 then bytes "none" else written (h .opening .names) l
 
-      go : (b : Bool) → length (if b then bytes "none" else written (h .opening .names) l) ≤ 2240
+      go : (b : Bool) → length (if b then bytes "none" else written (h .opening .names) l) ≤ 4352
       go true = unfold bytes in omega arith
       go false = omega (arith, tree-short s w l g)
 

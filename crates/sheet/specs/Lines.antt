@@ -15,5 +15,5 @@ answerText (number.Gives n) text = take n text
 answerText (number.Refused r) text = bytes "none"
 
 unfoldable pub Shown : Number → List ℕ → List ℕ → Type 0
-Shown (number.Gives n) word text = (length word ≤ 2000) × (n ≤ 2240) × (n ≤ length text)
+Shown (number.Gives n) word text = (length word ≤ 2000) × (n ≤ 4352) × (n ≤ length text)
 Shown (number.Refused r) word text = length word ≤ 2000

@@ -5,20 +5,19 @@
 --   counted-ends   where a word and a number behind it end
 use Prim.Native.Nat.{ℕ, _+_, _^_, _≤_, _<_}
 use native.Mathlib.Omega.{arith}
-use mathlib.Core.Path.{_≡_, subst, _∙_}
+use mathlib.Core.Path.{_≡_, ap, subst, _∙_}
 use mathlib.Core.List.{List}
 use lib.ListN.{length, take}
-use lib.Seq.{take-all}
+use lib.Seq.{sets, take-all}
 use Rattle.io.specs.Digits.{digits, Fewest}
 use Rattle.fields.specs.Run.{copied}
 use Rattle.writer.specs.Branch.{Put}
-use Rattle.writer.specs.PutLaws.{put-copied}
 use Rattle.sheet.specs.Sheet.{digitsOf}
 use Rattle.sheet.specs.DigitLaws.{digits-of, digits-few, digits-fewer}
 
 pub word-put : (l after word : List ℕ) (at n : ℕ) → n ≡ length word → after ≡ copied l at word 0 n → Put l at word after (at + n)
-word-put l after word at n e p =
-    subst (λ (w : List ℕ). Put l at w after (at + n)) (take-all n word (omega arith)) (put-copied l after word at 0 n (omega arith) p)
+unfolding copied
+word-put l after word at n e p = record { stored = p ∙ ap (sets l at) (take-all n word (omega arith)); ends = omega arith }
 
 module _ (l after text : List ℕ) (at k n e : ℕ) (w : Fewest 10 1 n k) (c : k ≡ length (take k text)) (d : take k text ≡ digits 10 k n) (p : Put l at (take k text) after e) where
   pub number-put : Put l at (digitsOf n) after e

@@ -106,7 +106,7 @@ fn majority_line(s: &[u8], out: &mut [u8]) -> usize
     ensures { λ e. ⌜ Put (now (out .entry)) 0 (majorityLine (heldAt (now (s .entry)))) (now (out .exit)) e ⌝ }
     ensures { λ e. ⌜ e ≤ 8192 ⌝ }
 {
-    let mut text = [0u8; 2240];
+    let mut text = [0u8; 4352];
     let answer = consensus::write_majority(s, &mut text);
     tree_line(out, b"majority ", answer, &text)
 }
@@ -117,7 +117,7 @@ fn strict_line(s: &[u8], out: &mut [u8]) -> usize
     ensures { λ e. ⌜ Put (now (out .entry)) 0 (strictLine (heldAt (now (s .entry)))) (now (out .exit)) e ⌝ }
     ensures { λ e. ⌜ e ≤ 8192 ⌝ }
 {
-    let mut text = [0u8; 2240];
+    let mut text = [0u8; 4352];
     let answer = consensus::write_strict(s, &mut text);
     tree_line(out, b"strict ", answer, &text)
 }
@@ -138,7 +138,7 @@ fn put_answer(out: &mut [u8], at: usize, answer: Number, text: &[u8]) -> usize
     requires { ⌜ Shown answer [] (now text) ⌝ }
     requires { ⌜ at ≤ 2000 ⌝ }
     ensures { λ e. ⌜ Put (now (out .entry)) at (answerText answer (now (text .entry))) (now (out .exit)) e ⌝ }
-    ensures { λ e. ⌜ e ≤ at + 2240 ⌝ }
+    ensures { λ e. ⌜ e ≤ at + 4352 ⌝ }
 {
     match answer {
         Number::Gives(n) => put_word(out, at, &text[..n]),

@@ -3,34 +3,29 @@
 --   head-short, head-refused, head-small, head-trees, head-splits     the head
 --   opening-range, opening-constants, opening-names, opening-ranges   the opening that it holds
 --   constants-first       the constants: the second list's are any
---   names-bad, names-apart                                            its names
---   different-more, different-not, different-end                      one turn of the loop over the names
---   again-here, again-next, again-end                                 one turn of the loop over the names behind one
 --   numbers-read          the five numbers, one by one
---   name-run              a name, whose length was read
-use mathlib.Core.Path.{_≡_, _∙_}
-use mathlib.Core.Bool.{true, false, _&&_, _||_, not}
-use mathlib.Core.List.{List, []}
+use mathlib.Core.Path.{_≡_, refl}
+use mathlib.Core.Bool.{true, false}
+use mathlib.Core.List.{List}
 use mathlib.Core.Logic.{_⊎_, inl, inr, ⊎-elim}
 use Prim.Native.Nat.{ℕ, _+_, _-_, _*_, _^_, _≤_, _<_}
 use native.Mathlib.Nat.{eq-zero-or-pos}
-use native.Mathlib.Numerals.{add-one}
 use native.Mathlib.Omega.{arith}
 use lib.Dec.{leb, ltb}
-use lib.ListN.{length, getD, drop, drop-of-length-le, List·getD-eq-default}
-use lib.Seq.{slice, drop-cons}
-use borrow.Author.Tests.{le-leb, lt-leb, eq-eqb}
-use Rattle.trees.specs.Plain.{every, sameBytes, inNames}
-use Rattle.trees.specs.Names.{isName, different, goodNames}
+use lib.ListN.{length, getD, List·getD-eq-default}
+use borrow.Author.Tests.{le-leb, lt-leb}
+use Rattle.trees.specs.Plain.{every}
+use Rattle.trees.specs.Names.{goodNames}
 use Rattle.trees.specs.Opening.{inRange, goodConstants, headBytes}
 use Rattle.trees.specs.Whole.{goodOpening}
 use Rattle.theorems.specs.ListLaws.{and-left}
 use Rattle.fields.specs.Field.{number}
 use Rattle.fields.specs.FieldLaws.{number-below}
-use Rattle.head.specs.Head.{upTo, numbersAt, nameAt, namesAt, firstAt, secondAt, openingAt}
-use Rattle.head.specs.HeadLaws.{upTo-length, upTo-at, names-length, first-length, second-length, name-slice}
+use Rattle.head.specs.Head.{upTo, numbersAt, namesAt, firstAt, secondAt, openingAt}
+use Rattle.head.specs.HeadLaws.{upTo-length, upTo-at, first-length, second-length}
 use Rattle.opening.specs.Given.{numbersOf}
 use Rattle.opening.specs.GivenLaws.{constants-below}
+use Rattle.opening.specs.Places.{firstNames}
 use Rattle.layout.specs.Store.{treesHeldAt, splitsHeldAt, sizeAt}
 use Rattle.layout.specs.WholeStore.{goodHead}
 
@@ -86,10 +81,14 @@ module _ (s : List ℕ) where
   unfolding goodOpening openingAt
   opening-constants a e = rw (a, e)
 
+  names-first : namesAt s ≡ firstNames (numbersAt s .taxa) s
+  unfolding namesAt numbersAt
+  names-first = refl
+
   pub opening-names : inRange (numbersAt s) ≡ true → goodConstants (numbersAt s) (firstAt s) (secondAt s) ≡ true
-      → goodOpening (openingAt s) ≡ goodNames (numbersAt s .taxa) (namesAt s)
+      → (n : ℕ) → n ≡ numbersAt s .taxa → goodOpening (openingAt s) ≡ goodNames n (firstNames n s)
   unfolding goodOpening openingAt
-  opening-names a e = rw (a, e)
+  opening-names a e n q = rw (a, e, names-first, q)
 
   pub opening-ranges : goodOpening (openingAt s) ≡ true → inRange (numbersAt s) ≡ true
   unfolding goodOpening openingAt
@@ -104,55 +103,8 @@ module _ (s : List ℕ) where
       below : (i : ℕ) → getD (secondAt s) i 0 < 2 ^ 64
       below i = upTo-below (λ j. number 8 s (2256 + 8 * j)) (2 ^ 64) (number 2 s 0) (omega arith) (λ j. number-below 8 s (2256 + 8 * j) b) i
 
-  -- ---- its names
-
-  pub names-bad : every isName (namesAt s) ≡ false → goodNames (numbersAt s .taxa) (namesAt s) ≡ false
-  unfolding goodNames
-  names-bad e = rw (eq-eqb _ _ (names-length s), e)
-
-  pub names-apart : every isName (namesAt s) ≡ true → goodNames (numbersAt s .taxa) (namesAt s) ≡ different (namesAt s)
-  unfolding goodNames
-  names-apart e = rw (eq-eqb _ _ (names-length s), e)
-
   -- ---- the five numbers, one by one
 
   pub numbers-read : (n l t p m : ℕ) → n ≡ numbersAt s .taxa → l ≡ numbersAt s .lanes → t ≡ numbersAt s .treeRoom
       → p ≡ numbersAt s .splitRoom → m ≡ numbersAt s .places → numbersOf n l t p m ≡ numbersAt s
   numbers-read n l t p m a b c d e = rw (a, b, c, d, e)
-
-  -- ---- a name, whose length was read
-
-  pub name-run : (i n : ℕ) → n ≡ getD s (16 + 33 * i) 0 → nameAt s i ≡ slice (17 + 33 * i) (17 + 33 * i + n) s
-  name-run i n q = name-slice s i ∙ rw (← q)
-
--- ---- the names, one by one
-
-module _ (ns : List (List ℕ)) (i : ℕ) where
-  different-cons : i < length ns → different (drop i ns) ≡ (not (inNames (getD ns i []) (drop (i + 1) ns)) && different (drop (i + 1) ns))
-  unfolding different
-  different-cons h = rw (drop-cons ns i [] h, add-one i)
-
-  pub different-more : i < length ns → inNames (getD ns i []) (drop (i + 1) ns) ≡ false → different (drop i ns) ≡ different (drop (i + 1) ns)
-  different-more h e = different-cons h ∙ rw e
-
-  pub different-not : i < length ns → inNames (getD ns i []) (drop (i + 1) ns) ≡ true → different (drop i ns) ≡ false
-  different-not h e = different-cons h ∙ rw e
-
-  pub different-end : length ns ≤ i → different (drop i ns) ≡ true
-  unfolding different
-  different-end h = rw (drop-of-length-le ns h)
-
-  module _ (w : List ℕ) where
-    again-cons : i < length ns → inNames w (drop i ns) ≡ (sameBytes (getD ns i []) w || inNames w (drop (i + 1) ns))
-    unfolding inNames
-    again-cons h = rw (drop-cons ns i [] h, add-one i)
-
-    pub again-here : i < length ns → sameBytes (getD ns i []) w ≡ true → inNames w (drop i ns) ≡ true
-    again-here h e = again-cons h ∙ rw e
-
-    pub again-next : i < length ns → sameBytes (getD ns i []) w ≡ false → inNames w (drop i ns) ≡ inNames w (drop (i + 1) ns)
-    again-next h e = again-cons h ∙ rw e
-
-    pub again-end : length ns ≤ i → inNames w (drop i ns) ≡ false
-    unfolding inNames
-    again-end h = rw (drop-of-length-le ns h)

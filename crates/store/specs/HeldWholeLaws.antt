@@ -26,7 +26,7 @@ use Rattle.theorems.specs.HeldLaws.{Whole, facts-whole}
 use Rattle.fields.specs.Field.{number}
 use Rattle.head.specs.Head.{numbersAt, openingAt}
 use Rattle.head.specs.HeadLaws.{upTo-at}
-use Rattle.layout.specs.Store.{partsAt, treesHeldAt, laneFrom, treeAt, laneAt, heldAt, heldIn, ranOver}
+use Rattle.layout.specs.Store.{partsAt, treesHeldAt, laneFrom, treeAt, laneAt, heldAt, heldIn, textFrom, ranOver, ranOverOpen}
 use Rattle.layout.specs.StoreLaws.{shaped-at, length-is, lane-is}
 use Rattle.layout.specs.WholeStore.{wholeAt}
 use Rattle.layout.specs.WholeFacts.{WholeAt, whole-at-facts}
@@ -79,13 +79,16 @@ module _ (s : List ℕ) (w : wholeAt s ≡ true) where
   tree-good i h = and-true (tree-proper i h) (and-true (facts .lists i h .tree-rising) (facts .lists i h .agreeing))
 
   pub lane-good : (l : ℕ) → l < numbersAt s .lanes → goodLane (laneAt s l) ≡ true
-  unfolding goodLane
+  unfolding goodLane textFrom
   lane-good l h =
+      let n = number 2 s (laneFrom l) in
       rw (lane-is s l h)
-      (by-test (λ (x : Lane). goodLane x ≡ true) (eqb (number 2 s (laneFrom l)) ranOver) (λ e. refl)
+      (by-test (λ (x : Lane). goodLane x ≡ true) (eqb n ranOver) (λ e. refl)
       (λ e.
-      let n = length-take (number 2 s (laneFrom l)) (drop (laneFrom l + 8) s) in
-      le-leb (length (take (number 2 s (laneFrom l)) (drop (laneFrom l + 8) s))) mostText (omega (arith, facts .lanes l h, length-is s l h, eqb-false (number 2 s (laneFrom l)) ranOver e))))
+      by-test (λ (x : Lane). goodLane x ≡ true) (eqb n ranOverOpen) (λ f. refl)
+      (λ f.
+      le-leb (length (take n (drop (laneFrom l + 8) s))) mostText
+      (omega (arith, facts .lanes l h, length-is s l h, length-take n (drop (laneFrom l + 8) s), eqb-false n ranOver e, eqb-false n ranOverOpen f)))))
 
   held-facts : Whole (heldAt s)
   held-facts =

@@ -20,7 +20,7 @@ use Rattle.theorems.specs.ListLaws.{Mem, mem-getD, mem-right, mem-cases, less-o
 use Rattle.theorems.specs.RisingLaws.{Rising, rising-true, true-rising}
 use Rattle.fields.specs.Field.{number}
 use Rattle.head.specs.Head.{numbersAt}
-use Rattle.layout.specs.Store.{laneFrom, partsAt, treesHeldAt, splitsHeldAt, maskAt, listAt, treeAt, lengthAt, mostSplits, ranOver}
+use Rattle.layout.specs.Store.{laneFrom, partsAt, treesHeldAt, splitsHeldAt, maskAt, listAt, treeAt, lengthAt, mostSplits, ranOverOpen}
 use Rattle.layout.specs.StoreLaws.{shaped-at, length-is}
 use Rattle.layout.specs.WholeStore.{goodSplits, goodList, goodLaneAt, listGood, laneGood}
 use Rattle.layout.specs.WholeFacts.{HeadAt, splits-facts, list-facts, facts-list}
@@ -38,13 +38,13 @@ use Rattle.store.specs.SplitLaws.{proper-some}
 -- ---- a lane
 
 module _ (s : List ℕ) (l from n : ℕ) (h : l < numbersAt s .lanes) (at : from ≡ laneFrom l) (is : n ≡ number 2 s from) where
-  pub lane-long : ranOver < n → goodLaneAt s l ≡ false
+  pub lane-long : ranOverOpen < n → goodLaneAt s l ≡ false
   unfolding laneGood
-  lane-long q = lt-leb (lengthAt s l) ranOver (rw (length-is s l h, ← at, ← is) q)
+  lane-long q = lt-leb (lengthAt s l) ranOverOpen (rw (length-is s l h, ← at, ← is) q)
 
-  pub lane-short : n ≤ ranOver → goodLaneAt s l ≡ true
+  pub lane-short : n ≤ ranOverOpen → goodLaneAt s l ≡ true
   unfolding laneGood
-  lane-short q = le-leb (lengthAt s l) ranOver (rw (length-is s l h, ← at, ← is) q)
+  lane-short q = le-leb (lengthAt s l) ranOverOpen (rw (length-is s l h, ← at, ← is) q)
 
 -- ---- the first splits of a list
 

@@ -4,7 +4,7 @@ use answers::Lane;
 use answers::Tree;
 use layout::MOST_ROOM;
 use layout::MOST_SPLITS;
-use layout::RAN_OVER;
+use layout::RAN_OVER_OPEN;
 ghost use mathlib.Core.Path.{_≡_};
 ghost use mathlib.Core.Bool.{true, _&&_};
 ghost use Prim.Native.Nat.{_+_, _^_, _<_};
@@ -191,7 +191,7 @@ pub(crate) fn lanes_good(s: &[u8]) -> bool
     let mut l = 0;
     while l < lanes {
         let from = layout::lane_from(Lane(l));
-        if RAN_OVER < layout::number16(s, from) {
+        if RAN_OVER_OPEN < layout::number16(s, from) {
             return false;
         }
         l += 1;

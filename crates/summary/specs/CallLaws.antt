@@ -32,7 +32,6 @@ use Rattle.answers.specs.declared.Both.the-variants as both
 use Rattle.answers.specs.Answers.{refusalNumber}
 use Rattle.answers.specs.Filled.{FilledAs}
 use Rattle.table.specs.Promises.{OpenedAs}
-use Rattle.feeding.specs.EndLaws.{eqb-flip}
 use Rattle.sheet.specs.Sheet.{refusalLine}
 use Rattle.sheet.specs.Asked.{linesFrom, linesAsked, PrintsAs, refusalAsked}
 use Rattle.sheet.specs.RunLaws.{prints-missing, one-given, one-refused}
@@ -42,6 +41,7 @@ use Rattle.summary.specs.declared.Summing.the-variants as summing
 use Rattle.summary.specs.declared.Taken.{Taken}
 use Rattle.summary.specs.Summary.{firstLine, summaryBytes}
 use Rattle.summary.specs.FirstLine.{Kept, keptOf, lineTaken, TakenAs, keptOpening}
+use Rattle.summary.specs.FirstLineLaws.{eqb-flip}
 use Rattle.summary.specs.Texts.{TextsAs, ClosedAs}
 use Rattle.summary.specs.Summing.{roomy, begun, BegunAs, fedState, FeedsAs, BehindAs, OpensAs, NamesAs, TakeSteps, TookAs, EndsAs, ClosesAs, FinishSteps, FinishedAs, refusalLines, sheetAsked, PrintedAs}
 use Rattle.summary.specs.StandsLaws.{begun-short, begun-roomy, took-as, finished-as, printed-as}
@@ -49,19 +49,19 @@ use Rattle.summary.specs.StandsLaws.{begun-short, begun-roomy, took-as, 
 -- ---- beginning
 
 module _ (names lent : List ℕ) where
-  pub begun-names : length names < 2112 → BegunAs names lent (summing.Refused why.TooShort)
+  pub begun-names : length names < 4288 → BegunAs names lent (summing.Refused why.TooShort)
   unfolding begun roomy
-  begun-names h = begun-short names lent (rw (lt-leb 2112 (length names) h) refl)
+  begun-names h = begun-short names lent (rw (lt-leb 4288 (length names) h) refl)
 
   pub begun-lent : length lent < summaryBytes → BegunAs names lent (summing.Refused why.TooShort)
   unfolding begun
-  begun-lent h = begun-short names lent (unfold roomy in rw (lt-leb summaryBytes (length lent) h) (none (leb 2112 (length names))))
+  begun-lent h = begun-short names lent (unfold roomy in rw (lt-leb summaryBytes (length lent) h) (none (leb 4288 (length names))))
     where
       none : (x : Bool) → (x && false) ≡ false
       none true = refl
       none false = refl
 
-  pub begun-done : 2112 ≤ length names → summaryBytes ≤ length lent → BegunAs names lent (summing.Line (record { used = 0; spaces = 0 }))
+  pub begun-done : 4288 ≤ length names → summaryBytes ≤ length lent → BegunAs names lent (summing.Line (record { used = 0; spaces = 0; quoted = false }))
   unfolding begun
   begun-done a b = begun-roomy names lent a b
 

@@ -1,6 +1,7 @@
 -- The texts, fed in pieces, are fed as one; and the closing behind them. Assumes nothing.
 --
---   texts-none         nothing is fed to what was just opened
+--   none-open          no quotes are open in what was just opened
+--   texts-none         nothing is fed to it
 --   feeds-on           a piece more
 --   closed-on          the closing leaves what the sheet of the texts is of
 --   closed-never       and is not refused
@@ -8,14 +9,14 @@
 use Prim.Native.Nat.{ℕ, suc, _+_, _≤_, _<_}
 use native.Mathlib.Omega.{arith}
 use mathlib.Core.Path.{_≡_, refl, sym, ap, ap₂, subst, _∙_}
-use mathlib.Core.Bool.{true}
+use mathlib.Core.Bool.{true, false}
 use mathlib.Core.List.{List, [], _++_}
-use lib.Dec.{eqb}
 use lib.ListN.{length, length-replicate}
 use Rattle.trees.specs.Plain.{Answer, refused, gives}
+use Rattle.trees.specs.Text.{openAfter, hasEnd}
 use Rattle.trees.specs.Opening.{Opening}
-use Rattle.trees.specs.Held.{Held, holding, Fed, opened, laneOf, withLane, longer, closing}
-use Rattle.trees.specs.Batch.{semicolons, isRefusal, Batched, batching}
+use Rattle.trees.specs.Held.{Held, holding, Fed, opened, laneOf, withLane, openIn, longer, closing}
+use Rattle.trees.specs.Batch.{textsIn, isRefusal, Batched, batching}
 use Rattle.theorems.specs.ListLaws.{keep-most}
 use Rattle.theorems.specs.PieceLaws.{set-replicate, getD-all}
 use Rattle.answers.specs.declared.Number.{Number}
@@ -27,16 +28,21 @@ use Rattle.layout.specs.WholeStore.{wholeAt}
 use Rattle.store.specs.Lent.{Holds}
 use Rattle.store.specs.LentLaws.{when-whole}
 use Rattle.feeding.specs.BatchLaws.{batching-length}
+use Rattle.feeding.specs.Texts.{textsAt}
 use Rattle.feeding.specs.CutLaws.{LaneThere, fed-open, joined, batching-opening}
 use Rattle.summary.specs.declared.Summing.{Summing}
 use Rattle.summary.specs.declared.Summing.the-variants as summing
 use Rattle.summary.specs.Summary.{refusedIn, refusedAfter}
 use Rattle.summary.specs.Texts.{capped, textsFed, TextsAs, closedCount, ClosedAs}
 use Rattle.summary.specs.TextsLaws.{capped-more}
-use Rattle.summary.specs.PartLaws.{lane-whole, counted, refused-append, fed-more}
+use Rattle.summary.specs.PartLaws.{lane-whole, texts-most, counted, refused-append, fed-more}
 use Rattle.summary.specs.Summing.{allFed, refusedTexts, FedSoFar, fedState, FeedsAs}
 
 -- ---- nothing yet
+
+pub none-open : (o : Opening) → openIn (laneOf (opened o) 0) ≡ false
+unfolding opened laneOf openIn openAfter
+none-open o = ap openIn (getD-all (o .numbers .lanes) 0 (holding []))
 
 module _ (o : Opening) (lane : 0 < o .numbers .lanes) where
   lane-opened : LaneThere (opened o) 0
@@ -49,7 +55,7 @@ module _ (o : Opening) (lane : 0 < o .numbers .lanes) where
       rw (getD-all (o .numbers .lanes) 0 (holding []), set-replicate (o .numbers .lanes) 0 (holding [])) refl
 
   nothing-fed : allFed o [] ≡ record { verdicts = []; after = opened o }
-  unfolding batching semicolons
+  unfolding batching textsIn hasEnd
   nothing-fed =
       ap (λ (h : Held). record { verdicts = []; after = h })
       (ap (λ (f : Fed). f .after) (fed-open (opened o) 0 lane-opened [] refl) ∙ nothing-kept)
@@ -70,7 +76,7 @@ module _ (o : Opening) (v s : List ℕ) (n : ℕ) (g : FedSoFar o v s n) where
   lane : 0 < o .numbers .lanes
   unfolding opened
   lane =
-      subst (λ (x : Opening). 0 < x .numbers .lanes) (ap (λ (h : Held). h .opening) (g .held) ∙ batching-opening (semicolons v) (opened o) 0 v) (lane-whole s (g .whole))
+      subst (λ (x : Opening). 0 < x .numbers .lanes) (ap (λ (h : Held). h .opening) (g .held) ∙ batching-opening (textsAt (opened o) 0 v) (opened o) 0 v) (lane-whole s (g .whole))
 
   module _ (p : List ℕ) where
     abbrev b : Batched
@@ -113,11 +119,11 @@ after-most n (gives x) = omega arith
 
 -- every text, and the closing
 pub refused-most : (o : Opening) (v : List ℕ) → refusedTexts o v ≤ suc (length v)
-unfolding refusedTexts refusedIn semicolons
+unfolding refusedTexts refusedIn
 refused-most o v =
     let b = allFed o v in
-    let n = batching-length (semicolons v) (opened o) 0 v in
-    omega (arith, after-most (refusedIn (b .verdicts)) (closing (b .after) 0 .answer), keep-most isRefusal (b .verdicts), n, keep-most (eqb 59) v)
+    let n = batching-length (textsAt (opened o) 0 v) (opened o) 0 v in
+    omega (arith, after-most (refusedIn (b .verdicts)) (closing (b .after) 0 .answer), keep-most isRefusal (b .verdicts), n, texts-most (openIn (laneOf (opened o) 0)) v)
 
 -- ---- the closing
 

@@ -1,8 +1,10 @@
 -- The laws of the first line, taken in pieces. Assumes nothing.
 --
+--   eqb-flip                         a test of two numbers, the other way round
 --   end-here, end-more, end-none     how many bytes stand before the first LF
 --   line-take, line-ended, line-all  these are the piece's first; a piece has an LF exactly where they are not all
---   space-not, space-full, space-more, used-full, used-more     one byte more
+--   space-quoted, space-not, space-full, space-more, used-full, used-more     one byte more
+--   quote-turns, quote-stays         and the quotes behind it
 --   kept-none, kept-more             what is kept, a byte at a time
 --   kept-append                      taking p and then q is taking p ++ q
 --   taken-all, taken-line            what each return of the code promises
@@ -10,20 +12,27 @@ use Prim.Native.Nat.{ℕ, suc, _+_, _≤_, _<_}
 use native.Mathlib.Numerals.{add-one}
 use native.Mathlib.Omega.{arith}
 use mathlib.Core.Path.{_≡_, refl, sym, ap, _∙_}
-use mathlib.Core.Bool.{Bool, true, false, _||_}
+use mathlib.Core.Bool.{Bool, true, false, _||_, not}
 use mathlib.Core.List.{List, [], _∷_, _++_}
 use lib.Dec.{eqb}
 use lib.ListN.{length, getD, set, take, drop, drop-of-length-le}
 use lib.Seq.{drop-cons}
-use borrow.Author.Tests.{lt-ltb, le-ltb, eq-eqb, ne-eqb}
+use borrow.Author.Tests.{lt-ltb, le-ltb, eqb-true, eqb-false, eq-eqb, ne-eqb}
 use Rattle.trees.specs.Plain.{if_then_else_, member}
+use Rattle.trees.specs.Text.{turned}
 use Rattle.theorems.specs.ListLaws.{if-true, if-false}
-use Rattle.feeding.specs.EndLaws.{eqb-flip}
 use Rattle.summary.specs.declared.LinePart.{LinePart}
 use Rattle.summary.specs.Summary.{firstLine}
 use Rattle.summary.specs.FirstLine.{Kept, spacesWith, usedWith, keptWith, keptAfter, lineTaken, keptOf, TakenAs}
 
 -- ---- the line end
+
+pub eqb-flip : (a b : ℕ) → eqb a b ≡ eqb b a
+eqb-flip a b = go (eqb b a) refl
+  where
+    go : (t : Bool) → eqb b a ≡ t → eqb a b ≡ t
+    go true e = eq-eqb a b (sym (eqb-true b a e))
+    go false e = ne-eqb a b (λ q. eqb-false b a e (sym q))
 
 module _ (p : List ℕ) (i : ℕ) where
   rest-cons : i < length p → firstLine (drop i p) ≡ (if eqb (getD p i 0) 10 then [] else getD p i 0 ∷ firstLine (drop (i + 1) p))
@@ -71,18 +80,31 @@ line-ended (b ∷ p) e = rw (eqb-flip 10 b) (go (eqb b 10) e (line-ended p))
 
 -- ---- a byte more
 
-module _ (n b : ℕ) where
-  pub space-not : (b ≡ 32 → ⊥) → n ≡ spacesWith n b
+module _ (n : ℕ) (q : Bool) (b : ℕ) where
+  pub space-quoted : q ≡ true → n ≡ spacesWith n q b
   unfolding spacesWith
-  space-not e = rw (ne-eqb b 32 e)
+  space-quoted e = rw e
 
-  pub space-full : b ≡ 32 → 64 ≤ n → n ≡ spacesWith n b
+  pub space-not : q ≡ false → (b ≡ 32 → ⊥) → n ≡ spacesWith n q b
   unfolding spacesWith
-  space-full e h = rw (eq-eqb b 32 e, le-ltb n 64 h)
+  space-not o e = rw (o, ne-eqb b 32 e)
 
-  pub space-more : b ≡ 32 → n < 64 → n + 1 ≡ spacesWith n b
+  pub space-full : q ≡ false → b ≡ 32 → 64 ≤ n → n ≡ spacesWith n q b
   unfolding spacesWith
-  space-more e h = rw (eq-eqb b 32 e, lt-ltb n 64 h) (add-one n)
+  space-full o e h = rw (o, eq-eqb b 32 e, le-ltb n 64 h)
+
+  pub space-more : q ≡ false → b ≡ 32 → n < 64 → n + 1 ≡ spacesWith n q b
+  unfolding spacesWith
+  space-more o e h = rw (o, eq-eqb b 32 e, lt-ltb n 64 h) (add-one n)
+
+module _ (q : Bool) (b : ℕ) where
+  pub quote-turns : b ≡ 39 → not q ≡ turned q b
+  unfolding turned
+  quote-turns e = sym (if-true _ _ (eq-eqb b 39 e))
+
+  pub quote-stays : (b ≡ 39 → ⊥) → q ≡ turned q b
+  unfolding turned
+  quote-stays e = sym (if-false _ _ (ne-eqb b 39 e))
 
 module _ (n : ℕ) (out : List ℕ) where
   pub used-full : length out ≤ n → n ≡ usedWith n out
@@ -99,11 +121,12 @@ pub kept-none : (k : Kept) (p : List ℕ) (i : ℕ) → length p ≤ i → k ≡
 unfolding keptAfter
 kept-none k p i h = rw (drop-of-length-le p h)
 
-pub kept-more : (used spaces : ℕ) (out p : List ℕ) (i : ℕ) → i < length p → (u n : ℕ) (next : List ℕ)
-    → n ≡ spacesWith spaces (getD p i 0) → u ≡ usedWith used out → next ≡ set out used (getD p i 0)
-    → keptAfter (record { used = used; spaces = spaces; bytes = out }) (drop i p) ≡ keptAfter (record { used = u; spaces = n; bytes = next }) (drop (i + 1) p)
+pub kept-more : (used spaces : ℕ) (quoted : Bool) (out p : List ℕ) (i : ℕ) → i < length p → (u n : ℕ) (q : Bool) (next : List ℕ)
+    → n ≡ spacesWith spaces quoted (getD p i 0) → q ≡ turned quoted (getD p i 0) → u ≡ usedWith used out → next ≡ set out used (getD p i 0)
+    → keptAfter (record { used = used; spaces = spaces; quoted = quoted; bytes = out }) (drop i p)
+    ≡ keptAfter (record { used = u; spaces = n; quoted = q; bytes = next }) (drop (i + 1) p)
 unfolding keptAfter keptWith
-kept-more used spaces out p i h u n next e f g = rw (drop-cons p i 0 h, add-one i, e, f, g)
+kept-more used spaces quoted out p i h u n q next e d f g = rw (drop-cons p i 0 h, add-one i, e, d, f, g)
 
 pub kept-append : (k : Kept) (p q : List ℕ) → keptAfter (keptAfter k p) q ≡ keptAfter k (p ++ q)
 unfolding keptAfter

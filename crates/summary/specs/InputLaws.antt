@@ -1,5 +1,6 @@
 -- The first line of an input that is cut in two, and what stands behind it. Assumes nothing.
 --
+--   member-left, member-right     an LF in p ++ q, where there is one in p, and where there is none
 --   no-end, nothing-behind     an input without an LF is all first line
 --   line-left, line-right      the first line of p ++ q, where it ends in p, and where it does not
 --   behind-left, behind-right  what stands behind it
@@ -14,24 +15,49 @@ use lib.Dec.{eqb}
 use lib.ListN.{length, drop}
 use Rattle.trees.specs.Plain.{if_then_else_, member}
 use Rattle.theorems.specs.ListLaws.{if-true}
-use Rattle.feeding.specs.EndLaws.{eqb-flip}
-use Rattle.feeding.specs.SeamLaws.{before, before-left, before-right}
 use Rattle.summary.specs.Summary.{firstLine, behindLine}
 use Rattle.summary.specs.FirstLine.{lineTaken}
+use Rattle.summary.specs.FirstLineLaws.{eqb-flip}
 
 -- ---- the line
 
-before-line : (p : List ℕ) → firstLine p ≡ before 10 p
-unfolding before firstLine
-before-line [] = refl
-before-line (b ∷ p) = ap (λ (v : List ℕ). if eqb b 10 then [] else b ∷ v) (before-line p)
+pub member-left : (p q : List ℕ) → member 10 p ≡ true → member 10 (p ++ q) ≡ true
+unfolding member
+member-left [] q e = absurd (true≢false (sym e))
+member-left (b ∷ p) q e = go (eqb 10 b) (member-left p q) e
+  where
+    go : (t : Bool) → (member 10 p ≡ true → member 10 (p ++ q) ≡ true) → (t || member 10 p) ≡ true → (t || member 10 (p ++ q)) ≡ true
+    go true f h = refl
+    go false f h = f h
 
-module _ (p q : List ℕ) where
-  pub line-left : member 10 p ≡ true → firstLine (p ++ q) ≡ firstLine p
-  line-left e = before-line (p ++ q) ∙ before-left 10 p q e ∙ sym (before-line p)
+pub member-right : (p q : List ℕ) → member 10 p ≡ false → member 10 (p ++ q) ≡ member 10 q
+unfolding member
+member-right [] q e = refl
+member-right (b ∷ p) q e = go (eqb 10 b) (member-right p q) e
+  where
+    go : (t : Bool) → (member 10 p ≡ false → member 10 (p ++ q) ≡ member 10 q) → (t || member 10 p) ≡ false → (t || member 10 (p ++ q)) ≡ member 10 q
+    go true f h = absurd (true≢false h)
+    go false f h = f h
 
-  pub line-right : member 10 p ≡ false → firstLine (p ++ q) ≡ p ++ firstLine q
-  line-right e = before-line (p ++ q) ∙ before-right 10 p q e ∙ ap (λ (v : List ℕ). p ++ v) (sym (before-line q))
+pub line-left : (p q : List ℕ) → member 10 p ≡ true → firstLine (p ++ q) ≡ firstLine p
+unfolding member firstLine
+line-left [] q e = absurd (true≢false (sym e))
+line-left (b ∷ p) q e = go (eqb b 10) (line-left p q) (rw (eqb-flip 10 b) at e)
+  where
+    go : (t : Bool) → (member 10 p ≡ true → firstLine (p ++ q) ≡ firstLine p) → (t || member 10 p) ≡ true
+        → (if t then [] else b ∷ firstLine (p ++ q)) ≡ (if t then [] else b ∷ firstLine p)
+    go true f h = refl
+    go false f h = ap (λ (v : List ℕ). b ∷ v) (f h)
+
+pub line-right : (p q : List ℕ) → member 10 p ≡ false → firstLine (p ++ q) ≡ p ++ firstLine q
+unfolding member firstLine
+line-right [] q e = refl
+line-right (b ∷ p) q e = go (eqb b 10) (line-right p q) (rw (eqb-flip 10 b) at e)
+  where
+    go : (t : Bool) → (member 10 p ≡ false → firstLine (p ++ q) ≡ p ++ firstLine q) → (t || member 10 p) ≡ false
+        → (if t then [] else b ∷ firstLine (p ++ q)) ≡ b ∷ (p ++ firstLine q)
+    go true f h = absurd (true≢false h)
+    go false f h = ap (λ (v : List ℕ). b ∷ v) (f h)
 
 -- ---- behind the line
 

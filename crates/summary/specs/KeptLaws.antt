@@ -2,61 +2,91 @@
 --
 --   fresh out            nothing is kept yet
 --   keeps-none, keeps-after     nothing yet, and bytes more
---   names-short          a good name list of n names has fewer than 33 · n bytes
---   line-decides         with a buffer of 2,112 bytes, what is kept opens what the line asks for
+--   names-short          a good name list of n names has fewer than 67 · n bytes
+--   line-decides         with a buffer of 4,288 bytes, what is kept opens what the line asks for
 use Prim.Native.Nat.{ℕ, suc, _+_, _*_, _≤_, _<_}
 use native.Mathlib.Omega.{arith}
 use mathlib.Core.Path.{_≡_, refl, sym, ap, _∙_}
 use mathlib.Core.Logic.{_⊎_, inl, inr}
-use mathlib.Core.Bool.{Bool, true, false, _&&_}
-use mathlib.Core.List.{List, [], _∷_, _++_, append-assoc, append-nil}
+use mathlib.Core.Bool.{Bool, true, false, _&&_, _||_, not, true≢false}
+use mathlib.Core.List.{List, [], _∷_, _++_, map, append-assoc, append-nil}
 use lib.Dec.{ltb, eqb}
-use lib.ListN.{length, take, length-append, length-set}
+use lib.ListN.{length, take, length-append, length-set, length-map}
 use lib.Seq.{take-all, take-append-le, take-suc-set, set-out, length-take-le}
 use borrow.Author.Tests.{lt-ltb, le-ltb, eqb-true}
-use Rattle.trees.specs.Plain.{if_then_else_, every, keep}
-use Rattle.trees.specs.Names.{namesAfter, namesIn, isName, different, goodNames}
+use Rattle.trees.specs.Plain.{if_then_else_, every}
+use Rattle.trees.specs.Text.{isLabelByte, isQuotedByte, turned, openAfter, withByte, parts, isQuoted, isLabel, spaced, unquoted, readAs}
+use Rattle.trees.specs.Names.{nameOf, namesIn, isName, different, goodNames}
 use Rattle.trees.specs.Opening.{opening}
 use Rattle.theorems.specs.ListLaws.{and-left, and-right, less-or-not}
-use Rattle.theorems.specs.NameLaws.{isName-short}
-use Rattle.feeding.specs.EndLaws.{eqb-flip}
-use Rattle.summary.specs.Summary.{spacesIn, summaryNumbers, namesOpening, summaryOpening}
+use Rattle.theorems.specs.QuoteLaws.{open-append}
+use Rattle.theorems.specs.NameLaws.{isName-some, isName-short}
+use Rattle.theorems.specs.LabelLaws.{plain-reads, QuotedLabel, label-cases}
+use Rattle.summary.specs.Summary.{nameCount, summaryNumbers, namesOpening, summaryOpening}
 use Rattle.summary.specs.FirstLine.{Kept, few, Keeps, spacesWith, usedWith, keptWith, keptAfter, keptOpening}
 use Rattle.summary.specs.OpeningLaws.{many-names}
 
 -- ---- one byte after another
 
-spaces-more : (v : List ℕ) (b : ℕ) → spacesIn (v ++ b ∷ []) ≡ (if eqb 32 b then suc (spacesIn v) else spacesIn v)
-unfolding spacesIn keep
-spaces-more [] b = go (eqb 32 b)
-  where
-    go : (t : Bool) → length (if t then b ∷ [] else []) ≡ (if t then 1 else 0)
-    go true = refl
-    go false = refl
-spaces-more (a ∷ v) b = go (eqb 32 a) (eqb 32 b) (spaces-more v b)
-  where
-    go : (t u : Bool) → length (keep (eqb 32) (v ++ b ∷ [])) ≡ (if u then suc (length (keep (eqb 32) v)) else length (keep (eqb 32) v))
-        → length (if t then a ∷ keep (eqb 32) (v ++ b ∷ []) else keep (eqb 32) (v ++ b ∷ []))
-        ≡ (if u then suc (length (if t then a ∷ keep (eqb 32) v else keep (eqb 32) v)) else length (if t then a ∷ keep (eqb 32) v else keep (eqb 32) v))
-    go true true e = ap suc e
-    go true false e = ap suc e
-    go false true e = e
-    go false false e = e
+with-length : (b : ℕ) (r : List (List ℕ)) → length (withByte b r) ≡ length r
+unfolding withByte
+with-length b [] = refl
+with-length b (w ∷ ws) = refl
 
-few-more : (n b : ℕ) → spacesWith (few n) b ≡ few (if eqb 32 b then suc n else n)
-unfolding spacesWith
-few-more n b = rw (eqb-flip b 32) (go (eqb 32 b) (less-or-not n 64))
+parts-step : (q : Bool) (b : ℕ) (v : List ℕ)
+    → length (parts 32 q (b ∷ v)) ≡ (if not q && eqb b 32 then suc (length (parts 32 (turned q b) v)) else length (parts 32 (turned q b) v))
+unfolding parts
+parts-step q b v = go (not q && eqb b 32)
   where
-    go : (t : Bool) → (n < 64) ⊎ (64 ≤ n) → (if t && ltb (few n) 64 then suc (few n) else few n) ≡ few (if t then suc n else n)
-    go false s = refl
-    go true (inr h) = rw (le-ltb n 64 h, le-ltb (suc n) 64 (omega arith)) refl
-    go true (inl h) = rw (lt-ltb n 64 h, lt-ltb n 64 h) (last (less-or-not (suc n) 64))
-      where
-        last : (suc n < 64) ⊎ (64 ≤ suc n) → suc n ≡ few (suc n)
-        last (inl l) = sym (rw (lt-ltb (suc n) 64 l))
-        last (inr l) = rw (le-ltb (suc n) 64 l) (omega arith)
+    go : (t : Bool) → length (if t then [] ∷ parts 32 (turned q b) v else withByte b (parts 32 (turned q b) v))
+        ≡ (if t then suc (length (parts 32 (turned q b) v)) else length (parts 32 (turned q b) v))
+    go true = refl
+    go false = with-length b (parts 32 (turned q b) v)
+
+parts-more : (q : Bool) (v : List ℕ) (b : ℕ)
+    → length (parts 32 q (v ++ b ∷ [])) ≡ (if not (openAfter q v) && eqb b 32 then suc (length (parts 32 q v)) else length (parts 32 q v))
+unfolding openAfter
+parts-more q [] b = parts-step q b [] ∙ (unfold parts in refl)
+parts-more q (a ∷ v) b =
+    parts-step q a (v ++ b ∷ []) ∙ go (not q && eqb a 32) (not (openAfter (turned q a) v) && eqb b 32) _ _ (parts-more (turned q a) v b)
+    ∙ ap (λ (n : ℕ). if not (openAfter (turned q a) v) && eqb b 32 then suc n else n) (sym (parts-step q a v))
+  where
+    go : (t u : Bool) (m n : ℕ) → m ≡ (if u then suc n else n)
+        → (if t then suc m else m) ≡ (if u then suc (if t then suc n else n) else (if t then suc n else n))
+    go true true m n e = ap suc e
+    go true false m n e = ap suc e
+    go false true m n e = e
+    go false false m n e = e
+
+few-more : (n m : ℕ) (q : Bool) (b : ℕ) → suc n ≡ few m → suc (spacesWith n q b) ≡ few (if not q && eqb b 32 then suc m else m)
+unfolding spacesWith
+few-more n m q b e = go (not q && eqb b 32) (less-or-not m 65)
+  where
+    last : m < 65 → (suc m < 65) ⊎ (65 ≤ suc m) → suc m ≡ few (suc m)
+    last h (inl l) = sym (rw (lt-ltb (suc m) 65 l))
+    last h (inr l) = rw (le-ltb (suc m) 65 l) (omega arith)
+
+    go : (t : Bool) → (m < 65) ⊎ (65 ≤ m) → suc (if t && ltb n 64 then suc n else n) ≡ few (if t then suc m else m)
+    go false s = e
+    go true (inr h) =
+        let f : suc n ≡ 65 = rw (le-ltb m 65 h) at e in
+        rw (le-ltb n 64 (omega arith), le-ltb (suc m) 65 (omega arith)) f
+    go true (inl h) =
+        let f : suc n ≡ m = rw (lt-ltb m 65 h) at e in
+        rw (lt-ltb n 64 (omega arith)) (ap suc f ∙ last h (less-or-not (suc m) 65))
 
 module _ (room : ℕ) (v : List ℕ) (k : Kept) (g : Keeps room v k) (b : ℕ) where
+  spaces-on : suc (spacesWith (k .spaces) (k .quoted) b) ≡ few (nameCount (v ++ b ∷ []))
+  unfolding nameCount
+  spaces-on =
+      few-more (k .spaces) (nameCount v) (k .quoted) b (g .spaces)
+      ∙ ap (λ (q : Bool). few (if not q && eqb b 32 then suc (nameCount v) else nameCount v)) (g .quoted)
+      ∙ ap few (sym (parts-more false v b))
+
+  quotes-on : turned (k .quoted) b ≡ openAfter false (v ++ b ∷ [])
+  unfolding openAfter
+  quotes-on = ap (λ (q : Bool). turned q b) (g .quoted) ∙ sym (open-append false v (b ∷ []))
+
   fits : length v < room → Keeps room (v ++ b ∷ []) (keptWith k b)
   unfolding keptWith usedWith
   fits h =
@@ -69,7 +99,8 @@ module _ (room : ℕ) (v : List ℕ) (k : Kept) (g : Keeps room v k) (b : ℕ) w
         size = length-set (k .bytes) (k .used) b ∙ g .size;
         used = rw (lt-ltb (k .used) (length (k .bytes)) i, c) (omega arith);
         bytes = rw (lt-ltb (k .used) (length (k .bytes)) i, take-suc-set (k .bytes) (k .used) b i, g .bytes, a, c) refl;
-        spaces = rw (g .spaces) (few-more (spacesIn v) b ∙ ap few (sym (spaces-more v b)));
+        spaces = spaces-on;
+        quoted = quotes-on;
       }
 
   full : room ≤ length v → Keeps room (v ++ b ∷ []) (keptWith k b)
@@ -82,7 +113,8 @@ module _ (room : ℕ) (v : List ℕ) (k : Kept) (g : Keeps room v k) (b : ℕ) w
         size = length-set (k .bytes) (k .used) b ∙ g .size;
         used = rw (le-ltb (k .used) (length (k .bytes)) i, c) (g .used);
         bytes = rw (le-ltb (k .used) (length (k .bytes)) i, set-out (k .bytes) (k .used) b i, c) (g .bytes);
-        spaces = rw (g .spaces) (few-more (spacesIn v) b ∙ ap few (sym (spaces-more v b)));
+        spaces = spaces-on;
+        quoted = quotes-on;
       }
 
   keeps-more : Keeps room (v ++ b ∷ []) (keptWith k b)
@@ -99,37 +131,86 @@ keeps-after room v (b ∷ w) k g = rw (← append-assoc v (b ∷ []) w) (keeps-a
 
 -- nothing is kept yet, in a buffer of any bytes
 abbrev pub fresh : List ℕ → Kept
-fresh out = record { used = 0; spaces = 0; bytes = out }
+fresh out = record { used = 0; spaces = 0; quoted = false; bytes = out }
 
 pub keeps-none : (out : List ℕ) → Keeps (length out) [] (fresh out)
-unfolding spacesIn keep
-keeps-none out = record { size = refl; used = ap length nothing; bytes = nothing; spaces = refl }
+unfolding nameCount openAfter
+keeps-none out = record { size = refl; used = ap length nothing; bytes = nothing; spaces = refl; quoted = refl }
   where
     nothing : take 0 out ≡ take (length out) []
     nothing = sym (take-all (length out) [] (omega arith))
 
 -- ---- a long line is no name list
 
-names-room : (w v : List ℕ) → every isName (namesAfter w v) ≡ true → length w + length v + 1 ≤ 33 * length (namesAfter w v)
-unfolding every namesAfter
-names-room w [] e = omega (arith, isName-short w (and-left (isName w) true e))
-names-room w (b ∷ v) e = go (eqb b 32) (names-room [] v) (names-room (w ++ b ∷ []) v) e
+-- two quotes inside quotes mean one
+quoted-most : (q : Bool) (v : List ℕ) → isQuoted q v ≡ true → length v ≤ 2 * length (unquoted q v) + (if q then 1 else 0)
+unfolding isQuoted unquoted turned
+quoted-most true [] e = absurd (true≢false (sym e))
+quoted-most false [] e = omega arith
+quoted-most true (b ∷ v) e = go (eqb b 39) (quoted-most false v) (quoted-most true v) e
   where
-    go : (t : Bool) → (every isName (namesAfter [] v) ≡ true → 0 + length v + 1 ≤ 33 * length (namesAfter [] v))
-        → (every isName (namesAfter (w ++ b ∷ []) v) ≡ true → length (w ++ b ∷ []) + length v + 1 ≤ 33 * length (namesAfter (w ++ b ∷ []) v))
-        → every isName (if t then w ∷ namesAfter [] v else namesAfter (w ++ b ∷ []) v) ≡ true
-        → length w + suc (length v) + 1 ≤ 33 * length (if t then w ∷ namesAfter [] v else namesAfter (w ++ b ∷ []) v)
-    go true f g q = omega (arith, isName-short w (and-left (isName w) (every isName (namesAfter [] v)) q), f (and-right (isName w) (every isName (namesAfter [] v)) q))
-    go false f g q = omega (arith, g q, length-append w (b ∷ []))
+    go : (t : Bool) → (isQuoted false v ≡ true → length v ≤ 2 * length (unquoted false v) + 0)
+        → (isQuoted true v ≡ true → length v ≤ 2 * length (unquoted true v) + 1)
+        → ((t || isQuotedByte b) && isQuoted (if t then false else true) v) ≡ true
+        → suc (length v) ≤ 2 * length (if t then unquoted (if t then false else true) v else b ∷ unquoted (if t then false else true) v) + 1
+    go true f g h = omega (arith, f h)
+    go false f g h = omega (arith, g (and-right (isQuotedByte b) (isQuoted true v) h))
+quoted-most false (b ∷ v) e = go (eqb b 39) (quoted-most true v) e
+  where
+    go : (t : Bool) → (isQuoted true v ≡ true → length v ≤ 2 * length (unquoted true v) + 1)
+        → ((t || false) && isQuoted (if t then true else false) v) ≡ true
+        → suc (length v) ≤ 2 * length (b ∷ unquoted (if t then true else false) v) + 0
+    go true f h = omega (arith, f h)
+    go false f h = absurd (true≢false (sym h))
 
-pub names-short : (n : ℕ) (v : List ℕ) → goodNames n (namesIn v) ≡ true → length v < 33 * n
+-- a name of 32 apostrophes has 66 bytes in quotes
+label-most : (w : List ℕ) → isLabel w ≡ true → length (readAs w) ≤ 32 → length w ≤ 66
+label-most w e h = go (label-cases w e)
+  where
+    go : QuotedLabel w ⊎ (every isLabelByte w ≡ true) → length w ≤ 66
+    go (inl c) =
+        let r : length (readAs w) ≡ length (unquoted true (c .0)) = ap (λ (x : List ℕ). length (readAs x)) (c .1) ∙ (unfold readAs in refl) in
+        omega (arith, quoted-most true (c .0) (c .3), ap length (c .1))
+    go (inr p) = omega (arith, ap length (plain-reads w p), length-map w spaced)
+
+name-most : (w : List ℕ) → isName (nameOf w) ≡ true → length w ≤ 66
+unfolding nameOf
+name-most w e = go (isLabel w) refl e
+  where
+    go : (t : Bool) → isLabel w ≡ t → isName (if t then readAs w else []) ≡ true → length w ≤ 66
+    go true l f = label-most w l (isName-short (readAs w) f)
+    go false l f = absurd (omega (arith, isName-some [] f))
+
+-- the bytes of parts, and one more for each
+withSpaces : List (List ℕ) → ℕ
+withSpaces [] = 0
+withSpaces (w ∷ ws) = suc (length w) + withSpaces ws
+
+parts-bytes : (q : Bool) (v : List ℕ) → withSpaces (parts 32 q v) ≡ suc (length v)
+unfolding parts withSpaces withByte
+parts-bytes q [] = refl
+parts-bytes q (b ∷ v) = go (not q && eqb b 32) (parts 32 (turned q b) v) (parts-bytes (turned q b) v)
+  where
+    go : (t : Bool) (r : List (List ℕ)) → withSpaces r ≡ suc (length v) → withSpaces (if t then [] ∷ r else withByte b r) ≡ suc (suc (length v))
+    go true r e = omega arith
+    go false [] e = absurd (omega arith)
+    go false (w ∷ ws) e = omega arith
+
+names-room : (ws : List (List ℕ)) → every isName (map nameOf ws) ≡ true → withSpaces ws ≤ 67 * length ws
+unfolding every withSpaces
+names-room [] e = omega arith
+names-room (w ∷ ws) e =
+    omega (arith, name-most w (and-left (isName (nameOf w)) _ e), names-room ws (and-right (isName (nameOf w)) _ e))
+
+pub names-short : (n : ℕ) (v : List ℕ) → goodNames n (namesIn v) ≡ true → length v < 67 * n
 unfolding goodNames namesIn
 names-short n v e =
-    let c = eqb-true (length (namesAfter [] v)) n (and-left (eqb (length (namesAfter [] v)) n) _ e) in
-    let r = and-left (every isName (namesAfter [] v)) (different (namesAfter [] v)) (and-right (eqb (length (namesAfter [] v)) n) _ e) in
-    omega (arith, c, names-room [] v r)
+    let ws = parts 32 false v in
+    let c = eqb-true (length (map nameOf ws)) n (and-left (eqb (length (map nameOf ws)) n) _ e) in
+    let r = and-left (every isName (map nameOf ws)) (different (map nameOf ws)) (and-right (eqb (length (map nameOf ws)) n) _ e) in
+    omega (arith, c, length-map ws nameOf, parts-bytes false v, names-room ws r)
 
-long-bad : (n : ℕ) (v : List ℕ) → n ≤ 64 → 2112 ≤ length v → goodNames n (namesIn v) ≡ false
+long-bad : (n : ℕ) (v : List ℕ) → n ≤ 64 → 4288 ≤ length v → goodNames n (namesIn v) ≡ false
 long-bad n v h l = go (goodNames n (namesIn v)) refl
   where
     go : (t : Bool) → goodNames n (namesIn v) ≡ t → t ≡ false
@@ -143,34 +224,34 @@ unfolding namesOpening summaryNumbers opening
 bad-names n a b lent e f = rw (e, f) refl
 
 -- what is kept of a whole line, in a buffer that is long enough
-module _ (room : ℕ) (line : List ℕ) (k : Kept) (g : Keeps room line k) (lent : ℕ) (h : 2112 ≤ room) where
+module _ (room : ℕ) (line : List ℕ) (k : Kept) (g : Keeps room line k) (lent : ℕ) (h : 4288 ≤ room) where
   kept-names : keptOpening k lent ≡ namesOpening (suc (k .spaces)) (take room line) lent
   unfolding keptOpening
   kept-names = rw (g .bytes) refl
 
-  line-names : namesOpening (suc (spacesIn line)) line lent ≡ summaryOpening line lent
+  line-names : namesOpening (nameCount line) line lent ≡ summaryOpening line lent
   unfolding summaryOpening
   line-names = refl
 
-  same-names : spacesIn line < 64 → namesOpening (suc (spacesIn line)) (take room line) lent ≡ namesOpening (suc (spacesIn line)) line lent
+  same-names : nameCount line < 65 → namesOpening (nameCount line) (take room line) lent ≡ namesOpening (nameCount line) line lent
   same-names l = go (less-or-not room (length line))
     where
       go : (room < length line) ⊎ (length line ≤ room)
-          → namesOpening (suc (spacesIn line)) (take room line) lent ≡ namesOpening (suc (spacesIn line)) line lent
-      go (inr m) = ap (λ (v : List ℕ). namesOpening (suc (spacesIn line)) v lent) (take-all room line m)
+          → namesOpening (nameCount line) (take room line) lent ≡ namesOpening (nameCount line) line lent
+      go (inr m) = ap (λ (v : List ℕ). namesOpening (nameCount line) v lent) (take-all room line m)
       go (inl m) =
           let t = length-take-le room line (omega arith) in
-          bad-names (suc (spacesIn line)) (take room line) line lent
-          (long-bad (suc (spacesIn line)) (take room line) (omega arith) (omega arith))
-          (long-bad (suc (spacesIn line)) line (omega arith) (omega arith))
+          bad-names (nameCount line) (take room line) line lent
+          (long-bad (nameCount line) (take room line) (omega arith) (omega arith))
+          (long-bad (nameCount line) line (omega arith) (omega arith))
 
-  -- "the names are counted as spaces plus one, a count outside 4 to 64 gives 2, any other fault 3", however long the line
+  -- "a count outside 4 to 64 gives 2, any other fault 3", however long the line
   pub line-decides : keptOpening k lent ≡ summaryOpening line lent
-  line-decides = kept-names ∙ go (less-or-not (spacesIn line) 64) ∙ line-names
+  line-decides = kept-names ∙ go (less-or-not (nameCount line) 65) ∙ line-names
     where
-      go : (spacesIn line < 64) ⊎ (64 ≤ spacesIn line)
-          → namesOpening (suc (k .spaces)) (take room line) lent ≡ namesOpening (suc (spacesIn line)) line lent
-      go (inl l) = rw (g .spaces, lt-ltb (spacesIn line) 64 l) (same-names l)
+      go : (nameCount line < 65) ⊎ (65 ≤ nameCount line)
+          → namesOpening (suc (k .spaces)) (take room line) lent ≡ namesOpening (nameCount line) line lent
+      go (inl l) = rw (g .spaces, lt-ltb (nameCount line) 65 l) (same-names l)
       go (inr l) =
-          rw (g .spaces, le-ltb (spacesIn line) 64 l)
-          (many-names 65 (take room line) lent (omega arith) ∙ sym (many-names (suc (spacesIn line)) line lent (omega arith)))
+          rw (g .spaces, le-ltb (nameCount line) 65 l)
+          (many-names 65 (take room line) lent (omega arith) ∙ sym (many-names (nameCount line) line lent (omega arith)))

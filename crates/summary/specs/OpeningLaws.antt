@@ -4,7 +4,7 @@
 --   constants-more, constants-all, filled-long     such a list, filled one by one
 --   many-names                         more than 64 names are refused with 2
 --   opened-out, opened-kept, opened-names     what each return of the code promises
---   enough-lent                        with 21,512 lent bytes or more, the opening is that of the summary
+--   enough-lent                        with 22,024 lent bytes or more, the opening is that of the summary
 --   two-or-three                       a first line that is refused then is refused with 2 or 3
 use Prim.Native.Nat.{ℕ, zero, suc, _+_, _≤_, _<_}
 use native.Mathlib.Numerals.{add-one}
@@ -32,7 +32,7 @@ use Rattle.opening.specs.GivenLaws.{range-not-taxa}
 use Rattle.table.specs.Promises.{OpenedAs}
 use Rattle.answers.specs.FrontLaws.{copied-more, copied-all}
 use Rattle.table.specs.OpenLaws.{not-in-range, refused-as}
-use Rattle.summary.specs.Summary.{spacesIn, summaryNumbers, firstConstant, secondConstant, namesOpening, summaryOpening, summaryBytes}
+use Rattle.summary.specs.Summary.{nameCount, summaryNumbers, firstConstant, secondConstant, namesOpening, summaryOpening, summaryBytes}
 use Rattle.summary.specs.FirstLine.{Kept, keptOpening}
 
 -- ---- constants
@@ -114,7 +114,7 @@ module _ (line : List ℕ) (lent : ℕ) (h : summaryBytes ≤ lent) where
   byTests a b o = if a then if b then gives o else refused 3 else refused 2
 
   abbrev n : ℕ
-  n = suc (spacesIn line)
+  n = nameCount line
 
   abbrev ranges : Bool
   ranges = inRange (summaryNumbers n) && goodConstants (summaryNumbers n) (upTo firstConstant n) (upTo secondConstant n)
@@ -124,7 +124,7 @@ module _ (line : List ℕ) (lent : ℕ) (h : summaryBytes ≤ lent) where
 
   by-tests : summaryOpening line lent ≡ byTests ranges (goodNames n (namesIn line)) asked
   unfolding summaryOpening namesOpening opening summaryNumbers storeSize
-  by-tests = rw (le-leb 21512 lent h) refl
+  by-tests = rw (le-leb 22024 lent h) refl
 
   -- "a count outside 4 to 64 gives 2, any other fault 3"
   pub two-or-three : (k : ℕ) → summaryOpening line lent ≡ refused k → (k ≡ 2) ⊎ (k ≡ 3)

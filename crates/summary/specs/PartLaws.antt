@@ -1,6 +1,7 @@
 -- The texts of a piece, fed part by part and piece by piece. Assumes nothing.
 --
 --   lane-whole, lane-there           a whole store has a lane 0
+--   texts-most                       a piece ends no more texts than it has bytes
 --   part-refused, part-given, verdicts-there     a part that is one batch
 --   counted, given-whole, given-count     the answer of a feeding on whole bytes
 --   refused-append                   the refusals among two runs of verdicts
@@ -10,24 +11,25 @@
 --   texts-size                       the lent bytes stay as many
 --   Rest ..                          part after part: what is left of the piece decides
 --   rest-none, rest-more, rest-refused, rest-last     no part yet, one more, a refusal, and the last
-use Prim.Native.Nat.{ℕ, _+_, _-_, _≤_, _<_}
+use Prim.Native.Nat.{ℕ, suc, _+_, _-_, _≤_, _<_}
 use native.Mathlib.Omega.{arith}
 use mathlib.Core.Path.{_≡_, refl, sym, ap, subst, _∙_}
 use mathlib.Core.Bool.{Bool, true, false, true≢false}
-use mathlib.Core.List.{List, _++_}
-use lib.Dec.{eqb}
+use mathlib.Core.List.{List, [], _∷_, _++_}
 use lib.ListN.{length, getD, take, drop, length-append, length-drop, take-append-drop}
 use lib.Seq.{take-at, take-all, drop-drop}
 use borrow.Author.Tests.{lt-ltb, le-ltb}
-use Rattle.trees.specs.Plain.{keep, Answer, refused, gives}
+use Rattle.trees.specs.Plain.{if_then_else_, keep, Answer, refused, gives}
 use Rattle.trees.specs.Opening.{Numbers}
-use Rattle.trees.specs.Held.{Held}
-use Rattle.trees.specs.Batch.{semicolons, isRefusal, Batched, batching, batch}
-use Rattle.theorems.specs.ListLaws.{keep-append, keep-most}
+use Rattle.trees.specs.Text.{turned, endsText, openAfter}
+use Rattle.trees.specs.Held.{Held, laneOf, openIn}
+use Rattle.trees.specs.Batch.{textsIn, isRefusal, Batched, batching, batch}
+use Rattle.theorems.specs.ListLaws.{keep-append}
 use Rattle.answers.specs.declared.Number.{Number}
 use Rattle.answers.specs.declared.Number.the-variants as number
 use Rattle.answers.specs.declared.Refusal.{Refusal}
 use Rattle.answers.specs.Answers.{refusalNumber, numberGiven}
+use Rattle.text.specs.EndLaws.{texts-append}
 use Rattle.head.specs.Head.{openingAt}
 use Rattle.layout.specs.Store.{heldAt}
 use Rattle.layout.specs.WholeStore.{wholeAt}
@@ -36,8 +38,8 @@ use Rattle.store.specs.Lent.{Holds}
 use Rattle.store.specs.LentLaws.{not-whole, when-whole}
 use Rattle.feeding.specs.Feeding.{batchOf, BatchedAs}
 use Rattle.feeding.specs.BatchLaws.{none-front, none-back}
-use Rattle.feeding.specs.EndLaws.{semicolons-append}
-use Rattle.feeding.specs.CutLaws.{LaneThere, joined, batching-opening, batching-append}
+use Rattle.feeding.specs.Texts.{textsAt}
+use Rattle.feeding.specs.CutLaws.{LaneThere, joined, batching-opening, batching-open, batching-append}
 use Rattle.summary.specs.Summary.{refusedIn}
 use Rattle.summary.specs.Texts.{part, capped, textsFed, textsCount, TextsAs}
 use Rattle.summary.specs.TextsLaws.{capped-more}
@@ -53,9 +55,14 @@ lane-there s w = record { counted = lane-whole s w; text = omega (arith, lane-wh
 
 -- ---- at most 4,096 bytes: one batch
 
-texts-most : (p : List ℕ) → semicolons p ≤ length p
-unfolding semicolons
-texts-most p = keep-most (eqb 59) p
+pub texts-most : (q : Bool) (p : List ℕ) → textsIn q p ≤ length p
+unfolding textsIn
+texts-most q [] = omega arith
+texts-most q (b ∷ p) = go (endsText q b) (texts-most (turned q b) p)
+  where
+    go : (t : Bool) → textsIn (turned q b) p ≤ length p → (if t then suc (textsIn (turned q b) p) else textsIn (turned q b) p) ≤ suc (length p)
+    go true h = omega arith
+    go false h = omega arith
 
 module _ (s : List ℕ) (n : ℕ) (p : List ℕ) (e : wholeAt s ≡ false) where
   not-counted : textsCount s n p ≡ refused 1
@@ -79,7 +86,7 @@ module _ (s p : List ℕ) (room : ℕ) (e : room ≡ part) (few : length p ≤ p
   unfolding batch
   batch-whole w =
       when-whole s (λ h. batch h 0 p room) w
-      ∙ rw (lt-ltb 0 (heldAt s .opening .numbers .lanes) (lane-whole s w), le-ltb room (semicolons p) (omega (arith, texts-most p))) refl
+      ∙ rw (lt-ltb 0 (heldAt s .opening .numbers .lanes) (lane-whole s w), le-ltb room (textsAt (heldAt s) 0 p) (omega (arith, texts-most (openIn (laneOf (heldAt s) 0)) p))) refl
 
   batch-refused : wholeAt s ≡ false → batchOf s 0 p room ≡ refused 1
   unfolding refusalNumber
@@ -131,7 +138,10 @@ refused-append v w = ap length (keep-append isRefusal v w) ∙ length-append (ke
 
 pub fed-more : (h : Held) → LaneThere h 0 → (p q : List ℕ) → textsFed h (p ++ q) ≡ joined (textsFed h p) (textsFed (textsFed h p .after) q)
 fed-more h here p q =
-    ap (λ (n : ℕ). batching n h 0 (p ++ q)) (semicolons-append p q) ∙ batching-append (semicolons p) (semicolons q) h 0 here p q refl
+    let o = openIn (laneOf h 0) in
+    ap (λ (n : ℕ). batching n h 0 (p ++ q)) (texts-append o p q)
+    ∙ batching-append (textsAt h 0 p) (textsIn (openAfter o p) q) h 0 here p q refl
+    ∙ ap (λ (b : Bool). joined (textsFed h p) (batching (textsIn b q) (textsFed h p .after) 0 q)) (sym (batching-open (textsAt h 0 p) h 0 here p refl))
 
 -- lent bytes that hold more and more
 pub holds-then : (h k : Held) (s t u : List ℕ) → k .opening ≡ h .opening → Holds h s t → Holds k t u → Holds k s u
@@ -175,7 +185,7 @@ module _ (s : List ℕ) (n : ℕ) (p : List ℕ) (m : ℕ) (u : List ℕ) (a : T
               ∙ ap (λ (x : Batched). gives (capped (n + refusedIn (x .verdicts)))) (sym both)
               ∙ sym (counted s n (p ++ q) given-whole);
           found = λ e. absurd (true≢false (sym given-whole ∙ e));
-          holds = λ e. rw both (holds-then _ _ s u t (batching-opening (semicolons q) (heldAt u) 0 q ∙ ap (λ (h : Held). h .opening) (g .held)) g (b .holds (g .whole)));
+          holds = λ e. rw both (holds-then _ _ s u t (batching-opening (textsAt (heldAt u) 0 q) (heldAt u) 0 q ∙ ap (λ (h : Held). h .opening) (g .held)) g (b .holds (g .whole)));
           outside = λ e i h. let z = rw both at e in b .outside (none-back v w z) i h ∙ a .outside (none-front v w z) i h;
         }
 

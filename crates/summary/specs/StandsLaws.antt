@@ -16,7 +16,8 @@ use lib.ListN.{length, drop}
 use borrow.Author.Tests.{le-leb, leb-true}
 use Rattle.trees.specs.Plain.{member, Answer, refused, gives}
 use Rattle.trees.specs.Opening.{Opening}
-use Rattle.trees.specs.Held.{closing}
+use Rattle.trees.specs.Held.{opened, closing}
+use Rattle.trees.specs.Batch.{textsIn, batching}
 use Rattle.theorems.specs.ListLaws.{and-left, and-right}
 use Rattle.answers.specs.declared.Finish.{Finish}
 use Rattle.answers.specs.declared.Finish.the-variants as finish
@@ -28,7 +29,6 @@ use Rattle.answers.specs.Answers.{refusalNumber, finishGiven}
 use Rattle.layout.specs.Store.{heldAt}
 use Rattle.store.specs.LentLaws.{when-whole}
 use Rattle.table.specs.Promises.{OpenedAs}
-use Rattle.feeding.specs.SeamLaws.{member-left, member-right}
 use Rattle.sheet.specs.Sheet.{sheetLines}
 use Rattle.sheet.specs.Asked.{linesFrom, PrintsAs}
 use Rattle.summary.specs.declared.LinePart.{LinePart}
@@ -40,9 +40,9 @@ use Rattle.summary.specs.Texts.{ClosedAs}
 use Rattle.summary.specs.TextsLaws.{capped-small}
 use Rattle.summary.specs.KeptLaws.{keeps-none, keeps-after, line-decides}
 use Rattle.summary.specs.OpeningLaws.{enough-lent}
-use Rattle.summary.specs.InputLaws.{no-end, nothing-behind, line-left, line-right, behind-left, behind-right, behind-taken}
+use Rattle.summary.specs.InputLaws.{member-left, member-right, no-end, nothing-behind, line-left, line-right, behind-left, behind-right, behind-taken}
 use Rattle.summary.specs.Summing.{roomy, asksFor, allFed, refusedTexts, FedSoFar, StandsFor, SheetOf, CountedIn, begun, BegunAs, BehindAs, OpensAs, NamesAs, TakeSteps, TookAs, EndsAs, ClosesAs, FinishSteps, FinishedAs, refusalLines, sheetAsked, PrintedAs}
-use Rattle.summary.specs.FedSoFarLaws.{texts-none, feeds-on, closed-on, closed-never}
+use Rattle.summary.specs.FedSoFarLaws.{none-open, texts-none, feeds-on, closed-on, closed-never}
 
 -- ---- beginning
 
@@ -51,20 +51,20 @@ module _ (names lent : List ℕ) where
   unfolding roomy
   begun-short e = record {
     answer = ap begun (sym e);
-    carries = λ a b. absurd (true≢false (sym (rw (le-leb 2112 (length names) a, le-leb summaryBytes (length lent) b) refl) ∙ e));
+    carries = λ a b. absurd (true≢false (sym (rw (le-leb 4288 (length names) a, le-leb summaryBytes (length lent) b) refl) ∙ e));
   }
 
-  pub begun-roomy : 2112 ≤ length names → summaryBytes ≤ length lent → BegunAs names lent (begun true)
+  pub begun-roomy : 4288 ≤ length names → summaryBytes ≤ length lent → BegunAs names lent (begun true)
   unfolding StandsFor begun member
   begun-roomy a b = record { answer = ap begun (sym room); carries = λ c d. (room, refl, keeps-none names) }
     where
       room : roomy names lent ≡ true
-      room = unfold roomy in rw (le-leb 2112 (length names) a, le-leb summaryBytes (length lent) b) refl
+      room = unfold roomy in rw (le-leb 4288 (length names) a, le-leb summaryBytes (length lent) b) refl
 
 -- ---- the first line has ended
 
 -- what is kept of the line asks for what the input asks for
-module _ (room : ℕ) (k : Kept) (v lent : List ℕ) (g : Keeps room (firstLine v) k) (a : 2112 ≤ room) (b : summaryBytes ≤ length lent) where
+module _ (room : ℕ) (k : Kept) (v lent : List ℕ) (g : Keeps room (firstLine v) k) (a : 4288 ≤ room) (b : summaryBytes ≤ length lent) where
   asks-same : keptOpening k (length lent) ≡ asksFor v
   asks-same = line-decides room (firstLine v) k g (length lent) a ∙ enough-lent (firstLine v) (length lent) b
 
@@ -101,13 +101,13 @@ module _ (room : ℕ) (k : Kept) (v lent : List ℕ) (g : Keeps room (firstLine 
       go (gives o) e (finish.Refused w) p q = absurd (let z : _≡_ {A = ℕ} 0 1 = cc (p .0) in omega arith)
       go (gives o) e finish.Done p q = closes o e (texts-none o lent (c .store) (p .1)) r q
 
-roomy-names : (names lent : List ℕ) → roomy names lent ≡ true → 2112 ≤ length names
+roomy-names : (names lent : List ℕ) → roomy names lent ≡ true → 4288 ≤ length names
 unfolding roomy
-roomy-names names lent e = leb-true 2112 (length names) (and-left (leb 2112 (length names)) _ e)
+roomy-names names lent e = leb-true 4288 (length names) (and-left (leb 4288 (length names)) _ e)
 
 roomy-lent : (names lent : List ℕ) → roomy names lent ≡ true → summaryBytes ≤ length lent
 unfolding roomy
-roomy-lent names lent e = leb-true summaryBytes (length lent) (and-right (leb 2112 (length names)) _ e)
+roomy-lent names lent e = leb-true summaryBytes (length lent) (and-right (leb 4288 (length names)) _ e)
 
 -- ---- a piece more
 
@@ -127,7 +127,7 @@ module _ (line : LinePart) (names lent p : List ℕ) (r : Summing) (after t : Li
       subst (λ (x : List ℕ). Keeps (length names) (v ++ x) (keptOf (c .taken .line) after)) (no-end p e) keeps-on in
       let x : roomy after lent ≡ true = rw l room in
       subst (λ (y : Summing). StandsFor y after t (v ++ p)) (sym (f .0))
-      (subst (λ (y : List ℕ). roomy after y ≡ true) (sym (f .1)) x, member-right 10 v p on ∙ e, subst (λ (n : ℕ). Keeps n (v ++ p) (keptOf (c .taken .line) after)) (sym l) k)
+      (subst (λ (y : List ℕ). roomy after y ≡ true) (sym (f .1)) x, member-right v p on ∙ e, subst (λ (n : ℕ). Keeps n (v ++ p) (keptOf (c .taken .line) after)) (sym l) k)
 
   -- it ends in this piece
   ends-here : member 10 p ≡ true → StandsFor r after t (v ++ p)
@@ -136,7 +136,7 @@ module _ (line : LinePart) (names lent p : List ℕ) (r : Summing) (after t : Li
       let q : drop (c .taken .taken) p ≡ behindLine (v ++ p) =
       ap (λ (n : ℕ). drop n p) (c .kept .taken) ∙ behind-taken p e ∙ sym (behind-right v p on) in
       opens-stands (length names) (keptOf (c .taken .line) after) (v ++ p) lent k (roomy-names names lent room) (roomy-lent names lent room)
-      (member-right 10 v p on ∙ e) after r t
+      (member-right v p on ∙ e) after r t
       (subst (λ (x : List ℕ). OpensAs (keptOf (c .taken .line) after) lent x r t) q (c .ends (c .kept .ended ∙ e)))
 
   names-stand : StandsFor r after t (v ++ p)
@@ -157,9 +157,9 @@ take-stands (summing.Line line) names lent p r after t c v g = names-stand line 
 take-stands (summing.Texts n) names lent p r after t c v g =
     let z = feeds-on (g .1) (behindLine v) lent n (g .3) p r t (c .0) in
     subst (λ (y : Summing). StandsFor y after t (v ++ p)) (sym (z .1))
-    (member-left 10 v p (g .0), g .1, asks-on v p (g .0) ∙ g .2, subst (λ (x : List ℕ). FedSoFar (g .1) x t (z .0)) (sym (behind-left v p (g .0))) (z .2))
+    (member-left v p (g .0), g .1, asks-on v p (g .0) ∙ g .2, subst (λ (x : List ℕ). FedSoFar (g .1) x t (z .0)) (sym (behind-left v p (g .0))) (z .2))
 take-stands (summing.Refused w) names lent p r after t c v g =
-    subst (λ (y : Summing). StandsFor y after t (v ++ p)) (sym (c .0)) (member-left 10 v p (g .0), asks-on v p (g .0) ∙ g .1)
+    subst (λ (y : Summing). StandsFor y after t (v ++ p)) (sym (c .0)) (member-left v p (g .0), asks-on v p (g .0) ∙ g .1)
 
 pub took-as : (state : Summing) (names lent p : List ℕ) (r : Summing) (after t : List ℕ) → TakeSteps state names lent p r after t → TookAs state names lent p r after t
 took-as state names lent p r after t c = record { steps = c; carries = take-stands state names lent p r after t c }
@@ -192,7 +192,7 @@ lines-are v x e = ap (λ (y : Answer Opening). printedLines y (behindLine v)) e
 
 lines-of : (o : Opening) (q : List ℕ) → printedLines (gives o) q ≡ sheetLines (closing (allFed o q .after) 0 .after) (refusedTexts o q)
 unfolding printedLines summaryLines closedSheet refusedTexts
-lines-of o q = refl
+lines-of o q = ap (λ (b : Bool). closedSheet (batching (textsIn b q) (opened o) 0 q)) (sym (none-open o))
 
 -- the answer counts the refused texts
 pub sheet-counted : (n : ℕ) (s v : List ℕ) → SheetOf (number.Gives n) s v → CountedIn v → n < 2 ^ 64

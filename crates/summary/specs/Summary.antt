@@ -1,7 +1,7 @@
 -- The summary program: what `treesum` prints for an input.
 --
 --   firstLine s, behindLine s     the first line of s, and what stands behind its end
---   spacesIn s                    how many spaces there are
+--   nameCount line                how many names the first line has: one more than its spaces outside quotes
 --   firstConstant, secondConstant     the constants of taxon i
 --   namesOpening n list lent      the opening of n taxa with a name list, in `lent` bytes, or its refusal
 --   summaryOpening line lent      the opening that the first line asks for
@@ -13,13 +13,15 @@
 --   summary input                 and their bytes, one behind another
 use Prim.Native.Nat.{ℕ, suc, _*_, _%_, _^_}
 use mathlib.Core.Path.{_≡_, refl}
+use mathlib.Core.Bool.{false}
 use mathlib.Core.List.{List, [], _∷_}
 use lib.Dec.{eqb}
 use lib.ListN.{length}
 use Rattle.trees.specs.Plain.{if_then_else_, keep, bytes, byte, Answer, refused, gives}
+use Rattle.trees.specs.Text.{parts}
 use Rattle.trees.specs.Opening.{Numbers, Opening, opening}
 use Rattle.trees.specs.Held.{opened, closing}
-use Rattle.trees.specs.Batch.{semicolons, isRefusal, Batched, batching}
+use Rattle.trees.specs.Batch.{textsIn, isRefusal, Batched, batching}
 use Rattle.head.specs.Head.{upTo}
 use Rattle.sheet.specs.Sheet.{sheetLines, refusalLine}
 use Rattle.sheet.specs.Asked.{bytesOf}
@@ -33,9 +35,10 @@ unfoldable pub behindLine : List ℕ → List ℕ
 behindLine [] = []
 behindLine (b ∷ s) = if eqb b (byte "\n") then s else behindLine s
 
-unfoldable pub spacesIn : List ℕ → ℕ
-unfolding keep
-spacesIn s = length (keep (eqb (byte " ")) s)
+-- "the names are counted as spaces plus one", by "quoted names, whose spaces neither part names nor are counted"
+unfoldable pub nameCount : List ℕ → ℕ
+unfolding parts
+nameCount line = length (parts (byte " ") false line)
 
 -- "one lane, closed at the end, 48 trees, 256 splits"; two places a split
 unfoldable pub summaryNumbers : ℕ → Numbers
@@ -53,14 +56,14 @@ unfoldable pub namesOpening : ℕ → List ℕ → ℕ → Answer Opening
 unfolding opening summaryNumbers upTo firstConstant secondConstant
 namesOpening n list lent = opening (summaryNumbers n) list (upTo firstConstant n) (upTo secondConstant n) lent
 
--- "the names are counted as spaces plus one, a count outside 4 to 64 gives 2, any other fault 3"
+-- "a count outside 4 to 64 gives 2, any other fault 3"
 unfoldable pub summaryOpening : List ℕ → ℕ → Answer Opening
-unfolding namesOpening spacesIn
-summaryOpening line lent = namesOpening (suc (spacesIn line)) line lent
+unfolding namesOpening nameCount
+summaryOpening line lent = namesOpening (nameCount line) line lent
 
--- the bytes that such a store takes: 4,096 + 4,104 + 128 · 48 + 24 · 256 + 2 · 512
+-- the bytes that such a store takes: 4,096 + 4,616 + 128 · 48 + 24 · 256 + 2 · 512
 abbrev pub summaryBytes : ℕ
-summaryBytes = 21512
+summaryBytes = 22024
 
 unfoldable pub refusedIn : List ℕ → ℕ
 unfolding keep
@@ -77,8 +80,8 @@ unfolding sheetLines closing refusedAfter refusedIn
 closedSheet b = sheetLines (closing (b .after) 0 .after) (refusedAfter (refusedIn (b .verdicts)) (closing (b .after) 0 .answer))
 
 unfoldable pub summaryLines : Opening → List ℕ → List (List ℕ)
-unfolding closedSheet batching semicolons opened
-summaryLines o texts = closedSheet (batching (semicolons texts) (opened o) 0 texts)
+unfolding closedSheet batching textsIn opened
+summaryLines o texts = closedSheet (batching (textsIn false texts) (opened o) 0 texts)
 
 -- "A bad first line gives only `names refused` and the number"
 unfoldable pub printedLines : Answer Opening → List ℕ → List (List ℕ)
@@ -95,7 +98,7 @@ unfoldable pub summary : List ℕ → List ℕ
 unfolding linesFor bytesOf
 summary input = bytesOf (linesFor input)
 
--- ---- the sheet of document 01
+-- ---- samples: the sheet of document 01, and our own
 
 pub sheet-of-the-document :
     summary (bytes "A B C D E\n((A,B),C,(D,E));\n((A,B),D,(C,E));\n((D,E),(C,(A,B)));\n")
@@ -106,3 +109,15 @@ sheet-of-the-document = refl
 pub sheet-of-no-trees : summary (bytes "A B C D\n \n") ≡ bytes "taxa 4 trees 0 refused 0 splits 0\nmajority none\nstrict none\n"
 unfolding summary
 sheet-of-no-trees = refl
+
+-- spaces of quoted names are not counted, and a semicolon in quotes ends no text
+pub sheet-of-quoted-names :
+    summary (bytes "'A b' C 'it''s' D_e 'x;y'\n((A_b,C),'it''s',('D e','x;y'));\n(('A b',C),'x;y',('it''s',D_e));\n")
+    ≡ bytes "taxa 5 trees 2 refused 0 splits 3\n12 1\n24 1\n28 2\n0 2\n2 0\nmajority (A_b,C,('it''s',D_e,'x;y'));\nstrict (A_b,C,('it''s',D_e,'x;y'));\n"
+unfolding summary
+sheet-of-quoted-names = refl
+
+-- quotes that do not close hide the other spaces: two names are counted
+pub sheet-of-open-quotes : summary (bytes "A 'B C D E\n(A,B,C);") ≡ bytes "names refused 2\n"
+unfolding summary
+sheet-of-open-quotes = refl

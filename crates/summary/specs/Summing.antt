@@ -1,6 +1,6 @@
 -- The summary of an input that comes in pieces: what its calls do, and what a state stands for.
 --
---   roomy names lent             the buffer for names and the lent bytes reach 2,112 and 21,512
+--   roomy names lent             the buffer for names and the lent bytes reach 4,288 and 22,024
 --   FedSoFar o v s n             the lent bytes s hold what feeding v to the opening o leaves, and n counts its refusals
 --   StandsFor state names lent v     the state, with the buffer and the lent bytes, stands for the input v so far
 --   SheetOf answer lent v        the answer of finishing, with the lent bytes, stands for the whole input v
@@ -23,8 +23,8 @@ use lib.Dec.{leb}
 use lib.ListN.{length, drop}
 use Rattle.trees.specs.Plain.{member, byte, Answer, refused, gives}
 use Rattle.trees.specs.Opening.{Opening}
-use Rattle.trees.specs.Held.{opened, closing}
-use Rattle.trees.specs.Batch.{semicolons, batching, Batched}
+use Rattle.trees.specs.Held.{opened, laneOf, openIn, closing}
+use Rattle.trees.specs.Batch.{textsIn, batching, Batched}
 use Rattle.answers.specs.declared.Finish.{Finish}
 use Rattle.answers.specs.declared.Finish.the-variants as finish
 use Rattle.answers.specs.declared.Number.{Number}
@@ -50,7 +50,7 @@ use Rattle.summary.specs.Texts.{capped, textsFed, TextsAs, ClosedAs}
 -- ---- what a state stands for
 
 unfoldable pub roomy : List ℕ → List ℕ → Bool
-roomy names lent = leb 2112 (length names) && leb summaryBytes (length lent)
+roomy names lent = leb 4288 (length names) && leb summaryBytes (length lent)
 
 -- what an input asks to open
 abbrev pub asksFor : List ℕ → Answer Opening
@@ -60,7 +60,7 @@ abbrev pub allFed : Opening → List ℕ → Batched
 allFed o v = textsFed (opened o) v
 
 unfoldable pub refusedTexts : Opening → List ℕ → ℕ
-unfolding refusedAfter refusedIn closing batching semicolons opened
+unfolding refusedAfter refusedIn closing batching textsIn openIn laneOf opened
 refusedTexts o v = refusedAfter (refusedIn (allFed o v .verdicts)) (closing (allFed o v .after) 0 .answer)
 
 pub record FedSoFar (o : Opening) (v s : List ℕ) (n : ℕ) : Type 0 where
@@ -94,12 +94,12 @@ CountedIn v = (o : Opening) → asksFor v ≡ gives o → refusedTexts o (behind
 
 -- 4: "a lent buffer is too short"
 unfoldable pub begun : Bool → Summing
-begun true = summing.Line (record { used = 0; spaces = 0 })
+begun true = summing.Line (record { used = 0; spaces = 0; quoted = false })
 begun false = summing.Refused why.TooShort
 
 pub record BegunAs (names lent : List ℕ) (r : Summing) : Type 0 where
   pub answer : r ≡ begun (roomy names lent)
-  pub carries : 2112 ≤ length names → summaryBytes ≤ length lent → StandsFor r names lent []
+  pub carries : 4288 ≤ length names → summaryBytes ≤ length lent → StandsFor r names lent []
 
 -- ---- taking a piece
 

@@ -13,14 +13,15 @@ use mathlib.Core.Bool.{true, false}
 use mathlib.Core.List.{List}
 use lib.Dec.{ltb}
 use Rattle.trees.specs.Plain.{if_then_else_, Answer, gives}
-use Rattle.trees.specs.Held.{Held, closing}
-use Rattle.trees.specs.Batch.{semicolons, noneAccepted, Batched, batching}
+use Rattle.trees.specs.Held.{Held, laneOf, openIn, closing}
+use Rattle.trees.specs.Batch.{textsIn, noneAccepted, Batched, batching}
 use Rattle.answers.specs.declared.Number.{Number}
 use Rattle.answers.specs.Answers.{numberGiven}
 use Rattle.layout.specs.Store.{heldAt}
 use Rattle.layout.specs.WholeStore.{wholeAt}
 use Rattle.store.specs.Lent.{ifWhole, Holds}
 use Rattle.feeding.specs.Feeding.{SameOutside}
+use Rattle.feeding.specs.Texts.{textsAt}
 use Rattle.summary.specs.Summary.{refusedIn, refusedAfter}
 
 abbrev pub part : ℕ
@@ -31,11 +32,11 @@ unfoldable pub capped : ℕ → ℕ
 capped n = if ltb n 18446744073709551616 then n else 18446744073709551615
 
 abbrev pub textsFed : Held → List ℕ → Batched
-textsFed h p = batching (semicolons p) h 0 p
+textsFed h p = batching (textsAt h 0 p) h 0 p
 
 -- 1: "the lent collection is not whole"
 unfoldable pub textsCount : List ℕ → ℕ → List ℕ → Answer ℕ
-unfolding ifWhole capped refusedIn batching semicolons
+unfolding ifWhole capped refusedIn batching textsIn openIn laneOf
 textsCount s n p = ifWhole s (λ h. gives (capped (n + refusedIn (textsFed h p .verdicts))))
 
 -- "All lent memory stays as found, save the lane emptied by a verdict"

@@ -4,6 +4,7 @@
 ghost use mathlib.Core.Path.{_≡_};
 ghost use Prim.Native.Nat.{_≤_, _<_};
 ghost use lib.ListN.{length, set};
+ghost use Rattle.trees.specs.Text.{turned};
 ghost use Rattle.head.specs.Head.{upTo};
 ghost use Rattle.table.specs.Promises.{OpenedAs};
 ghost use Rattle.summary.specs.Summary.{firstLine, firstConstant, secondConstant, namesOpening};
@@ -55,20 +56,29 @@ fn keep_bytes(line: LinePart, out: &mut [u8], piece: &[u8]) -> LinePart
 {
     let mut used = line.used;
     let mut spaces = line.spaces;
+    let mut quoted = line.quoted;
     let mut i = 0;
     while i < piece.len() {
         let b = piece[i];
-        spaces = count_space(spaces, b);
+        spaces = count_space(spaces, quoted, b);
+        quoted = turn_quotes(quoted, b);
         used = keep_byte(out, used, b);
         i += 1;
     }
-    LinePart { used, spaces }
+    LinePart {
+        used,
+        spaces,
+        quoted,
+    }
 }
 
-// One more, where b is a space and there are fewer than 64.
-fn count_space(spaces: usize, b: u8) -> usize
-    ensures { λ r. ⌜ r ≡ spacesWith spaces b ⌝ }
+// One more, where b is a space outside quotes and there are fewer than 64.
+fn count_space(spaces: usize, quoted: bool, b: u8) -> usize
+    ensures { λ r. ⌜ r ≡ spacesWith spaces quoted b ⌝ }
 {
+    if quoted {
+        return spaces;
+    }
     if b != 32 {
         return spaces;
     }
@@ -76,6 +86,16 @@ fn count_space(spaces: usize, b: u8) -> usize
         return spaces;
     }
     spaces + 1
+}
+
+// Whether quotes are open behind b.
+fn turn_quotes(quoted: bool, b: u8) -> bool
+    ensures { λ r. ⌜ r ≡ turned quoted b ⌝ }
+{
+    if b == 39 {
+        return !quoted;
+    }
+    quoted
 }
 
 // Keeps a byte, where it fits.

@@ -16,10 +16,12 @@ ghost use Rattle.sheet.specs.Asked.{linesFrom, PrintsAs};
 mod first_line;
 mod texts;
 
-// What is kept of a first line that is being taken: how many bytes, and how many spaces it has had, at most 64.
+// What is kept of a first line that is being taken: how many bytes, how many spaces it has had outside quotes, at most
+// 64, and whether quotes are open behind what was taken of it.
 pub struct LinePart {
     pub used: usize,
     pub spaces: usize,
+    pub quoted: bool,
 }
 
 // The answer of taking a piece of the first line: how many of its bytes, whether the line has ended, and what is kept.
@@ -37,17 +39,21 @@ pub enum Summing {
     Refused(Refusal),
 }
 
-// Begins with a buffer of 2,112 bytes or more for names, and 21,512 lent bytes or more.
+// Begins with a buffer of 4,288 bytes or more for names, and 22,024 lent bytes or more.
 pub fn begin(names: &[u8], lent: &[u8]) -> Summing
     ensures { λ r. ⌜ BegunAs (now (names .entry)) (now (lent .entry)) r ⌝ }
 {
-    if names.len() < 2112 {
+    if names.len() < 4288 {
         return Summing::Refused(Refusal::TooShort);
     }
-    if lent.len() < 21512 {
+    if lent.len() < 22024 {
         return Summing::Refused(Refusal::TooShort);
     }
-    Summing::Line(LinePart { used: 0, spaces: 0 })
+    Summing::Line(LinePart {
+        used: 0,
+        spaces: 0,
+        quoted: false,
+    })
 }
 
 // Takes a piece of the input.

@@ -3,6 +3,7 @@
 --   size-refused, size-given     the answers of `size`
 --   not-in-range, not-constants, not-names, not-long, all-passed     the opening, one check after another
 --   passed-good                  an opening that passed its checks is good
+--   names-given                  its names are those that were read
 --   refused-as, done-as          the answers of `open`
 --   lent-head, lent-rest         the head is lent, and the store that it tells of
 --   head-then-rest               the head is written and the rest emptied: the lent bytes hold what was opened
@@ -27,7 +28,7 @@ use Rattle.answers.specs.declared.Number.the-variants as answer
 use Rattle.answers.specs.Answers.{refusalNumber, finishGiven, numberGiven}
 use Rattle.fields.specs.Field.{number}
 use Rattle.head.specs.Head.{openingAt}
-use Rattle.opening.specs.Given.{openingOf}
+use Rattle.opening.specs.Given.{openingWith, openingOf}
 use Rattle.opening.specs.GivenLaws.{size-least}
 use Rattle.layout.specs.Store.{sizeAt}
 use Rattle.store.specs.Lent.{Holds}
@@ -77,6 +78,11 @@ pub passed-good : (x : Numbers) (list first second : List ℕ) → inRange x ≡
     → goodNames (x .taxa) (namesIn list) ≡ true → goodOpening (openingOf x list first second) ≡ true
 unfolding goodOpening
 passed-good x list first second a b d = and-true a (and-true b d)
+
+-- the head that was written is that of the name list
+pub names-given : (x : Numbers) (list first second t : List ℕ) (ns : List (List ℕ)) → ns ≡ namesIn list → openingAt t ≡ openingWith x ns first second
+    → openingAt t ≡ openingOf x list first second
+names-given x list first second t ns q e = e ∙ ap (λ (ws : List (List ℕ)). openingWith x ws first second) q
 
 -- ---- the answers of `open`
 

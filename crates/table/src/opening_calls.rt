@@ -16,6 +16,7 @@ use answers::Finish;
 use answers::Lane;
 use answers::Number;
 use answers::Refusal;
+use layout::HEAD_BYTES;
 
 // How many bytes must be lent for a collection of these numbers.
 pub fn size(taxa: u32, lanes: u32, tree_room: u32, split_room: u32, places: u32) -> Number
@@ -27,7 +28,7 @@ pub fn size(taxa: u32, lanes: u32, tree_room: u32, split_room: u32, places: u32)
     Number::Gives(opening::store_size(taxa, lanes, tree_room, split_room, places))
 }
 
-// Opens a collection in the lent bytes s, whatever they held.
+// Opens a collection in the lent bytes s, whatever they held. The names are read beside it first, as a refusal leaves it as it was.
 pub fn open(
     s: &mut [u8],
     taxa: u32,
@@ -47,7 +48,8 @@ pub fn open(
     if !opening::constants_good(places, taxa, first, second) {
         return Finish::Refused(Refusal::OutOfRange);
     }
-    if !opening::names_good(list, taxa) {
+    let mut names = [0u8; HEAD_BYTES];
+    if !opening::read_names(list, taxa, &mut names) {
         return Finish::Refused(Refusal::BadNames);
     }
     if s.len() < opening::store_size(taxa, lanes, tree_room, split_room, places) {
@@ -60,7 +62,7 @@ pub fn open(
         tree_room,
         split_room,
         places,
-        list,
+        &names,
         first,
         second,
     );

@@ -2,6 +2,7 @@
 --
 --   Rest q w       what a length that has come to q still wants: w makes it a length
 --   accepts        what it comes to with w may end there exactly if w is what it still wanted
+--   quote-length   what begins with an apostrophe is no length
 use Prim.Native.Nat.{ℕ, zero, suc, _<_, _≤_}
 use native.Mathlib.Omega.{arith}
 use mathlib.Core.Path.{_≡_, refl, ap, sym, _∙_}
@@ -11,6 +12,7 @@ use mathlib.Core.List.{List, [], _∷_}
 use lib.Dec.{leb, eqb}
 use borrow.Author.Tests.{leb-true, lt-leb, eqb-true, ne-eqb}
 use Rattle.trees.specs.Plain.{if_then_else_, every}
+use Rattle.trees.specs.Text.{apostrophe}
 use Rattle.trees.specs.Length.{isDigit, isSign, isPoint, isE, isDigits, unsigned, withoutPoint, beforeE, fromE, isDecimal, isExponent, isLength}
 use Rattle.theorems.specs.ListLaws.{and-left, and-right, or-cases}
 use Rattle.text.specs.Automaton.{byteClass, move, run, isEnd}
@@ -185,3 +187,7 @@ accepts q (b ∷ w) = accepts (move q (byteClass b)) w ∙ sym (step q b w)
 pub run-length : (w : List ℕ) → isEnd (run 0 w) ≡ isLength w
 unfolding Rest
 run-length w = accepts 0 w
+
+pub quote-length : (w : List ℕ) → isLength (apostrophe ∷ w) ≡ false
+unfolding Rest run move byteClass
+quote-length w = sym (accepts 0 (apostrophe ∷ w)) ∙ accepts 8 w

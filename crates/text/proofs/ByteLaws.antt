@@ -1,6 +1,6 @@
 -- What the code tests of a byte, in its order, comes to what the definitions say: both are computed at every byte. Assumes nothing.
 --
---   blank-tests, label-tests     `is_blank` and `is_label_byte`
+--   blank-tests, label-tests, quoted-tests     `is_blank`, `is_label_byte` and `is_quoted_byte`
 --   class-tests                  `class_of` and `sign_or_point`
 --   row-moves, other-moves       `move_of`: a class that has a row of moves, and the class that has none
 use Prim.Native.Nat.{ℕ, zero, suc, _-_, _*_, _/_, _%_, _^_, _<_}
@@ -12,7 +12,7 @@ use mathlib.Core.Bool.{Bool, true, false, _&&_, not}
 use lib.Dec.{eqb, leb, ltb}
 use borrow.Author.Tests.{eqb-true, ltb-true}
 use Rattle.trees.specs.Plain.{if_then_else_}
-use Rattle.trees.specs.Text.{isBlank, isLabelByte, kind}
+use Rattle.trees.specs.Text.{isBlank, isLabelByte, isQuotedByte, kind}
 use Rattle.theorems.specs.ListLaws.{and-left, and-right}
 use Rattle.text.specs.Read.{kindNo}
 use Rattle.text.specs.Automaton.{byteClass, move}
@@ -43,7 +43,7 @@ same-true false false e = refl
 abbrev inSet : ℕ → ℕ → Bool
 inSet m b = eqb (m / 2 ^ b % 2) 1
 
-abbrev pub isKind : ℕ → ℕ → Bool
+abbrev isKind : ℕ → ℕ → Bool
 isKind n b = eqb (kindNo (kind b)) n
 
 abbrev blankTests : ℕ → Bool
@@ -59,12 +59,16 @@ blank-tests t b h e = (
 abbrev labelTests : ℕ → Bool
 labelTests b = if ltb b 64 then inSet 17582031496187740160 b else if ltb b 128 then inSet 9223372036183687167 (b - 64) else false
 
-pub label-tests : (t : Bool) (b : ℕ) → b < 256 → labelTests b ≡ t → (t ≡ isLabelByte b) × (t ≡ isKind 1 b)
-unfolding kind isLabelByte
-label-tests t b h e = (
-  sym e ∙ same-true (labelTests b) (isLabelByte b) (at (λ k. same (labelTests k) (isLabelByte k)) 256 refl b h),
-  sym e ∙ same-true (labelTests b) (isKind 1 b) (at (λ k. same (labelTests k) (isKind 1 k)) 256 refl b h),
-)
+pub label-tests : (t : Bool) (b : ℕ) → b < 256 → labelTests b ≡ t → t ≡ isLabelByte b
+unfolding isLabelByte
+label-tests t b h e = sym e ∙ same-true (labelTests b) (isLabelByte b) (at (λ k. same (labelTests k) (isLabelByte k)) 256 refl b h)
+
+abbrev quotedTests : ℕ → Bool
+quotedTests b = if ltb b 32 then false else ltb b 127
+
+pub quoted-tests : (t : Bool) (b : ℕ) → b < 256 → quotedTests b ≡ t → t ≡ isQuotedByte b
+unfolding isQuotedByte
+quoted-tests t b h e = sym e ∙ same-true (quotedTests b) (isQuotedByte b) (at (λ k. same (quotedTests k) (isQuotedByte k)) 256 refl b h)
 
 -- ---- lengths
 

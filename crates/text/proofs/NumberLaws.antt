@@ -1,12 +1,12 @@
 -- The loops of `past_digits` and `past_number`.
 --
 --   Digits s i r        digits from i up to r
---   Walked s b i q      the bytes from b up to i are of one token, and a length with them has come to q
+--   Walked s b i q      the bytes from b up to i are label bytes, and a length with them has come to q
 use Prim.Native.Nat.{ℕ, zero, suc, _+_, _-_, _≤_, _<_}
 use native.Mathlib.Nat.{add-zero, eq-or-lt-of-le}
 use native.Mathlib.Omega.{arith}
 use mathlib.Core.Path.{_≡_, refl, ap, sym, _∙_, subst}
-use mathlib.Core.Logic.{⊎-elim}
+use mathlib.Core.Logic.{_⊎_, inl, inr, ⊎-elim}
 use mathlib.Core.Bool.{Bool, true, false, _&&_, _||_, not}
 use mathlib.Core.List.{List, [], _∷_, _++_}
 use mathlib.Core.Option.{none, some}
@@ -15,19 +15,22 @@ use lib.ListN.{length, getD, drop}
 use lib.Seq.{slice, slice-empty}
 use borrow.Author.Tests.{leb-true, le-leb, lt-leb, eqb-true, eqb-false, ltb-true, ltb-false, ne-eqb}
 use Rattle.trees.specs.Plain.{if_then_else_}
-use Rattle.trees.specs.Text.{Symbol, label, kind, colon, symbolsAfter, ended}
+use Rattle.trees.specs.Text.{Symbol, label, kind, kindIn, apostrophe, isLabelByte, openAfter, isLabel, colon, stray, token, symbolsAfter, ended}
 use Rattle.trees.specs.Length.{isDigit}
 use Rattle.trees.specs.Tree.{Nodes}
 use Rattle.trees.specs.Reading.{readLength}
-use Rattle.theorems.specs.ListLaws.{and-right}
-use Rattle.theorems.specs.TextLaws.{byKind, symbols-step, symbols-end}
+use Rattle.theorems.specs.ListLaws.{and-right, less-or-not}
+use Rattle.theorems.specs.LabelLaws.{quote-kind}
+use Rattle.theorems.specs.TextLaws.{byKind, symbols-step}
 use Rattle.text.specs.Automaton.{byteClass, move, run, isEnd}
-use Rattle.text.specs.Read.{kindNo, kindAt, NoBlank, symbolsAt, DigitsEnd, NumberBehind}
-use Rattle.text.proofs.ByteLaws.{at, isKind}
-use Rattle.text.proofs.SymbolLaws.{slice-more, run-ended}
-use Rattle.text.specs.PlaceLaws.{kind-is, there, kind-there, front-not, slice-length}
-use Rattle.text.proofs.PastLaws.{colon-front}
-use Rattle.text.proofs.AutomatonLaws.{run-length}
+use Rattle.text.specs.Read.{kindAt, NoBlank, hasByte, hasLabelByte, symbolsAt, RunEnd, DigitsEnd, NumberBehind}
+use Rattle.text.specs.PlaceLaws.{front-not, run-front}
+use Rattle.text.specs.SliceLaws.{slice-more}
+use Rattle.text.proofs.ByteLaws.{at}
+use Rattle.text.proofs.SymbolLaws.{each-more}
+use Rattle.text.proofs.TokenLaws.{StrayFirst, no-label-there, quote-there, token-at, run-label, run-stops, run-odd, quote-at}
+use Rattle.text.proofs.PastLaws.{parted-label, colon-front}
+use Rattle.text.proofs.AutomatonLaws.{run-length, quote-length}
 
 -- ---- digits
 
@@ -42,12 +45,11 @@ digit-tests b h = go (ltb b 58) refl
     go true e = sym (simp (le-leb 48 b h, le-leb b 57 (last b (ltb-true b 58 e))))
     go false e = sym (simp (le-leb 48 b h, lt-leb b 57 (ltb-false b 58 e)))
 
-digit-label : (x : ℕ) → isDigit x ≡ true → kind x ≡ label
-unfolding isDigit kind
+digit-label : (x : ℕ) → isDigit x ≡ true → isLabelByte x ≡ true
+unfolding isDigit isLabelByte
 digit-label x h =
     let l : x ≤ 57 = leb-true x 57 (and-right (leb 48 x) (leb x 57) h) in
-    let t : (not (isDigit x) || isKind 1 x) ≡ true = at (λ k. not (isDigit k) || isKind 1 k) 58 refl x (omega arith) in
-    kind-is 1 (sym (eqb-true (kindNo (kind x)) 1 (ap (λ b. not b || isKind 1 x) (sym h) ∙ t))) (omega arith)
+    ap (λ b. not b || isLabelByte x) (sym h) ∙ at (λ k. not (isDigit k) || isLabelByte k) 58 refl x (omega arith)
 
 digit-class : (x : ℕ) → isDigit x ≡ true → byteClass x ≡ 0
 unfolding byteClass
@@ -96,35 +98,45 @@ unfolding run
 run-snoc q [] x = refl
 run-snoc q (b ∷ w) x = run-snoc (move q (byteClass b)) w x
 
--- behind a colon, a token that has ended
-ended-reads : (t : Nodes) (v : List ℕ) (ss : List Symbol) → 0 < length v → readLength t (colon ∷ ended v ss) ≡ (if isEnd (run 0 v) then some (t, ss) else none)
+-- behind a colon: a stray symbol, and a run that begins with an apostrophe
+stray-reads : (l : List Symbol) → StrayFirst l → (t : Nodes) → readLength t (colon ∷ l) ≡ none
 unfolding readLength
-ended-reads t [] ss h = absurd (omega arith)
-ended-reads t (b ∷ w) ss h = ap (λ c. if c then some (t, ss) else none) (sym (run-length (b ∷ w)))
+stray-reads l p t = ap (λ x. readLength t (colon ∷ x)) (p .1)
+
+ended-reads : (w : List ℕ) (ss : List Symbol) (t : Nodes) → readLength t (colon ∷ ended (apostrophe ∷ w) ss) ≡ none
+unfolding readLength ended
+ended-reads w ss t = go (isLabel (apostrophe ∷ w))
+  where
+    go : (c : Bool) → readLength t (colon ∷ (if c then token (apostrophe ∷ w) else stray) ∷ ss) ≡ none
+    go true = ap (λ (x : Bool). if x then some (t, ss) else none) (quote-length w)
+    go false = refl
+
+quote-reads : (s : List ℕ) (b : ℕ) → b < length s → getD s b 0 ≡ apostrophe → (t : Nodes) → readLength t (colon ∷ symbolsAt s b) ≡ none
+unfolding byKind kindIn openAfter
+quote-reads s b h e t =
+    let r = run-front apostrophe [] (drop (b + 1) s) in
+    ap (λ x. readLength t (colon ∷ x)) (symbols-step s b h label [] (ap kind e ∙ quote-kind) ∙ ap (λ (x : ℕ). symbolsAfter (x ∷ []) (drop (b + 1) s)) e ∙ r .2) ∙ ended-reads (r .0) (r .1) t
 
 module _ (s : List ℕ) (b : ℕ) where
   pub record Walked (i q : ℕ) : Type 0 where
     pub past : b ≤ i
     pub within : i ≤ length s
     pub small : q < 9
-    pub tokens : symbolsAt s b ≡ symbolsAfter (slice b i s) (drop i s)
+    pub each : (j : ℕ) → b ≤ j → j < i → isLabelByte (getD s j 0) ≡ true
     pub state : run 0 (slice b i s) ≡ q
 
   pub walked-none : b ≤ length s → Walked b 0
   unfolding run
-  walked-none h = record { past = omega arith; within = h; small = omega arith; tokens = ap (λ (v : List ℕ). symbolsAfter v (drop b s)) (sym (slice-empty b s)); state = ap (run 0) (slice-empty b s) }
+  walked-none h = record { past = omega arith; within = h; small = omega arith; each = λ j l m. absurd (omega arith); state = ap (run 0) (slice-empty b s) }
 
-  walked-byte : (i q q′ : ℕ) → Walked i q → i < length s → kind (getD s i 0) ≡ label → q′ ≡ move q (byteClass (getD s i 0)) → q′ < 9 → Walked (i + 1) q′
-  unfolding byKind
-  walked-byte i q q′ w h k e l =
-      let v : slice b (i + 1) s ≡ slice b i s ++ (getD s i 0 ∷ []) = slice-more s b i (w .past) h in
-      record {
-        past = omega (arith, w .past);
-        within = omega arith;
-        small = l;
-        tokens = w .tokens ∙ symbols-step s i h label k (slice b i s) ∙ ap (λ (x : List ℕ). symbolsAfter x (drop (i + 1) s)) (sym v);
-        state = ap (run 0) v ∙ run-snoc 0 (slice b i s) (getD s i 0) ∙ ap (λ (x : ℕ). move x (byteClass (getD s i 0))) (w .state) ∙ sym e;
-      }
+  walked-byte : (i q q′ : ℕ) → Walked i q → i < length s → isLabelByte (getD s i 0) ≡ true → q′ ≡ move q (byteClass (getD s i 0)) → q′ < 9 → Walked (i + 1) q′
+  walked-byte i q q′ w h k e l = record {
+    past = omega (arith, w .past);
+    within = omega arith;
+    small = l;
+    each = λ j f m. each-more (λ (n : ℕ). isLabelByte (getD s n 0) ≡ true) b i (w .each) k j f m;
+    state = ap (run 0) (slice-more s b i (w .past) h) ∙ run-snoc 0 (slice b i s) (getD s i 0) ∙ ap (λ (x : ℕ). move x (byteClass (getD s i 0))) (w .state) ∙ sym e;
+  }
 
   walked-digits : (n i q : ℕ) → q < 9 → Walked i (move q 0) → ((j : ℕ) → i ≤ j → j < i + n → isDigit (getD s j 0) ≡ true) → i + n ≤ length s → Walked (i + n) (move q 0)
   walked-digits zero i q l w d h = subst (λ (x : ℕ). Walked x (move q 0)) (sym (add-zero i)) w
@@ -135,14 +147,11 @@ module _ (s : List ℕ) (b : ℕ) where
       subst (λ (y : ℕ). Walked y (move q 0)) (omega arith) (walked-byte (i + n) (move q 0) (move q 0) p (omega arith) (digit-label (getD s (i + n) 0) x) m (w .small))
 
   -- a byte of the class k, and the digits behind it if it is one
-  pub walked-turn : (i q k q′ r : ℕ) → Walked i q → kindAt s i ≡ 1 → k ≡ byteClass (getD s i 0) → q′ ≡ move q k → q′ < 9 → DigitsEnd s (i + 1) k r → Walked r q′
-  walked-turn i q k q′ r w n c m l d = go (eqb k 0) refl
+  pub walked-turn : (i q k q′ r : ℕ) → Walked i q → i < length s → isLabelByte (getD s i 0) ≡ true → k ≡ byteClass (getD s i 0) → q′ ≡ move q k → q′ < 9 → DigitsEnd s (i + 1) k r → Walked r q′
+  walked-turn i q k q′ r w h n c m l d = go (eqb k 0) refl
     where
-      h : i < length s
-      h = there s i 1 n (omega arith)
-
       one : Walked (i + 1) q′
-      one = walked-byte i q q′ w h (kind-is 1 (sym n ∙ kind-there s i h) (omega arith)) (m ∙ ap (move q) c) l
+      one = walked-byte i q q′ w h n (m ∙ ap (move q) c) l
 
       go : (t : Bool) → eqb k 0 ≡ t → Walked r q′
       go true e =
@@ -158,41 +167,51 @@ module _ (s : List ℕ) (b : ℕ) where
           same false u = omega (arith, d .past, ltb-false (i + 1) r u)
 
   -- ---- the token's end
-  walked-ended : (i q : ℕ) → Walked i q → (kindAt s i ≡ 1 → ⊥) → symbolsAt s b ≡ ended (slice b i s) (symbolsAt s i)
-  walked-ended i q w n = w .tokens ∙ go (ltb i (length s)) refl
-    where
-      go : (t : Bool) → ltb i (length s) ≡ t → symbolsAfter (slice b i s) (drop i s) ≡ ended (slice b i s) (symbolsAt s i)
-      go true e = let h = ltb-true i (length s) e in run-ended s i h (kind (getD s i 0)) refl (λ k. n (kind-there s i h ∙ ap kindNo k)) (slice b i s)
-      go false e = let h = ltb-false i (length s) e in symbols-end s i h (slice b i s) ∙ ap (ended (slice b i s)) (sym (symbols-end s i h []))
+  module _ (i q : ℕ) (w : Walked i q) (stop : hasLabelByte s i ≡ false) where
+    walked-end : RunEnd s b i
+    walked-end = record { past = w .past; within = w .within; each = w .each; stop = no-label-there s i stop }
 
-  number-reads : (i q : ℕ) → Walked i q → (kindAt s i ≡ 1 → ⊥) → b < i → (t : Nodes) → readLength t (colon ∷ symbolsAt s b) ≡ (if isEnd q then some (t, symbolsAt s i) else none)
-  number-reads i q w n h t =
-      ap (λ x. readLength t (colon ∷ x)) (walked-ended i q w n)
-      ∙ ended-reads t (slice b i s) (symbolsAt s i) (omega (arith, slice-length b i s (w .within)))
-      ∙ ap (λ (x : ℕ). if isEnd x then some (t, symbolsAt s i) else none) (w .state)
+    -- an apostrophe behind it, or where it would begin
+    pub number-quote : hasByte s i apostrophe ≡ true → NumberBehind s b (length s + 1)
+    number-quote e = record { good = λ l. absurd (omega arith); fault = λ l. (refl, go (less-or-not b i)) }
+      where
+        go : (b < i) ⊎ (i ≤ b) → (t : Nodes) → readLength t (colon ∷ symbolsAt s b) ≡ none
+        go (inl h) = stray-reads (symbolsAt s b) (run-odd s b i walked-end h (quote-there s i e .0) (quote-there s i e .1))
+        go (inr h) = let p = quote-at s b i walked-end e h in quote-reads s b (p .0) (p .1)
 
-  pub number-good : (i q : ℕ) → Walked i q → (kindAt s i ≡ 1 → ⊥) → isEnd q ≡ true → NumberBehind s b i
-  unfolding run
-  number-good i q w n e = record {
-    good = λ l. ((λ t. number-reads i q w n (go (ltb b i) refl) t ∙ ap (λ x. if x then some (t, symbolsAt s i) else none) e), w .past);
-    fault = λ l. absurd (omega (arith, w .within));
-  }
-    where
-      go : (t : Bool) → ltb b i ≡ t → b < i
-      go true h = ltb-true b i h
-      go false h =
-          let z : i ≡ b = omega (arith, ltb-false b i h, w .past) in
-          let y : q ≡ 0 = sym (w .state) ∙ ap (λ (x : ℕ). run 0 (slice b x s)) z ∙ ap (run 0) (slice-empty b s) in
-          absurd (subst T (sym e ∙ ap isEnd y) tt)
+    module _ (clear : hasByte s i apostrophe ≡ false) where
+      number-reads : b < i → (t : Nodes) → readLength t (colon ∷ symbolsAt s b) ≡ (if isEnd q then some (t, symbolsAt s i) else none)
+      unfolding readLength
+      number-reads h t =
+          ap (λ x. readLength t (colon ∷ x)) (token-at s b i (w .past) (w .within) (run-label s b i walked-end h) (run-stops s b i walked-end clear))
+          ∙ ap (λ (c : Bool). if c then some (t, symbolsAt s i) else none) (sym (run-length (slice b i s)))
+          ∙ ap (λ (x : ℕ). if isEnd x then some (t, symbolsAt s i) else none) (w .state)
 
-  pub number-odd : (i q : ℕ) → NoBlank s b → Walked i q → (kindAt s i ≡ 1 → ⊥) → isEnd q ≡ false → NumberBehind s b (length s + 1)
-  number-odd i q f w n e = record { good = λ l. absurd (omega arith); fault = λ l. (refl, go (ltb b i) refl) }
-    where
-      go : (c : Bool) → ltb b i ≡ c → (t : Nodes) → readLength t (colon ∷ symbolsAt s b) ≡ none
-      go true h = λ t. number-reads i q w n (ltb-true b i h) t ∙ ap (λ x. if x then some (t, symbolsAt s i) else none) e
-      go false h =
-          let z : i ≡ b = omega (arith, ltb-false b i h, w .past) in
-          λ t. colon-front t (symbolsAt s b) (front-not s b 1 f (subst (λ (x : ℕ). kindAt s x ≡ 1 → ⊥) z n))
+      pub number-good : isEnd q ≡ true → NumberBehind s b i
+      unfolding run
+      number-good e = record {
+        good = λ l. ((λ t. number-reads begun t ∙ ap (λ x. if x then some (t, symbolsAt s i) else none) e), w .past, parted-label s b i (run-label s b i walked-end begun) (run-stops s b i walked-end clear));
+        fault = λ l. absurd (omega (arith, w .within));
+      }
+        where
+          go : (b < i) ⊎ (i ≤ b) → b < i
+          go (inl h) = h
+          go (inr h) =
+              let z : i ≡ b = omega (arith, w .past) in
+              let y : q ≡ 0 = sym (w .state) ∙ ap (λ (x : ℕ). run 0 (slice b x s)) z ∙ ap (run 0) (slice-empty b s) in
+              absurd (subst T (sym e ∙ ap isEnd y) tt)
+
+          begun : b < i
+          begun = go (less-or-not b i)
+
+      pub number-odd : NoBlank s b → isEnd q ≡ false → NumberBehind s b (length s + 1)
+      number-odd f e = record { good = λ l. absurd (omega arith); fault = λ l. (refl, go (less-or-not b i)) }
+        where
+          go : (b < i) ⊎ (i ≤ b) → (t : Nodes) → readLength t (colon ∷ symbolsAt s b) ≡ none
+          go (inl h) = λ t. number-reads h t ∙ ap (λ x. if x then some (t, symbolsAt s i) else none) e
+          go (inr h) =
+              let z : i ≡ b = omega (arith, w .past) in
+              λ t. colon-front t (symbolsAt s b) (front-not s b 1 (λ n. omega arith) f (subst (λ (x : ℕ). kindAt s x ≡ 1 → ⊥) z (run-stops s b i walked-end clear)))
 
 pub not-end : (q : ℕ) → (q ≡ 2 → ⊥) → (q ≡ 4 → ⊥) → (q ≡ 7 → ⊥) → isEnd q ≡ false
 not-end q f g h = simp (ne-eqb q 2 f, ne-eqb q 4 g, ne-eqb q 7 h)

@@ -2,17 +2,24 @@
 use Prim.Native.Nat.{ℕ, _+_, _≤_, _<_}
 use native.Mathlib.Omega.{arith}
 use mathlib.Core.Path.{_≡_, refl, ap, sym, _∙_, subst}
+use mathlib.Core.Logic.{_⊎_, inl, inr, ⊎-elim}
+use mathlib.Core.Bool.{Bool, true, false, not}
 use mathlib.Core.List.{List, [], _∷_}
 use mathlib.Core.Option.{none, some}
-use borrow.Author.Tests.{le-leb, lt-leb}
-use lib.ListN.{length}
+use borrow.Author.Tests.{le-leb, lt-leb, ne-eqb}
+use lib.Dec.{eqb}
+use lib.ListN.{length, getD}
 use lib.Seq.{slice}
 use Rattle.trees.specs.Plain.{if_then_else_}
-use Rattle.trees.specs.Text.{Symbol, openBracket, closeBracket, comma, colon, stray, token}
+use Rattle.trees.specs.Text.{Symbol, kind, apostrophe, openAfter, isLabel, openBracket, closeBracket, comma, colon, stray, token}
 use Rattle.trees.specs.Tree.{Nodes, nil, inner, width}
-use Rattle.trees.specs.Reading.{Read, readLength, readLabel, readClosing}
-use Rattle.text.specs.Read.{kindAt, NoBlank, symbolsAt, Skipped, RunEnd, NumberBehind, Behind, ClosingBehind}
-use Rattle.text.specs.PlaceLaws.{front, front-not, mark-at, token-at}
+use Rattle.trees.specs.Reading.{readLength, readLabel, readClosing}
+use Rattle.theorems.specs.ListLaws.{less-or-not}
+use Rattle.theorems.specs.QuoteLaws.{open-append, no-quote-open}
+use Rattle.theorems.specs.LabelLaws.{label-closed, quote-kind}
+use Rattle.text.specs.Read.{kindNo, kindAt, NoBlank, symbolsAt, Skipped, LabelEnd, Parted, NumberBehind, Behind, ClosingBehind}
+use Rattle.text.specs.PlaceLaws.{front, front-not, mark-at, kind-there, behind}
+use Rattle.text.specs.SliceLaws.{slice-parts, every-slice}
 
 -- ---- by the first symbol
 
@@ -46,6 +53,14 @@ label-front t (colon ∷ r) h = refl
 label-front t (stray ∷ r) h = refl
 label-front t (token w ∷ r) h = absurd (h refl)
 
+token-front : (t : Nodes) (w : List ℕ) (ss : List Symbol) → readLabel t (token w ∷ ss) ≡ readLength t ss
+unfolding readLabel
+token-front t w ss = refl
+
+stray-front : (t : Nodes) (ss : List Symbol) → readLabel t (stray ∷ ss) ≡ some (t, stray ∷ ss)
+unfolding readLabel readLength
+stray-front t ss = refl
+
 closing-front : (k : Nodes) (ss : List Symbol) → (front ss ≡ 3 → ⊥) → readClosing k ss ≡ none
 unfolding readClosing
 closing-front k [] h = refl
@@ -56,11 +71,39 @@ closing-front k (colon ∷ r) h = refl
 closing-front k (stray ∷ r) h = refl
 closing-front k (token w ∷ r) h = refl
 
+-- ---- symbols that do not reach over a place
+
+module _ (s : List ℕ) where
+  no-quote : (j : ℕ) → j < length s → (kindAt s j ≡ 1 → ⊥) → not (eqb (getD s j 0) apostrophe) ≡ true
+  no-quote j h n = ap not (ne-eqb (getD s j 0) apostrophe (λ e. n (kind-there s j h ∙ ap (λ (x : ℕ). kindNo (kind x)) e ∙ ap kindNo quote-kind)))
+
+  -- bytes that are of no label
+  parted-other : (i r : ℕ) → i ≤ r → r ≤ length s → ((j : ℕ) → i ≤ j → j < r → kindAt s j ≡ 1 → ⊥) → Parted s i r
+  parted-other i r l h f = record {
+    closed = no-quote-open false (slice i r s) (every-slice (λ b. not (eqb b apostrophe)) i r s l h (λ j m n. no-quote j (omega arith) (f j m n)));
+    ends = λ j m e k x. f j m (omega arith) k;
+  }
+
+  parted-skip : (i r : ℕ) → Skipped s i r → Parted s i r
+  parted-skip i r p = parted-other i r (p .past) (p .within) (λ j l h k. omega (arith, p .each j l h))
+
+  parted-mark : (i n : ℕ) → kindAt s i ≡ n → 1 < n → n < 8 → Parted s i (i + 1)
+  parted-mark i n k l h = parted-other i (i + 1) (omega arith) (behind s i n k h) (λ j m o e. let z : j ≡ i = omega arith in omega (arith, sym (ap (kindAt s) z) ∙ e))
+
+  pub parted-label : (i r : ℕ) → isLabel (slice i r s) ≡ true → (kindAt s r ≡ 1 → ⊥) → Parted s i r
+  parted-label i r e n = record { closed = label-closed (slice i r s) e; ends = λ j l m k x. n x }
+
+  parted-join : (i m r : ℕ) → i ≤ m → m ≤ r → r ≤ length s → Parted s i m → Parted s m r → Parted s i r
+  parted-join i m r l h w p q = record {
+    closed = ap (openAfter false) (slice-parts s i m l r h w) ∙ open-append false (slice i m s) (slice m r s) ∙ ap (λ (x : Bool). openAfter x (slice m r s)) (p .closed) ∙ q .closed;
+    ends = λ j n e. ⊎-elim (λ (o : j < m). let z : m ≡ r = omega arith in subst (λ (x : ℕ). kindAt s j ≡ 1 → kindAt s x ≡ 1 → ⊥) z (p .ends j n (e ∙ sym z))) (λ (o : m ≤ j). q .ends j o e) (less-or-not j m);
+  }
+
 module _ (s : List ℕ) (i : ℕ) where
   -- ---- a colon and a length, or nothing
   pub length-none : (a : ℕ) → Skipped s i a → (kindAt s a ≡ 5 → ⊥) → Behind readLength s i a
   length-none a p h = record {
-    good = λ l. ((λ t. ap (readLength t) (p .tokens) ∙ length-front t (symbolsAt s a) (front-not s a 5 (p .stop) h)), p .past, p .stop);
+    good = λ l. ((λ t. ap (readLength t) (p .tokens) ∙ length-front t (symbolsAt s a) (front-not s a 5 (λ n. omega arith) (p .stop) h)), p .past, p .stop, parted-skip s i a p);
     fault = λ l. absurd (omega (arith, p .within));
   }
 
@@ -75,31 +118,51 @@ module _ (s : List ℕ) (i : ℕ) where
 
   pub length-past : (a b e r : ℕ) → Skipped s i a → kindAt s a ≡ 5 → Skipped s (a + 1) b → NumberBehind s b e → e ≤ length s → Skipped s e r → Behind readLength s i r
   length-past a b e r p h q n l w = record {
-    good = λ z. ((λ t. ap (readLength t) (colon-then a b p h q) ∙ n .good l .0 t ∙ ap (λ x. some (t, x)) (w .tokens)), omega (arith, p .past, q .past, n .good l .1, w .past), w .stop);
+    good = λ z. ((λ t. ap (readLength t) (colon-then a b p h q) ∙ n .good l .0 t ∙ ap (λ x. some (t, x)) (w .tokens)), omega (arith, p .past, q .past, n .good l .1, w .past), w .stop, parted);
     fault = λ z. absurd (omega (arith, w .within));
   }
+    where
+      parted : Parted s i r
+      parted =
+          parted-join s i a r (p .past) (omega (arith, q .past, n .good l .1, w .past)) (w .within) (parted-skip s i a p)
+          (parted-join s a (a + 1) r (omega arith) (omega (arith, q .past, n .good l .1, w .past)) (w .within) (parted-mark s a 5 h (omega arith) (omega arith))
+          (parted-join s (a + 1) b r (q .past) (omega (arith, n .good l .1, w .past)) (w .within) (parted-skip s (a + 1) b q)
+          (parted-join s b e r (n .good l .1) (w .past) (w .within) (n .good l .2) (parted-skip s e r w))))
 
   -- ---- a label or nothing
-  pub label-token : (a e r : ℕ) → Skipped s i a → kindAt s a ≡ 1 → RunEnd s (a + 1) e → Behind readLength s e r → Behind readLabel s i r
-  unfolding readLabel
-  label-token a e r p k w l =
-      let v : symbolsAt s i ≡ token (slice a e s) ∷ symbolsAt s e = p .tokens ∙ token-at s a e k w in
-      record {
-        good = λ h. ((λ t. ap (readLabel t) v ∙ l .good h .0 t), omega (arith, p .past, w .past, l .good h .1), l .good h .2);
-        fault = λ h. (l .fault h .0, λ t. ap (readLabel t) v ∙ l .fault h .1 t);
+  pub label-past : (a e r : ℕ) → Skipped s i a → LabelEnd s a e → e ≤ length s → Behind readLength s e r → Behind readLabel s i r
+  label-past a e r p w h b = go (less-or-not a e)
+    where
+      to : ((t : Nodes) → readLabel t (symbolsAt s i) ≡ readLength t (symbolsAt s e)) → Parted s a e → Behind readLabel s i r
+      to v d = record {
+        good = λ l. (
+          (λ t. v t ∙ b .good l .0 t),
+          omega (arith, p .past, w .past, b .good l .1),
+          b .good l .2,
+          parted-join s i a r (p .past) (omega (arith, w .past, b .good l .1)) l (parted-skip s i a p) (parted-join s a e r (w .past) (b .good l .1) l d (b .good l .3)),
+        );
+        fault = λ l. (b .fault l .0, λ t. v t ∙ b .fault l .1 t);
       }
 
-  pub label-none : (a r : ℕ) → Skipped s i a → (kindAt s a ≡ 1 → ⊥) → Behind readLength s a r → Behind readLabel s i r
-  label-none a r p k l =
-      let v : (t : Nodes) → readLabel t (symbolsAt s i) ≡ readLength t (symbolsAt s a) = λ t. ap (readLabel t) (p .tokens) ∙ label-front t (symbolsAt s a) (front-not s a 1 (p .stop) k) in
+      go : (a < e) ⊎ (e ≤ a) → Behind readLabel s i r
+      go (inl l) = let g = w .good l h in to (λ t. ap (readLabel t) (p .tokens ∙ g .2) ∙ token-front t (slice a e s) (symbolsAt s e)) (parted-label s a e (g .1) (g .3))
+      go (inr l) =
+          let z : a ≡ e = omega (arith, w .past) in
+          to (λ t. ap (readLabel t) (p .tokens) ∙ label-front t (symbolsAt s a) (front-not s a 1 (λ n. omega arith) (p .stop) (w .absent z)) ∙ ap (λ (x : ℕ). readLength t (symbolsAt s x)) z)
+          (subst (Parted s a) z (parted-other s a a (omega arith) (p .within) (λ j m n. absurd (omega arith))))
+
+  -- what is no label, and is not passed
+  pub label-fault : (a e : ℕ) → Skipped s i a → LabelEnd s a e → length s < e → Behind readLabel s i a
+  label-fault a e p w h =
+      let g = w .fault h in
       record {
-        good = λ h. ((λ t. v t ∙ l .good h .0 t), omega (arith, p .past, l .good h .1), l .good h .2);
-        fault = λ h. (l .fault h .0, λ t. v t ∙ l .fault h .1 t);
+        good = λ l. ((λ t. ap (readLabel t) (p .tokens ∙ g .3) ∙ stray-front t (g .2) ∙ ap (λ x. some (t, x)) (sym (g .3))), p .past, p .stop, parted-skip s i a p);
+        fault = λ l. absurd (omega (arith, p .within));
       }
 
   -- ---- the closing bracket
   pub closing-other : (n : ℕ) → NoBlank s i → (kindAt s i ≡ 3 → ⊥) → ClosingBehind s i n (length s + 1)
-  closing-other n b k = record { good = λ h. absurd (omega arith); fault = λ h. (refl, λ t z. closing-front t (symbolsAt s i) (front-not s i 3 b k)) }
+  closing-other n b k = record { good = λ h. absurd (omega arith); fault = λ h. (refl, λ t z. closing-front t (symbolsAt s i) (front-not s i 3 (λ x. omega arith) b k)) }
 
   bracket-then : kindAt s i ≡ 3 → symbolsAt s i ≡ closeBracket ∷ symbolsAt s (i + 1)
   bracket-then k = mark-at s i closeBracket (omega arith) k
@@ -117,6 +180,6 @@ module _ (s : List ℕ) (i : ℕ) where
       let v : (t : Nodes) → width t ≡ n → readClosing t (symbolsAt s i) ≡ readLabel (inner t nil) (symbolsAt s (i + 1)) =
       λ t z. ap (readClosing t) (bracket-then k) ∙ ap (λ x. if x then readLabel (inner t nil) (symbolsAt s (i + 1)) else none) (le-leb 2 (width t) (subst (λ (x : ℕ). 2 ≤ x) (sym z) l)) in
       record {
-        good = λ h. ((λ t z. v t z ∙ b .good h .0 (inner t nil)), omega (arith, b .good h .1), b .good h .2);
+        good = λ h. ((λ t z. v t z ∙ b .good h .0 (inner t nil)), omega (arith, b .good h .1), b .good h .2, parted-join s i (i + 1) r (omega arith) (b .good h .1) h (parted-mark s i 3 k (omega arith) (omega arith)) (b .good h .3));
         fault = λ h. (b .fault h .0, λ t z. v t z ∙ b .fault h .1 (inner t nil));
       }

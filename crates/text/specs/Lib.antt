@@ -1,4 +1,9 @@
 pub mod Automaton
 pub mod Read
+pub mod SliceLaws
 pub mod PlaceLaws
 pub mod OnceLaws
+pub mod Labels
+pub mod LabelsLaws
+pub mod Ends
+pub mod EndLaws

@@ -1,15 +1,25 @@
-// What stands where in a text, byte by byte, and what may follow a node. Positions are byte places; a text is the bytes before a
-// semicolon. Read crate trees, specs/Text.antt, Length.antt and Reading.antt; specs/Read.antt here says what each reader answers in
-// their terms.
+// What stands where in a text, byte by byte, and what may follow a node. Positions are byte places; a text is the bytes before the
+// semicolon that ends it. Read crate trees, specs/Text.antt, Length.antt and Reading.antt; specs/Read.antt here says what each reader
+// answers in their terms.
 ghost use mathlib.Core.Path.{_≡_};
 ghost use Prim.Native.Nat.{_≤_, _<_};
-ghost use lib.ListN.{length};
+ghost use lib.ListN.{length, getD};
 ghost use lib.Dec.{eqb};
-ghost use Rattle.trees.specs.Text.{isBlank, isLabelByte, kind};
+ghost use Rattle.trees.specs.Text.{apostrophe, isBlank, isLabelByte, isQuotedByte, turned as turnedBy, kind};
 ghost use Rattle.trees.specs.Length.{isDigit};
 ghost use Rattle.trees.specs.Reading.{readLength, readLabel};
-ghost use Rattle.text.specs.Read.{kindNo, kindAt, NoBlank, hasByte, Skipped, RunEnd, DigitsEnd, NumberBehind, Behind, ClosingBehind};
+ghost use Rattle.text.specs.Read.{kindNo, NoBlank, hasByte, hasLabelByte, hasQuotedByte, Skipped, RunEnd, QuotedEnd, LabelEnd, DigitsEnd, NumberBehind, Behind, ClosingBehind};
 ghost use Rattle.text.specs.Automaton.{byteClass, move as moveNo};
+
+mod ends;
+mod labels;
+
+pub use ends::count_texts;
+pub use ends::open_after;
+pub use ends::text_end;
+pub use labels::is_plain_label;
+pub use labels::read_label;
+pub use labels::read_up_to;
 
 // The blanks: bit b for the byte b. A set and no table, as each read of a table would build the whole of it.
 const BLANKS: u64 = 0x1_0000_2600;
@@ -34,7 +44,6 @@ pub fn is_blank(b: u8) -> bool
 // Whether b is a label byte.
 pub fn is_label_byte(b: u8) -> bool
     ensures { λ r. ⌜ r ≡ isLabelByte b ⌝ }
-    ensures { λ r. ⌜ r ≡ eqb (kindNo (kind b)) 1 ⌝ }
 {
     if b < 64 {
         return (LABELS_BELOW_64 >> b) % 2 == 1;
@@ -43,6 +52,16 @@ pub fn is_label_byte(b: u8) -> bool
         return (LABELS_FROM_64 >> (b - 64)) % 2 == 1;
     }
     false
+}
+
+// Whether b may stand in quotes.
+pub fn is_quoted_byte(b: u8) -> bool
+    ensures { λ r. ⌜ r ≡ isQuotedByte b ⌝ }
+{
+    if b < 32 {
+        return false;
+    }
+    b < 127
 }
 
 // Past the blanks from `from` on.
@@ -86,13 +105,81 @@ pub fn has_byte(text: &[u8], at: usize, b: u8) -> bool
 }
 
 // Whether a label byte stands at `at`.
-pub fn has_label_byte(text: &[u8], at: usize) -> bool
-    ensures { λ r. ⌜ r ≡ eqb (kindAt (now (text .entry)) at) 1 ⌝ }
+fn has_label_byte(text: &[u8], at: usize) -> bool
+    ensures { λ r. ⌜ r ≡ hasLabelByte (now (text .entry)) at ⌝ }
 {
     if at < text.len() {
         return is_label_byte(text[at]);
     }
     false
+}
+
+// Past the label in quotes at `from`, where a quote stands; 1 more than the text's length if it is no label.
+pub fn quoted_end(text: &[u8], from: usize) -> usize
+    requires { ⌜ (from < length (now text)) × (getD (now text) from 0 ≡ apostrophe) ⌝ }
+    ensures { λ r. ⌜ QuotedEnd (now (text .entry)) from r ⌝ }
+{
+    let mut end = from;
+    let mut q = false;
+    loop {
+        if !has_quoted_byte(text, end, q) {
+            break;
+        }
+        q = turned(q, text[end]);
+        end += 1;
+    }
+    if q {
+        return text.len() + 1;
+    }
+    if end - from < 3 {
+        return text.len() + 1;
+    }
+    end
+}
+
+// Whether a byte of a label in quotes stands at `at`: a quote, or where quotes are open, as q says, one that may stand in them.
+fn has_quoted_byte(text: &[u8], at: usize, q: bool) -> bool
+    ensures { λ r. ⌜ r ≡ hasQuotedByte (now (text .entry)) at q ⌝ }
+{
+    if text.len() <= at {
+        return false;
+    }
+    if text[at] == b'\'' {
+        return true;
+    }
+    if q {
+        return is_quoted_byte(text[at]);
+    }
+    false
+}
+
+// Whether quotes are open behind b, where q says whether they are before it.
+pub(crate) fn turned(q: bool, b: u8) -> bool
+    ensures { λ r. ⌜ r ≡ turnedBy q b ⌝ }
+{
+    if b == b'\'' {
+        return !q;
+    }
+    q
+}
+
+// Past the label at `from`; `from` where no label begins there, 1 more than the text's length where what begins there is none.
+pub fn label_end(text: &[u8], from: usize) -> usize
+    requires { ⌜ from ≤ length (now text) ⌝ }
+    ensures { λ r. ⌜ LabelEnd (now (text .entry)) from r ⌝ }
+{
+    let run = token_end(text, from);
+    if !has_byte(text, run, b'\'') {
+        return run;
+    }
+    if from < run {
+        return text.len() + 1;
+    }
+    let q = quoted_end(text, from);
+    if has_label_byte(text, q) {
+        return text.len() + 1;
+    }
+    q
 }
 
 // Past a colon and a length, or past the blanks where no colon stands; 1 more than the text's length for a fault of form.
@@ -126,6 +213,9 @@ fn past_number(text: &[u8], from: usize) -> usize
         let k = class_of(text[i]);
         q = move_of(q, k);
         i = past_digits(text, i + 1, k);
+    }
+    if has_byte(text, i, b'\'') {
+        return text.len() + 1;
     }
     if q == 2 {
         return i;
@@ -233,16 +323,18 @@ fn move_of(q: u8, k: u8) -> u8
     8
 }
 
-// Past a label or nothing, then a colon and a length or nothing; 1 more than the text's length for a fault of form.
+// Past a label or nothing, then a colon and a length or nothing; 1 more than the text's length for a fault of form. What is no label
+// is not passed, and nothing reads it.
 fn past_label(text: &[u8], from: usize) -> usize
     requires { ⌜ from ≤ length (now text) ⌝ }
     ensures { λ r. ⌜ Behind readLabel (now (text .entry)) from r ⌝ }
 {
     let at = skip_blanks(text, from);
-    if has_label_byte(text, at) {
-        return past_length(text, token_end(text, at + 1));
+    let e = label_end(text, at);
+    if text.len() < e {
+        return at;
     }
-    past_length(text, at)
+    past_length(text, e)
 }
 
 // Past the closing bracket behind n children, and what may follow it; 1 more than the text's length for a fault of form.

@@ -4,7 +4,6 @@
 --   feeding-alike, closing-alike   feeding and closing a lane that holds the same
 --   judged-alike, recorded-alike   a text that is handed in
 --   questions-alike                every question but that for the collision number
---   closing-by                     what closing does, from its test
 use Prim.Native.Nat.{ℕ, suc, _+_}
 use mathlib.Core.Path.{_≡_, refl, ap, sym, _∙_, subst}
 use mathlib.Core.Bool.{Bool, true, false, not}
@@ -12,28 +11,14 @@ use mathlib.Core.List.{List, [], _∷_, _++_}
 use lib.Dec.{ltb, eqb}
 use lib.ListN.{length}
 use Rattle.trees.specs.Plain.{if_then_else_, keep, member, Answer, refused, gives}
+use Rattle.trees.specs.Text.{hasEnd, beforeEnd}
 use Rattle.trees.specs.Consensus.{recorded}
 use Rattle.trees.specs.Verdict.{judged}
-use Rattle.trees.specs.Held.{Held, Lane, holding, overrun, laneOf, withLane, withTree, longer, newSplits, roomFor, withRoom, verdict, accepted, beforeSemicolon, finished, recording, finishing, feeding, Closed, closed, closing}
+use Rattle.trees.specs.Held.{Held, Lane, holding, overrun, laneOf, withLane, withTree, openIn, longer, newSplits, roomFor, withRoom, verdict, accepted, Fed, finished, recording, finishing, feeding, closed, closing}
 use Rattle.trees.specs.NexusCall.{onText}
 use Rattle.trees.specs.Questions.{treesHeld, splitsHeld, splitList, splitNumber, treeNumber, oneSidedOf, doubledOf, matrixOf, strictOf, majorityOf, bothOf, writtenOf}
-use Rattle.theorems.specs.WrittenFedLaws.{feedingBy, feeding-by}
+use Rattle.theorems.specs.FeedingLaws.{endsAt, feedingBy, feeding-by, closingBy, closing-by}
 use Rattle.theorems.specs.Alike.{Alike, SameFed, SameClosed, SameAnswers}
-
--- ---- closing by its test
-
--- what closing does, from its test: there is such a lane
-abbrev pub closingBy : Bool → Held → ℕ → Closed
-closingBy true h l = record { answer = closed (laneOf h l); after = withLane h l (holding []) }
-closingBy false h l = record { answer = refused 5; after = h }
-
-pub closing-by : (h : Held) (l : ℕ) → closing h l ≡ closingBy (ltb l (h .opening .numbers .lanes)) h l
-unfolding closing
-closing-by h l = go (ltb l (h .opening .numbers .lanes))
-  where
-    go : (b : Bool) → (if b then record { answer = closed (laneOf h l); after = withLane h l (holding []) } else record { answer = refused 5; after = h }) ≡ closingBy b h l
-    go true = refl
-    go false = refl
 
 -- ---- verdicts
 
@@ -43,6 +28,10 @@ roomBy treeRoom splitRoom ts t =
     if eqb (length ts) treeRoom then refused 11
     else if ltb splitRoom (length (recorded ts) + length (keep (λ m. not (member m (recorded ts))) t)) then refused 12
     else gives t
+
+-- what feeding does where the piece p ends the text of lane l, which holds x
+abbrev textEnded : Held → ℕ → List ℕ → Lane → Fed
+textEnded h l p x = let q = beforeEnd (openIn x) p in finishing h l (suc (length q)) (verdict h (longer x q))
 
 module _ (h k : Held) (a : Alike h k) where
   room-alike : (t : List ℕ) → roomFor h t ≡ roomFor k t
@@ -56,7 +45,7 @@ module _ (h k : Held) (a : Alike h k) where
 
   pub verdict-alike : (x : Lane) → verdict h x ≡ verdict k x
   unfolding verdict
-  verdict-alike overrun = refl
+  verdict-alike (overrun q) = refl
   verdict-alike (holding s) = withRoom-alike (judged (h .opening .names) s) ∙ ap (λ ns. withRoom k (judged ns s)) (a .names)
 
   -- ---- feeding
@@ -75,20 +64,21 @@ module _ (h k : Held) (a : Alike h k) where
         after = record { names = a .names; lanes = a .lanes; treeRoom = a .treeRoom; splitRoom = a .splitRoom; trees = λ i. a .trees i ++ t ∷ [] };
       }
 
+  ended-alike : (l : ℕ) (p : List ℕ) (x : Lane) → SameFed (textEnded h l p x) (textEnded k l p x)
+  ended-alike l p x =
+      let q = beforeEnd (openIn x) p in
+      subst (λ (v : Answer (List ℕ)). SameFed (textEnded h l p x) (finishing k l (suc (length q)) v)) (verdict-alike (longer x q)) (finishing-alike l (suc (length q)) (verdict h (longer x q)))
+
   fed-alike : (l : ℕ) (p : List ℕ) (b c : Bool) → laneOf h l ≡ laneOf k l → SameFed (feedingBy b c h l p) (feedingBy b c k l p)
-  fed-alike l p true true e =
-      let q = beforeSemicolon p in
-      let v : verdict h (longer (laneOf h l) q) ≡ verdict k (longer (laneOf k l) q) = ap (λ (x : Lane). verdict h (longer x q)) e ∙ verdict-alike (longer (laneOf k l) q) in
-      subst (λ (w : Answer (List ℕ)). SameFed (finishing h l (suc (length q)) (verdict h (longer (laneOf h l) q))) (finishing k l (suc (length q)) w)) v
-      (finishing-alike l (suc (length q)) (verdict h (longer (laneOf h l) q)))
+  fed-alike l p true true e = subst (λ (x : Lane). SameFed (textEnded h l p (laneOf h l)) (textEnded k l p x)) e (ended-alike l p (laneOf h l))
   fed-alike l p true false e = record { taken = refl; answer = refl; after = lane-alike l (longer (laneOf h l) p) (longer (laneOf k l) p) }
   fed-alike l p false c e = record { taken = refl; answer = refl; after = a }
 
   pub feeding-alike : (l : ℕ) (p : List ℕ) → laneOf h l ≡ laneOf k l → SameFed (feeding h l p) (feeding k l p)
   feeding-alike l p e =
-      let forth : feeding k l p ≡ feedingBy (ltb l (h .opening .numbers .lanes)) (member 59 p) k l p = feeding-by k l p ∙ ap (λ n. feedingBy (ltb l n) (member 59 p) k l p) (sym (a .lanes)) in
-      subst (λ f. SameFed f (feeding k l p)) (sym (feeding-by h l p))
-      (subst (SameFed (feedingBy (ltb l (h .opening .numbers .lanes)) (member 59 p) h l p)) (sym forth) (fed-alike l p (ltb l (h .opening .numbers .lanes)) (member 59 p) e))
+      let b = ltb l (h .opening .numbers .lanes) in
+      let forth : feeding k l p ≡ feedingBy b (endsAt h l p) k l p = feeding-by k l p ∙ sym (λ i. feedingBy (ltb l (a .lanes i)) (hasEnd (openIn (e i)) p) k l p) in
+      subst (λ f. SameFed f (feeding k l p)) (sym (feeding-by h l p)) (subst (SameFed (feedingBy b (endsAt h l p) h l p)) (sym forth) (fed-alike l p b (endsAt h l p) e))
 
   -- ---- a text that is handed in
 

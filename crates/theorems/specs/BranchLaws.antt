@@ -1,6 +1,8 @@
 -- Laws of the branches of the tree made of splits, one branch at a time: what holds of the branches behind a branch, and of those below it,
 -- holds with that branch.
 --
+--   labelOf ns i       the label that taxon i is written as
+--   extra x m          1 where taxon x is in the mask m, else 0
 --   Closed s m r       every split below m lies within r or has nothing of it
 --   Built ns s m r t   the nodes t have the taxa r; their clusters are single taxa and the splits below m within r
 --   Wide s m r t       how many nodes stand side by side
@@ -15,27 +17,31 @@ use mathlib.Core.Path.{_≡_, refl, ap, ap₂, sym, _∙_, subst}
 use mathlib.Core.Logic.{_⊎_, inl, inr}
 use mathlib.Core.Bool.{Bool, true, false}
 use mathlib.Core.List.{List, [], _∷_, _++_, append-assoc}
+use mathlib.Core.Option.{some}
 use lib.Count.{ones}
 use lib.Dec.{eqb}
 use lib.Bits.{bitOr, bitXor}
 use lib.ListN.{length, length-append, getD}
 use borrow.Author.Tests.{eqb-true, eqb-false}
-use Rattle.trees.specs.Mask.{everyTaxon, proper}
+use Rattle.trees.specs.Plain.{if_then_else_}
+use Rattle.trees.specs.Mask.{has, everyTaxon, proper}
 use Rattle.trees.specs.Tree.{Nodes, nil, leaf, inner, width, leaves}
-use Rattle.trees.specs.Names.{goodNames}
+use Rattle.trees.specs.Text.{readAs}
+use Rattle.trees.specs.Names.{taxonOf, goodNames}
 use Rattle.trees.specs.Splits.{taxa, taxon, clusters}
 use Rattle.trees.specs.Verdict.{leafFault}
-use Rattle.trees.specs.Written.{shown, parted}
+use Rattle.trees.specs.Written.{writtenName, shown, parted}
 use Rattle.trees.specs.Whole.{goodTree}
-use Rattle.theorems.specs.ListLaws.{Mem, mem-left, mem-right, mem-cases, every-at}
-use Rattle.theorems.specs.BitLaws.{On, Sub, Dis, off-zero, on-xor, only-on, sub-le, less-sub, less-dis, less-or, less-add, dis-more}
+use Rattle.theorems.specs.ListLaws.{equal-or-not, by-test, if-true, if-false, Mem, mem-left, mem-right, mem-cases, every-at}
+use Rattle.theorems.specs.BitLaws.{On, on?, Sub, Dis, off-zero, on-xor, self-on, only-on, sub-le, less-sub, less-dis, less-or, less-add, dis-more}
 use Rattle.theorems.specs.OnesLaws.{ones-zero, ones-part, ones-bit, ones-lt, pos-of-ones}
-use Rattle.theorems.specs.MaskLaws.{Ag, on-below}
+use Rattle.theorems.specs.MaskLaws.{Ag, on-has, off-has, on-below}
 use Rattle.theorems.specs.SplitLaws.{taxon-named, pairs-at}
 use Rattle.theorems.specs.VerdictLaws.{leaf-new}
 use Rattle.theorems.specs.ConsensusLaws.{good-proper, good-pairs}
-use Rattle.theorems.specs.NameLaws.{good-count, name-found, name-token, name-short}
-use Rattle.theorems.specs.ShownLaws.{Readable, readable-nil, readable-inner, readable-token}
+use Rattle.theorems.specs.NameLaws.{good-count, good-name, name-found}
+use Rattle.theorems.specs.WrittenNameLaws.{name-label, name-reads, name-length, quotesAt, other-shorter}
+use Rattle.theorems.specs.ShownLaws.{Readable, readable-nil, readable-leaf, readable-inner}
 use Rattle.theorems.specs.WidestLaws.{Fit}
 use Rattle.theorems.specs.ProperLaws.{proper-even, proper-two}
 
@@ -58,7 +64,36 @@ parted-length nil l h = absurd (omega arith)
 parted-length (leaf w r) l h = refl
 parted-length (inner c r) l h = refl
 
+-- ---- a byte more for one taxon
+
+unfoldable pub extra : ℕ → ℕ → ℕ
+extra x m = if has m x then 1 else 0
+
+pub extra-most : (x m : ℕ) → extra x m ≤ 1
+unfolding extra
+extra-most x m = by-test (λ (k : ℕ). k ≤ 1) (has m x) (λ e. omega arith) (λ e. omega arith)
+
+extra-on : (x m : ℕ) → On m x → extra x m ≡ 1
+unfolding extra
+extra-on x m h = if-true 1 0 (on-has m x h)
+
+extra-off : (x m : ℕ) → (On m x → ⊥) → extra x m ≡ 0
+unfolding extra
+extra-off x m h = if-false 1 0 (off-has m x h)
+
+-- it is in a part of a mask, or in the rest
+extra-part : (x y m : ℕ) → Sub y m → extra x y + extra x (bitXor m y) ≡ extra x m
+extra-part x y m h = go (on? y x) (on? m x)
+  where
+    go : (On y x → ⊥) ⊎ On y x → (On m x → ⊥) ⊎ On m x → extra x y + extra x (bitXor m y) ≡ extra x m
+    go (inr a) b = omega (arith, extra-on x y a, extra-on x m (h x a), extra-off x (bitXor m y) (λ c. less-dis m y h x a c))
+    go (inl a) (inr b) = omega (arith, extra-off x y a, extra-on x m b, extra-on x (bitXor m y) (on-xor m y x b a))
+    go (inl a) (inl b) = omega (arith, extra-off x y a, extra-off x m b, extra-off x (bitXor m y) (λ c. b (less-sub m y h x c)))
+
 -- ---- what holds of the branches t of the node m that have the taxa r
+
+abbrev pub labelOf : List (List ℕ) → ℕ → List ℕ
+labelOf ns i = writtenName (getD ns i [])
 
 unfoldable pub Closed : List ℕ → ℕ → ℕ → Type 0
 Closed s m r = (y : ℕ) → Mem y s → y < m → Sub y r ⊎ Dis y r
@@ -80,8 +115,9 @@ pub record Done (ns : List (List ℕ)) (s : List ℕ) (m r : ℕ) (t : Nodes) : 
   pub wide : Wide s m r t
   pub readable : (d : ℕ) → ones m ≤ d + 2 → Readable d t
   pub faultless : (seen : ℕ) (ws : List (List ℕ)) → Dis seen r → leafFault ns seen (leaves t ++ ws) ≡ leafFault ns (seen + r) ws
-  -- 35 bytes for each taxon: 32 of its name, a comma, and the brackets of an inner node, of which there are fewer than taxa by the width
-  pub short : length (parted t (shown t)) + 2 * width t ≤ 35 * ones r
+  -- 68 bytes for each taxon: 65 of its label, a comma, and the brackets of an inner node, of which there are fewer than taxa by the width;
+  -- and one more where the name of 32 apostrophes is
+  pub short : length (parted t (shown t)) + 2 * width t ≤ 68 * ones r + extra (quotesAt ns) r
 
 module _ (n : ℕ) (ns : List (List ℕ)) (s : List ℕ) (names : goodNames n ns ≡ true) (good : goodTree n s ≡ true) where
   pub split-proper : (x : ℕ) → Mem x s → proper n x ≡ true
@@ -100,6 +136,16 @@ module _ (n : ℕ) (ns : List (List ℕ)) (s : List ℕ) (names : goodNames n ns
   named : (i : ℕ) → On (everyTaxon n) i → i < length ns
   unfolding everyTaxon
   named i h = omega (arith, good-count n ns names, on-below n (2 ^ n - 1) i (omega (arith, pow-pos n)) h)
+
+  named-label : (i : ℕ) → i < length ns → readAs (labelOf ns i) ≡ getD ns i []
+  named-label i l = name-reads (getD ns i []) (good-name n ns names i l)
+
+  named-length : (i : ℕ) → i < length ns → length (labelOf ns i) ≤ 65 + extra (quotesAt ns) (2 ^ i)
+  named-length i l = go (equal-or-not i (quotesAt ns))
+    where
+      go : (i ≡ quotesAt ns) ⊎ (i ≡ quotesAt ns → ⊥) → length (labelOf ns i) ≤ 65 + extra (quotesAt ns) (2 ^ i)
+      go (inl e) = omega (arith, name-length (getD ns i []) (good-name n ns names i l), extra-on (quotesAt ns) (2 ^ i) (subst (On (2 ^ i)) e (self-on i)))
+      go (inr f) = omega (arith, other-shorter n ns names i l f)
 
   pub closed-self : (x : ℕ) → Mem x s → Closed s x x
   unfolding Closed
@@ -148,21 +194,27 @@ module _ (n : ℕ) (ns : List (List ℕ)) (s : List ℕ) (names : goodNames n ns
         go (inl p) = inl (leaf-rest y my l p)
 
     module _ (t : Nodes) (rn : Sub r (everyTaxon n)) (d : Done ns s m (bitXor r (2 ^ i)) t) where
-      leaf-taxon : taxon ns (getD ns i []) ≡ 2 ^ i
-      leaf-taxon = taxon-named ns (getD ns i []) i (name-found n ns names i (named i (rn i oi)))
+      leaf-named : i < length ns
+      leaf-named = named i (rn i oi)
 
-      leaf-built : Built ns s m r (leaf (getD ns i []) t)
+      leaf-found : taxonOf ns (labelOf ns i) ≡ some i
+      leaf-found = name-found n ns names i leaf-named (labelOf ns i) (named-label i leaf-named)
+
+      leaf-taxon : taxon ns (labelOf ns i) ≡ 2 ^ i
+      leaf-taxon = taxon-named ns (labelOf ns i) i leaf-found
+
+      leaf-built : Built ns s m r (leaf (labelOf ns i) t)
       unfolding taxa clusters
       leaf-built = record { masked = ap₂ bitOr leaf-taxon (d .built .masked) ∙ less-or r (2 ^ i) leaf-within; sound = from; complete = λ y a b p. inr (d .built .complete y a b (leaf-rest y a b p)) }
         where
-          from : (y : ℕ) → (y ≡ taxon ns (getD ns i [])) ⊎ Mem y (clusters ns t) → Mem y s ⊎ (ones y ≡ 1)
+          from : (y : ℕ) → (y ≡ taxon ns (labelOf ns i)) ⊎ Mem y (clusters ns t) → Mem y s ⊎ (ones y ≡ 1)
           from y (inl e) = inr (ap ones (e ∙ leaf-taxon) ∙ ones-bit i)
           from y (inr h) = d .built .sound y h
 
       leaf-many : 2 ≤ ones r → 1 ≤ width t
       leaf-many h = d .wide .one (pos-of-ones (bitXor r (2 ^ i)) (omega (arith, leaf-ones)))
 
-      leaf-wide : Wide s m r (leaf (getD ns i []) t)
+      leaf-wide : Wide s m r (leaf (labelOf ns i) t)
       unfolding width
       leaf-wide = record {
         one = λ h. omega arith;
@@ -171,21 +223,21 @@ module _ (n : ℕ) (ns : List (List ℕ)) (s : List ℕ) (names : goodNames n ns
         three = λ h o f. let w = d .wide .two (omega (arith, leaf-ones)) (λ y a b p. omega (arith, f y a, leaf-ones)) in omega arith;
       }
 
-      leaf-faultless : (seen : ℕ) (ws : List (List ℕ)) → Dis seen r → leafFault ns seen (leaves (leaf (getD ns i []) t) ++ ws) ≡ leafFault ns (seen + r) ws
+      leaf-faultless : (seen : ℕ) (ws : List (List ℕ)) → Dis seen r → leafFault ns seen (leaves (leaf (labelOf ns i) t) ++ ws) ≡ leafFault ns (seen + r) ws
       unfolding leaves
       leaf-faultless seen ws x =
-          leaf-new ns seen (getD ns i []) (leaves t ++ ws) i (name-found n ns names i (named i (rn i oi))) (λ o. x i o oi)
+          leaf-new ns seen (labelOf ns i) (leaves t ++ ws) i leaf-found (λ o. x i o oi)
           ∙ d .faultless (seen + 2 ^ i) ws (dis-more seen r (2 ^ i) leaf-within x) ∙ ap (λ (z : ℕ). leafFault ns z ws) (omega (arith, less-add r (2 ^ i) leaf-within))
 
-      leaf-short : length (parted (leaf (getD ns i []) t) (shown (leaf (getD ns i []) t))) + 2 * width (leaf (getD ns i []) t) ≤ 35 * ones r
+      leaf-short : length (parted (leaf (labelOf ns i) t) (shown (leaf (labelOf ns i) t))) + 2 * width (leaf (labelOf ns i) t) ≤ 68 * ones r + extra (quotesAt ns) r
       unfolding parted shown width
-      leaf-short = omega (arith, length-append (getD ns i []) (parted t (shown t)), name-short n ns names i (named i (rn i oi)), d .short, leaf-ones)
+      leaf-short = omega (arith, length-append (labelOf ns i) (parted t (shown t)), named-length i leaf-named, d .short, leaf-ones, extra-part (quotesAt ns) (2 ^ i) r leaf-within)
 
-      pub leaf-done : Done ns s m r (leaf (getD ns i []) t)
+      pub leaf-done : Done ns s m r (leaf (labelOf ns i) t)
       leaf-done = record {
         built = leaf-built;
         wide = leaf-wide;
-        readable = λ e h. readable-token (name-token n ns names i (named i (rn i oi))) (d .readable e h);
+        readable = λ e h. readable-leaf (name-label (getD ns i []) (good-name n ns names i leaf-named)) (d .readable e h);
         faultless = leaf-faultless;
         short = leaf-short;
       }
@@ -271,9 +323,9 @@ module _ (n : ℕ) (ns : List (List ℕ)) (s : List ℕ) (names : goodNames n ns
           ap (leafFault ns seen) (append-assoc (leaves k) (leaves t) ws) ∙ dk .faultless seen (leaves t ++ ws) (λ j u v. d j u (inner-within j v))
           ∙ dt .faultless (seen + x) ws (dis-more seen r x inner-within d) ∙ ap (λ (z : ℕ). leafFault ns z ws) (omega (arith, less-add r x inner-within))
 
-      inner-short : length (parted (inner k t) (shown (inner k t))) + 2 * width (inner k t) ≤ 35 * ones r
+      inner-short : length (parted (inner k t) (shown (inner k t))) + 2 * width (inner k t) ≤ 68 * ones r + extra (quotesAt ns) r
       unfolding parted shown width
-      inner-short = omega (arith, length-append (shown k) (41 ∷ parted t (shown t)), parted-length k (shown k) (omega (arith, inner-pair)), inner-pair, dk .short, dt .short, inner-ones)
+      inner-short = omega (arith, length-append (shown k) (41 ∷ parted t (shown t)), parted-length k (shown k) (omega (arith, inner-pair)), inner-pair, dk .short, dt .short, inner-ones, extra-part (quotesAt ns) x r inner-within)
 
       pub inner-done : Done ns s m r (inner k t)
       inner-done = record { built = inner-built; wide = inner-wide; readable = inner-readable; faultless = inner-faultless; short = inner-short }

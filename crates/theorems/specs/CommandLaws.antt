@@ -19,11 +19,12 @@ use borrow.Author.Tests.{eqb-true, not-true}
 use Rattle.trees.specs.Plain.{every, member, bytes}
 use Rattle.trees.specs.Text.{isBlank, isLabelByte}
 use Rattle.trees.specs.Nexus.{runOf, behindRun, begins, ends, isWord, Pair, EndsOther, ends-other, IsPairs, no-pair, a-pair, isNameByte, IsLine, is-line, IsEnd, is-end}
-use Rattle.trees.specs.NexusReading.{firstToken, behindFirst, twoTokens, lastEnd, endsAfter, endsOther, withPair, readPairs, textBehind, nameAndText, readLine, isEnd}
+use Rattle.trees.specs.NexusReading.{firstToken, behindFirst, readPair, lastEnd, endsAfter, endsOther, withPair, readPairs, textBehind, nameAndText, readLine, isEnd}
 use Rattle.theorems.specs.ListLaws.{if-true, and-left, and-right, and-true, or-cases, or-left, or-right, by-test}
 use Rattle.theorems.specs.NameLaws.{label-no-blank, test-fails}
 use Rattle.theorems.specs.RunOfLaws.{run-join, run-every, run-of, behind-of, run-begins, begins-of, begins-apart, begins-other}
-use Rattle.theorems.specs.TokenLaws.{blank-no-label, word-some, word-label, first-stands, first-found, TwoOk, two-sound, two-complete}
+use Rattle.theorems.specs.TokenLaws.{blank-no-label, word-some, word-label, first-stands, first-found}
+use Rattle.theorems.specs.PairLaws.{PairOk, pair-sound, pair-complete}
 
 -- ---- the end of another block
 
@@ -91,17 +92,17 @@ PairsOk rs (some ps) = IsPairs rs ps
 pub pairs-sound : (rs : List (List ℕ)) → PairsOk rs (readPairs rs)
 unfolding readPairs withPair
 pairs-sound [] = no-pair
-pairs-sound (r ∷ rs) = go (twoTokens r) (readPairs rs) (two-sound r) (pairs-sound rs)
+pairs-sound (r ∷ rs) = go (readPair r) (readPairs rs) (pair-sound r) (pairs-sound rs)
   where
-    go : (p : Option Pair) (ps : Option (List Pair)) → TwoOk r p → PairsOk rs ps → PairsOk (r ∷ rs) (withPair p ps)
+    go : (p : Option Pair) (ps : Option (List Pair)) → PairOk r p → PairsOk rs ps → PairsOk (r ∷ rs) (withPair p ps)
     go none ps t q = tt
     go (some p) none t q = tt
-    go (some p) (some ps) t q = a-pair t q
+    go (some p) (some ps) t q = a-pair (t .1) (t .2) q
 
 pub pairs-complete : {rs : List (List ℕ)} {ps : List Pair} → IsPairs rs ps → readPairs rs ≡ some ps
 unfolding readPairs withPair
 pairs-complete no-pair = refl
-pairs-complete (a-pair t q) = ap₂ withPair (two-complete t) (pairs-complete q)
+pairs-complete (a-pair f n q) = ap₂ withPair (pair-complete f n) (pairs-complete q)
 
 -- ---- a tree's line
 

@@ -22,6 +22,7 @@ use Rattle.trees.specs.Mask.{everyTaxon}
 use Rattle.trees.specs.Tree.{Nodes, leaves}
 use Rattle.trees.specs.Grammar.{IsTree}
 use Rattle.trees.specs.Reading.{reading}
+use Rattle.trees.specs.Text.{readAs}
 use Rattle.trees.specs.Names.{taxonOf}
 use Rattle.trees.specs.Splits.{splitsOf}
 use Rattle.trees.specs.Verdict.{leafFault, judgedTree, judged}
@@ -47,7 +48,7 @@ module _ (ns : List (List ℕ)) where
 
   taxon-low : (w : List ℕ) (i : ℕ) → taxonOf ns w ≡ some i → i < length ns
   unfolding taxonOf
-  taxon-low w i e = omega (arith, taxonFrom-below ns 0 w i e)
+  taxon-low w i e = omega (arith, taxonFrom-below ns 0 (readAs w) i e)
 
   apart : (seen i : ℕ) → (On seen i → ⊥) → Dis seen (2 ^ i)
   apart seen i f j h k = f (subst (On seen) (sym (only-on i j k)) h)

@@ -12,12 +12,12 @@ use mathlib.Core.List.{List, [], _∷_, _++_}
 use lib.Dec.{leb, ltb, eqb}
 use lib.ListN.{length, set, replicate, length-append, length-set, length-replicate}
 use borrow.Author.Tests.{ltb-false, leb-true, le-leb, eqb-true, eqb-false, eq-eqb}
-use Rattle.trees.specs.Plain.{every, member, Answer, refused, gives}
+use Rattle.trees.specs.Plain.{every, Answer, refused, gives}
 use Rattle.trees.specs.Names.{namesIn, goodNames}
 use Rattle.trees.specs.Consensus.{recorded}
 use Rattle.trees.specs.Verdict.{judged}
 use Rattle.trees.specs.Opening.{Numbers, Opening, inRange, goodConstants, storeSize, opening}
-use Rattle.trees.specs.Held.{Held, Lane, holding, overrun, mostText, opened, laneOf, withLane, withTree, longer, newSplits, roomFor, withRoom, verdict, Fed, beforeSemicolon, recording, finishing, feeding, Closed, closing}
+use Rattle.trees.specs.Held.{Held, Lane, holding, overrun, mostText, opened, laneOf, withLane, withTree, longer, newSplits, roomFor, withRoom, verdict, Fed, recording, finishing, feeding, Closed, closing}
 use Rattle.trees.specs.NexusCall.{onText}
 use Rattle.trees.specs.Whole.{goodTree, goodLane, goodOpening}
 use Rattle.theorems.specs.WholeHeld.{whole}
@@ -27,6 +27,7 @@ use Rattle.theorems.specs.RecordedLaws.{recorded-more}
 use Rattle.theorems.specs.VerdictLaws.{judged-good}
 use Rattle.theorems.specs.OpeningLaws.{both, named}
 use Rattle.theorems.specs.ConsensusLaws.{good-rising}
+use Rattle.theorems.specs.FeedingLaws.{endsAt, lastPart}
 
 -- ---- the test and the facts
 
@@ -78,10 +79,10 @@ empty-good : goodLane (holding []) ≡ true
 unfolding goodLane
 empty-good = refl
 
--- "Past 4,096 held bytes, blanks counted, the lane drops bytes"
+-- past 4,608 held bytes, "blanks counted, the lane drops bytes"
 longer-good : (x : Lane) (p : List ℕ) → goodLane (longer x p) ≡ true
 unfolding longer goodLane
-longer-good overrun p = refl
+longer-good (overrun q) p = refl
 longer-good (holding s) p =
     by-test (λ (y : Lane). goodLane y ≡ true) (ltb mostText (length (s ++ p))) (λ e. refl) (λ e. le-leb (length (s ++ p)) mostText (ltb-false mostText (length (s ++ p)) e))
 
@@ -122,7 +123,7 @@ names-count o e = named (o .numbers .taxa) (o .names) (and-right (goodConstants 
 
 pub verdict-fits : (h : Held) → Whole h → (x : Lane) → Fits h (verdict h x)
 unfolding verdict withRoom
-verdict-fits h w overrun = tt
+verdict-fits h w (overrun q) = tt
 verdict-fits h w (holding s) = go (judged (h .opening .names) s) refl
   where
     go : (a : Answer (List ℕ)) → judged (h .opening .names) s ≡ a → Fits h (withRoom h a)
@@ -202,8 +203,8 @@ feeding-facts : (h : Held) (l : ℕ) (p : List ℕ) → Whole h → Whole (feedi
 unfolding feeding
 feeding-facts h l p w =
     by-test (λ (f : Fed). Whole (f .after)) (ltb l (h .opening .numbers .lanes))
-    (λ e. by-test (λ (f : Fed). Whole (f .after)) (member 59 p)
-    (λ d. let x = longer (laneOf h l) (beforeSemicolon p) in finishing-whole h l (suc (length (beforeSemicolon p))) (verdict h x) w (verdict-fits h w x))
+    (λ e. by-test (λ (f : Fed). Whole (f .after)) (endsAt h l p)
+    (λ d. let x = longer (laneOf h l) (lastPart h l p) in finishing-whole h l (suc (length (lastPart h l p))) (verdict h x) w (verdict-fits h w x))
     (λ d. lane-whole h l _ (longer-good (laneOf h l) p) w))
     (λ e. w)
 

@@ -1,4 +1,5 @@
--- Lanes make no difference: pieces cut anywhere and mixed over lanes give what the whole texts give one after another.
+-- Lanes make no difference: pieces cut anywhere, between two apostrophes too, and mixed over lanes give what the whole texts give one after
+-- another.
 --
 --   whole-text, whole-closing       a whole text on empty lanes: it ends, or its lane is closed; and all lanes are empty again
 --   same-run                        from pending bytes on, a run comes to what its whole texts come to
@@ -15,19 +16,21 @@ use lib.Dec.{ltb}
 use lib.ListN.{length, getD, set, replicate, length-set, length-replicate}
 use lib.Seq.{getD-set-same, set-set}
 use borrow.Author.Tests.{ltb-true, lt-ltb, not-true}
-use Rattle.trees.specs.Plain.{if_then_else_, every, member, refused}
+use Rattle.trees.specs.Plain.{if_then_else_, every, refused}
+use Rattle.trees.specs.Text.{semicolon, openAfter, hasEnd, beforeEnd}
 use Rattle.trees.specs.Opening.{Opening}
 use Rattle.trees.specs.Questions.{collisionsOf}
-use Rattle.trees.specs.Held.{Held, Lane, opened, longer, beforeSemicolon, finished, closed}
+use Rattle.trees.specs.Held.{Held, Lane, opened, longer, finished, closed}
 use Rattle.theorems.specs.ListLaws.{if-true, if-false}
 use Rattle.theorems.specs.OpeningLaws.{every-getD}
 use Rattle.theorems.specs.HeldLaws.{every-set, every-replicate}
-use Rattle.trees.specs.Runs.{Call, feed, hand, close, answers, ending, closedWith, finals, textsAfter, wholeTexts, onLane, onOneLane}
+use Rattle.trees.specs.Runs.{Call, feed, hand, close, answers, ending, closedWith, finals, endsIn, textsAfter, wholeTexts, onLane, onOneLane}
 use Rattle.theorems.specs.RunLaws.{ending-opening}
 use Rattle.theorems.specs.Alike.{SameAnswers}
 use Rattle.theorems.specs.AlikeLaws.{questions-alike}
-use Rattle.theorems.specs.PieceLaws.{text, map-replicate, set-replicate, getD-all, unended, unended-append, before-unended, before-end, has-end}
-use Rattle.theorems.specs.OutcomeLaws.{Outcome, outcome, noted, shut, state, grown, judgement, outcome-hand, outcome-text, outcome-more, outcome-no-lane, outcome-closed, outcome-not-closed}
+use Rattle.theorems.specs.QuoteLaws.{before-unended, before-end, has-end}
+use Rattle.theorems.specs.PieceLaws.{text, map-replicate, set-replicate, getD-all, unended, unended-append, closed-append}
+use Rattle.theorems.specs.OutcomeLaws.{Outcome, outcome, noted, shut, state, partOf, grown, judgement, outcome-hand, outcome-text, outcome-more, outcome-no-lane, outcome-closed, outcome-not-closed}
 
 module _ (o : Opening) where
   -- ---- a whole text, all lanes being empty
@@ -35,19 +38,29 @@ module _ (o : Opening) where
   abbrev empty : List (List ℕ)
   empty = replicate (o .numbers .lanes) []
 
-  module _ (ts : List (List ℕ)) (l : ℕ) (w : List ℕ) (cs : List Call) (e : ltb l (o .numbers .lanes) ≡ true) (f : member 59 w ≡ false) where
-    whole-text : outcome (state o ts empty) (feed l (w ++ 59 ∷ []) ∷ cs) ≡ noted (finished (state o ts []) (judgement o ts w)) (outcome (state o (grown o ts (judgement o ts w)) empty) cs)
-    whole-text =
-        outcome-text o ts empty l (w ++ 59 ∷ []) cs e (has-end w)
+  empty-closed : (l : ℕ) → openAfter false (getD empty l []) ≡ false
+  unfolding openAfter
+  empty-closed l = ap (openAfter false) (getD-all (o .numbers .lanes) l [])
+
+  empty-ends : (l : ℕ) (p : List ℕ) → endsIn empty l p ≡ hasEnd false p
+  unfolding endsIn
+  empty-ends l p = ap (λ (q : Bool). hasEnd q p) (empty-closed l)
+
+  module _ (ts : List (List ℕ)) (l : ℕ) (w : List ℕ) (cs : List Call) (e : ltb l (o .numbers .lanes) ≡ true) (f : hasEnd false w ≡ false) where
+    -- no quotes are open where its semicolon stands
+    whole-text : openAfter false w ≡ false
+        → outcome (state o ts empty) (feed l (w ++ semicolon ∷ []) ∷ cs) ≡ noted (finished (state o ts []) (judgement o ts w)) (outcome (state o (grown o ts (judgement o ts w)) empty) cs)
+    whole-text c =
+        outcome-text o ts empty l (w ++ semicolon ∷ []) cs e (empty-ends l (w ++ semicolon ∷ []) ∙ has-end [] false w c)
         ∙ ap₂ (λ (v : List ℕ) (us : List (List ℕ)). noted (finished (state o ts []) (judgement o ts v)) (outcome (state o (grown o ts (judgement o ts v)) us) cs))
-        (ap₂ (λ (a b : List ℕ). a ++ b) (getD-all (o .numbers .lanes) l []) (before-end w f)) (set-replicate (o .numbers .lanes) l [])
+        (ap₂ (λ (a b : List ℕ). a ++ b) (getD-all (o .numbers .lanes) l []) (ap (λ (q : Bool). beforeEnd q (w ++ semicolon ∷ [])) (empty-closed l) ∙ before-end [] false w f c)) (set-replicate (o .numbers .lanes) l [])
 
     fed-lane : getD (set empty l w) l [] ≡ w
     fed-lane = getD-set-same empty l w [] (omega (arith, ltb-true l (o .numbers .lanes) e, length-replicate {A = List ℕ} (o .numbers .lanes) []))
 
     whole-closing : outcome (state o ts empty) (feed l w ∷ close l ∷ cs) ≡ shut (record { answer = closed (text w); after = state o ts empty }) cs
     whole-closing =
-        outcome-more o ts empty l w (close l ∷ cs) e f
+        outcome-more o ts empty l w (close l ∷ cs) e (empty-ends l w ∙ f)
         ∙ ap (λ (v : List ℕ). outcome (state o ts (set empty l (v ++ w))) (close l ∷ cs)) (getD-all (o .numbers .lanes) l [])
         ∙ outcome-closed o ts (set empty l w) l cs e
         ∙ ap₂ (λ (v : List ℕ) (us : List (List ℕ)). shut (record { answer = closed (text v); after = state o ts us }) cs)
@@ -55,16 +68,16 @@ module _ (o : Opening) where
 
   -- ---- the run
 
-  -- pending bytes: of every lane, and without a semicolon
+  -- pending bytes: of every lane, and ending no text
   record Pending (us : List (List ℕ)) : Type 0 where
     many : length us ≡ o .numbers .lanes
     open-ended : every unended us ≡ true
 
-  pending-at : (us : List (List ℕ)) → Pending us → (l : ℕ) → member 59 (getD us l []) ≡ false
-  unfolding member
-  pending-at us d l = not-true (member 59 (getD us l [])) (every-getD unended us [] refl (d .open-ended) l)
+  pending-at : (us : List (List ℕ)) → Pending us → (l : ℕ) → hasEnd false (getD us l []) ≡ false
+  unfolding hasEnd
+  pending-at us d l = not-true (hasEnd false (getD us l [])) (every-getD unended us [] refl (d .open-ended) l)
 
-  pending-set : (us : List (List ℕ)) → Pending us → (l : ℕ) (w : List ℕ) → member 59 w ≡ false → Pending (set us l w)
+  pending-set : (us : List (List ℕ)) → Pending us → (l : ℕ) (w : List ℕ) → hasEnd false w ≡ false → Pending (set us l w)
   pending-set us d l w e = record { many = length-set us l w ∙ d .many; open-ended = every-set unended us l w (ap not e) (d .open-ended) }
 
   opened-state : opened o ≡ state o [] empty
@@ -72,7 +85,7 @@ module _ (o : Opening) where
   opened-state = ap (λ (xs : List Lane). record { opening = o; trees = []; texts = xs }) (sym (map-replicate text (o .numbers .lanes) []))
 
   opened-pending : Pending empty
-  unfolding member
+  unfolding hasEnd
   opened-pending = record { many = length-replicate (o .numbers .lanes) []; open-ended = every-replicate unended (o .numbers .lanes) [] refl }
 
   -- whichever lanes the whole texts are fed to: g l in place of l, which exists if l does
@@ -88,17 +101,18 @@ module _ (o : Opening) where
       is-lane : (b : Bool) → ltb l (o .numbers .lanes) ≡ b → ltb l (length us) ≡ b
       is-lane b e = ap (ltb l) (d .many) ∙ e
 
-      run-text : (p : List ℕ) → ltb l (o .numbers .lanes) ≡ true → member 59 p ≡ true → outcome (state o ts us) (feed l p ∷ cs) ≡ outcome (state o ts empty) (moved (textsAfter us (feed l p ∷ cs)))
+      run-text : (p : List ℕ) → ltb l (o .numbers .lanes) ≡ true → endsIn us l p ≡ true → outcome (state o ts us) (feed l p ∷ cs) ≡ outcome (state o ts empty) (moved (textsAfter us (feed l p ∷ cs)))
       unfolding textsAfter onLane
       run-text p e f =
-          let w = getD us l [] ++ beforeSemicolon p in
+          let u = getD us l [] in
+          let w = u ++ partOf us l p in
           let v = judgement o ts w in
           outcome-text o ts us l p cs e f
           ∙ ap (noted (finished (state o ts []) v)) (rest (grown o ts v) (set us l []) (pending-set us d l [] refl))
-          ∙ sym (whole-text ts (g l) w (moved (textsAfter (set us l []) cs)) (stay l ∙ e) (unended-append (getD us l []) (beforeSemicolon p) (pending-at us d l) (before-unended p)))
+          ∙ sym (whole-text ts (g l) w (moved (textsAfter (set us l []) cs)) (stay l ∙ e) (unended-append u (partOf us l p) (pending-at us d l) (before-unended (openAfter false u) p)) (closed-append u p f))
           ∙ ap (λ (ds : List Call). outcome (state o ts empty) (moved ds)) (sym (if-true _ _ (is-lane true e) ∙ if-true _ _ f))
 
-      run-more : (p : List ℕ) → ltb l (o .numbers .lanes) ≡ true → member 59 p ≡ false → outcome (state o ts us) (feed l p ∷ cs) ≡ outcome (state o ts empty) (moved (textsAfter us (feed l p ∷ cs)))
+      run-more : (p : List ℕ) → ltb l (o .numbers .lanes) ≡ true → endsIn us l p ≡ false → outcome (state o ts us) (feed l p ∷ cs) ≡ outcome (state o ts empty) (moved (textsAfter us (feed l p ∷ cs)))
       unfolding textsAfter onLane
       run-more p e f =
           outcome-more o ts us l p cs e f
@@ -131,9 +145,9 @@ module _ (o : Opening) where
     same-run : (cs : List Call) → AsWhole cs
     unfolding outcome textsAfter onLane
     same-run [] ts us d = refl
-    same-run (feed l p ∷ cs) ts us d = go (ltb l (o .numbers .lanes)) (member 59 p) refl refl (same-run cs)
+    same-run (feed l p ∷ cs) ts us d = go (ltb l (o .numbers .lanes)) (endsIn us l p) refl refl (same-run cs)
       where
-        go : (b c : Bool) → ltb l (o .numbers .lanes) ≡ b → member 59 p ≡ c → AsWhole cs → outcome (state o ts us) (feed l p ∷ cs) ≡ outcome (state o ts empty) (moved (textsAfter us (feed l p ∷ cs)))
+        go : (b c : Bool) → ltb l (o .numbers .lanes) ≡ b → endsIn us l p ≡ c → AsWhole cs → outcome (state o ts us) (feed l p ∷ cs) ≡ outcome (state o ts empty) (moved (textsAfter us (feed l p ∷ cs)))
         go true true e f r = run-text l cs r ts us d p e f
         go true false e f r = run-more l cs r ts us d p e f
         go false c e f r = run-no-lane l cs r ts us d p e

@@ -1,4 +1,7 @@
 pub mod TextLaws
+pub mod QuoteLaws
+pub mod LabelLaws
+pub mod OutsideLaws
 pub mod GrammarLaws
 pub mod ListLaws
 pub mod RisingLaws
@@ -15,6 +18,7 @@ pub mod CountLaws
 pub mod HashLaws
 pub mod OpeningLaws
 pub mod NameLaws
+pub mod WrittenNameLaws
 pub mod ShownLaws
 pub mod WidestLaws
 pub mod ProperLaws
@@ -22,6 +26,7 @@ pub mod FewLaws
 pub mod BranchLaws
 pub mod TreeOfLaws
 pub mod WrittenLaws
+pub mod FeedingLaws
 pub mod WrittenFedLaws
 pub mod RecordedLaws
 pub mod WholeHeld
@@ -50,6 +55,7 @@ pub mod Longest
 pub mod LongestLaws
 pub mod RunOfLaws
 pub mod TokenLaws
+pub mod PairLaws
 pub mod CommandLaws
 pub mod NexusLeft
 pub mod NexusSoundLaws

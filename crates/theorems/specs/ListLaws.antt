@@ -2,6 +2,7 @@
 --
 --   Mem x l         x is a member of l, as a type
 --   by-test P b     what holds of both ways of a choice holds of the choice
+--   by-elim P b     so it is where the choice is written as cases
 --   less-or-not, equal-or-not     two numbers compared
 --   same-bool       two tests are equal where each passes with the other
 --   mem-getD        what stands in a list is a member
@@ -45,6 +46,10 @@ same-bool false false f g = refl
 pub by-test : {A : Type 0} (P : A → Type 0) (b : Bool) {x y : A} → (b ≡ true → P x) → (b ≡ false → P y) → P (if b then x else y)
 by-test P true f g = f refl
 by-test P false f g = g refl
+
+pub by-elim : {A : Type 0} (P : A → Type 0) (b : Bool) {x y : A} → (b ≡ true → P x) → (b ≡ false → P y) → P (elim b as (λ _. A) [ true ↦ x | false ↦ y ])
+by-elim P true f g = f refl
+by-elim P false f g = g refl
 
 pub if-true : {A : Type 0} {b : Bool} (x y : A) → b ≡ true → (if b then x else y) ≡ x
 if-true x y e = ap (λ b. if b then x else y) e

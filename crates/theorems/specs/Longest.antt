@@ -1,20 +1,24 @@
--- A collection whose trees are written in 2,236 bytes: 64 names of 32 bytes, and one tree that has as many splits as there can be.
+-- A collection whose trees are written in 4,349 bytes: 64 names of 32 bytes, of which one is all apostrophes and the others are but for one
+-- byte, and one tree that has as many splits as there can be.
 --
 --   longName i, longNames      the name of taxon i; all 64
+--   listed ws                  the name list of the names ws
 --   combSplits k               the k least splits {i, .., 63} of the tree (A,B,(C,(D, .. )))
 --   longNumbers, longOpening   what the collection is opened with
 --   longText                   the text of its tree
 --   longest                    the collection that was opened with these and fed with the text
-use Prim.Native.Nat.{ℕ, zero, suc, _+_, _-_, _/_, _%_, _^_}
+use Prim.Native.Nat.{ℕ, zero, suc, _+_, _-_, _^_}
 use mathlib.Core.List.{List, [], _∷_, _++_}
 use lib.ListN.{replicate}
-use Rattle.trees.specs.Written.{written}
+use Rattle.trees.specs.Plain.{byte}
+use Rattle.trees.specs.Text.{apostrophe}
+use Rattle.trees.specs.Written.{writtenName, written}
 use Rattle.trees.specs.Opening.{Numbers, Opening}
 use Rattle.trees.specs.Held.{Held, opened, feeding}
 
--- two letters by the taxon's number, and 30 times the letter a
+-- a byte by the taxon's number, of taxon 6 the apostrophe, and 31 apostrophes
 unfoldable pub longName : ℕ → List ℕ
-longName i = (65 + i / 8) ∷ (65 + i % 8) ∷ replicate 30 97
+longName i = (33 + i) ∷ replicate 31 apostrophe
 
 -- the names of the taxa below i, before the names l
 unfoldable pub namesBefore : ℕ → List (List ℕ) → List (List ℕ)
@@ -26,11 +30,12 @@ unfoldable pub longNames : List (List ℕ)
 unfolding namesBefore
 longNames = namesBefore 64 []
 
--- names with one space between, as an opening takes them
-unfoldable pub spaced : List (List ℕ) → List ℕ
-spaced [] = []
-spaced (w ∷ []) = w
-spaced (w ∷ v ∷ ws) = w ++ 32 ∷ spaced (v ∷ ws)
+-- labels that read as the names, with one space between, as an opening takes them
+unfoldable pub listed : List (List ℕ) → List ℕ
+unfolding writtenName
+listed [] = []
+listed (w ∷ []) = writtenName w
+listed (w ∷ v ∷ ws) = writtenName w ++ byte " " ∷ listed (v ∷ ws)
 
 -- the taxa i to 63 are 2^64 - 2^i
 unfoldable pub combSplits : ℕ → List ℕ

@@ -1,9 +1,9 @@
--- "The longest is 2,236 bytes": no tree is written longer (`written-length`, WrittenLaws), and this length is reached by the trees of a collection.
+-- "The longest is 4,349 bytes": no tree is written longer (`written-length`, WrittenLaws), and this length is reached by the trees of a collection.
 --
 --   longest-opens       there is such a collection: the opening is accepted
 --   longest-accepts     the text is accepted there, as tree 0
 --   longest-trees       the collection then holds its 61 splits
---   longest-reached     both consensus trees of it, and its tree, are written in 2,236 bytes
+--   longest-reached     both consensus trees of it, and its tree, are written in 4,349 bytes
 use Prim.Native.Nat.{ℕ, zero, suc, _+_, _-_, _%_, _^_, _≤_, _<_}
 use native.Mathlib.Omega.{arith}
 use native.Mathlib.Nat.{pow-suc}
@@ -32,7 +32,7 @@ use Rattle.theorems.specs.MaskLaws.{Ag, below-sub, others-xor, others-on
 use Rattle.theorems.specs.SplitLaws.{pairs-intro}
 use Rattle.theorems.specs.ProperLaws.{every-ones, true-proper}
 use Rattle.theorems.specs.WrittenFedLaws.{written-accepted}
-use Rattle.theorems.specs.Longest.{longNames, spaced, combSplits, longNumbers, longOpening, longText, longest}
+use Rattle.theorems.specs.Longest.{longNames, listed, combSplits, longNumbers, longOpening, longText, longest}
 
 -- ---- the splits are in order
 
@@ -107,8 +107,8 @@ names-good : goodNames 64 longNames ≡ true
 unfolding goodNames longNames
 names-good = refl
 
-pub longest-opens : opening longNumbers (spaced longNames) (replicate 64 0) (replicate 64 0) (storeSize longNumbers) ≡ gives longOpening
-unfolding opening longNumbers spaced longNames storeSize longOpening
+pub longest-opens : opening longNumbers (listed longNames) (replicate 64 0) (replicate 64 0) (storeSize longNumbers) ≡ gives longOpening
+unfolding opening longNumbers listed longNames storeSize longOpening
 longest-opens = refl
 
 -- ---- its one tree
@@ -156,11 +156,11 @@ longest-names = ap (λ h. h .opening .names) long-after
 
 -- ---- what it writes
 
-long-length : length longText ≡ 2236
+long-length : length longText ≡ 4349
 unfolding longText
 long-length = refl
 
-long-fits : length longText ≤ 2236
+long-fits : length longText ≤ 4349
 long-fits = omega (arith, long-length)
 
 long-written : written (longest .opening .names) (combSplits 61) ≡ longText
@@ -198,13 +198,13 @@ module _ (h : Held) (t w : List ℕ) (room : ℕ) (one : h .trees ≡ t ∷ []) 
   tree-given = ap (λ (ts : List (List ℕ)). if ltb 0 (length ts) then ifRoom room (written (h .opening .names) (getD ts 0 [])) else refused 13) one ∙ given
 
 pub longest-reached :
-    (majorityOf longest 2236 ≡ gives longText)
-    × (strictOf longest 2236 ≡ gives longText)
-    × (writtenOf longest 0 2236 ≡ gives longText)
-    × (length longText ≡ 2236)
+    (majorityOf longest 4349 ≡ gives longText)
+    × (strictOf longest 4349 ≡ gives longText)
+    × (writtenOf longest 0 4349 ≡ gives longText)
+    × (length longText ≡ 4349)
 longest-reached = (
-  majority-given longest (combSplits 61) longText 2236 longest-trees long-written long-fits one-majority,
-  strict-given longest (combSplits 61) longText 2236 longest-trees long-written long-fits one-strict,
-  tree-given longest (combSplits 61) longText 2236 longest-trees long-written long-fits,
+  majority-given longest (combSplits 61) longText 4349 longest-trees long-written long-fits one-majority,
+  strict-given longest (combSplits 61) longText 4349 longest-trees long-written long-fits one-strict,
+  tree-given longest (combSplits 61) longText 4349 longest-trees long-written long-fits,
   long-length,
 )

@@ -3,11 +3,9 @@
 --   markBytes        the bytes that part labels
 --   label-no-blank   a label byte is no blank
 --   LabelBytes w     every byte of w is a label byte, as a type
---   Token w          w is a token, as a type: one label byte or more
 --   good-count       there are as many as there are taxa
---   name-found       a name is found in its own place
---   name-token       a name is a token
---   name-short       a name has at most 32 bytes
+--   good-name        each is a name
+--   name-found       a label is found in the place of the name that it reads as
 use Prim.Native.Nat.{ℕ, zero, suc, _+_, _≤_, _<_}
 use native.Mathlib.Omega.{arith}
 use mathlib.Core.Path.{_≡_, refl, ap, ap₂, sym, _∙_, subst}
@@ -19,7 +17,7 @@ use lib.Dec.{leb, eqb}
 use lib.ListN.{length, getD}
 use borrow.Author.Tests.{eqb-true, eq-eqb, ne-eqb, leb-true, not-true}
 use Rattle.trees.specs.Plain.{if_then_else_, every, member, sameBytes, inNames}
-use Rattle.trees.specs.Text.{isBlank, isLabelByte, Kind, blank, label, mark, openBracket, closeBracket, comma, colon, stray, kind}
+use Rattle.trees.specs.Text.{isBlank, isLabelByte, isQuotedByte, readAs, Kind, blank, label, mark, openBracket, closeBracket, comma, colon, stray, kind}
 use Rattle.trees.specs.Names.{taxonFrom, taxonOf, isName, different, goodNames}
 use Rattle.theorems.specs.ListLaws.{if-true, if-false, and-left, and-right, or-left, or-right, Mem, member-mem, member-not, not-member, every-at}
 
@@ -38,17 +36,18 @@ unfolding member
 comma-mark = member-mem 44 markBytes refl
 
 -- what a byte is, from the tests of it
-abbrev kindBy : Bool → Bool → Bool → Bool → Bool → Bool → Kind
-kindBy aBlank opens closes parts leads aLabel =
+abbrev kindBy : Bool → Bool → Bool → Bool → Bool → Bool → Bool → Kind
+kindBy aBlank opens closes parts leads aLabel quotes =
     if aBlank then blank
     else if opens then mark openBracket
     else if closes then mark closeBracket
     else if parts then mark comma
     else if leads then mark colon
     else if aLabel then label
+    else if quotes then label
     else mark stray
 
-kind-by : (b : ℕ) → kind b ≡ kindBy (isBlank b) (eqb b 40) (eqb b 41) (eqb b 44) (eqb b 58) (isLabelByte b)
+kind-by : (b : ℕ) → kind b ≡ kindBy (isBlank b) (eqb b 40) (eqb b 41) (eqb b 44) (eqb b 58) (isLabelByte b) (eqb b 39)
 unfolding kind
 kind-by b = refl
 
@@ -87,23 +86,20 @@ unfolding every
 every-label [] e = tt
 every-label (b ∷ w) e = (and-left (isLabelByte b) (every isLabelByte w) e, every-label w (and-right (isLabelByte b) (every isLabelByte w) e))
 
-abbrev pub Token : List ℕ → Type 0
-Token w = (b : ℕ) × (v : List ℕ) × (w ≡ b ∷ v) × LabelBytes (b ∷ v)
-
 -- ---- one name
 
 module _ (w : List ℕ) (h : isName w ≡ true) where
+  pub isName-some : 1 ≤ length w
+  unfolding isName
+  isName-some = leb-true 1 (length w) (and-left (leb 1 (length w)) _ h)
+
   pub isName-short : length w ≤ 32
   unfolding isName
-  isName-short = leb-true (length w) 32 (and-left (leb (length w) 32) (every isLabelByte w) (and-right (leb 1 (length w)) _ h))
+  isName-short = leb-true (length w) 32 (and-left (leb (length w) 32) (every isQuotedByte w) (and-right (leb 1 (length w)) _ h))
 
-  pub isName-token : Token w
+  pub isName-bytes : every isQuotedByte w ≡ true
   unfolding isName
-  isName-token = go w (leb-true 1 (length w) (and-left (leb 1 (length w)) _ h)) (every-label w (and-right (leb (length w) 32) (every isLabelByte w) (and-right (leb 1 (length w)) _ h)))
-    where
-      go : (v : List ℕ) → 1 ≤ length v → LabelBytes v → Token v
-      go [] l k = absurd (omega arith)
-      go (b ∷ v) l k = (b, v, refl, k)
+  isName-bytes = and-right (leb (length w) 32) (every isQuotedByte w) (and-right (leb 1 (length w)) _ h)
 
 -- ---- equal bytes
 
@@ -150,16 +146,12 @@ module _ (n : ℕ) (ns : List (List ℕ)) (h : goodNames n ns ≡ true) where
   unfolding goodNames
   good-count = eqb-true (length ns) n (and-left (eqb (length ns) n) _ h)
 
-  good-name : (i : ℕ) → i < length ns → isName (getD ns i []) ≡ true
+  pub good-name : (i : ℕ) → i < length ns → isName (getD ns i []) ≡ true
   unfolding goodNames
   good-name i l = every-at isName ns (and-left (every isName ns) (different ns) (and-right (eqb (length ns) n) _ h)) (getD ns i []) (getD-mem ns i l)
 
-  pub name-found : (i : ℕ) → i < length ns → taxonOf ns (getD ns i []) ≡ some i
+  -- by any label that reads as it
+  pub name-found : (i : ℕ) → i < length ns → (w : List ℕ) → readAs w ≡ getD ns i [] → taxonOf ns w ≡ some i
   unfolding goodNames taxonOf
-  name-found i l = found-from ns 0 i (and-right (every isName ns) (different ns) (and-right (eqb (length ns) n) _ h)) l ∙ ap some (omega arith)
-
-  pub name-token : (i : ℕ) → i < length ns → Token (getD ns i [])
-  name-token i l = isName-token (getD ns i []) (good-name i l)
-
-  pub name-short : (i : ℕ) → i < length ns → length (getD ns i []) ≤ 32
-  name-short i l = isName-short (getD ns i []) (good-name i l)
+  name-found i l w e =
+      ap (taxonFrom 0 ns) e ∙ found-from ns 0 i (and-right (every isName ns) (different ns) (and-right (eqb (length ns) n) _ h)) l ∙ ap some (omega arith)

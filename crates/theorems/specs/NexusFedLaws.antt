@@ -2,34 +2,35 @@
 --
 --   heardVerdict a, heardTaken a     the verdict that an answer is, as a number; how many bytes it took
 --   fedTo l ts          the texts ts fed to lane l, each with its semicolon
---   handing-opening, handing-lanes     handing in texts changes neither the opening nor a lane
+--   handing-lanes       handing in texts changes no lane
 --   EmptyLane h l       the lane l is there, and empty
 --   FedAs h l ts b      the verdicts and the collection of b are those of the texts ts fed to lane l, each taken whole
---   handing-as-feeding     texts without a semicolon handed in are so fed
+--   handing-as-feeding     texts in which none ends, handed in, are so fed
 --   nexus-as-feeding       so are the plain texts of a file
 use Prim.Native.Nat.{ℕ, zero, suc}
 use mathlib.Core.Path.{_≡_, refl, ap, ap₂, sym, _∙_, subst}
+use mathlib.Core.Logic.{inl, inr}
 use mathlib.Core.Bool.{Bool, true, false}
 use mathlib.Core.List.{List, [], _∷_, _++_, map}
 use mathlib.Core.Option.{Option, none, some}
 use lib.Dec.{ltb}
 use lib.ListN.{length, getD, set}
-use borrow.Author.Tests.{not-true}
-use Rattle.trees.specs.Plain.{every, member, Answer, refused, gives}
-use Rattle.trees.specs.Text.{semicolon}
+use Rattle.trees.specs.Plain.{Answer, refused, gives}
+use Rattle.trees.specs.Text.{semicolon, openAfter, hasEnd, beforeEnd}
 use Rattle.trees.specs.Names.{different}
-use Rattle.trees.specs.Held.{Held, Lane, holding, laneOf, withLane, longer, verdict, Fed, finished, recording, finishing, feeding}
+use Rattle.trees.specs.Held.{Held, Lane, holding, laneOf, withLane, openIn, longer, verdict, Fed, finished, recording, finishing, feeding}
 use Rattle.trees.specs.Batch.{verdictNumber, Batched, withVerdict}
 use Rattle.trees.specs.Runs.{Call, feed, Heard, fed, closedLane, answer, next, answers, ending}
 use Rattle.trees.specs.Nexus.{File, IsNexus}
 use Rattle.trees.specs.NexusReading.{readFile}
 use Rattle.trees.specs.NexusCall.{keysOf, plainTexts, onText, handing, handedIn, nexus}
-use Rattle.theorems.specs.ListLaws.{and-left, and-right, by-test}
-use Rattle.theorems.specs.PieceLaws.{unended, before-end, has-end}
-use Rattle.theorems.specs.WrittenFedLaws.{feedingBy, feeding-by}
+use Rattle.theorems.specs.ListLaws.{by-test}
+use Rattle.theorems.specs.QuoteLaws.{before-end, has-end}
+use Rattle.theorems.specs.OutsideLaws.{leads-open, leads-unended}
+use Rattle.theorems.specs.FeedingLaws.{endsAt, lastPart, feedingBy, feeding-by}
 use Rattle.theorems.specs.OwnLaneLaws.{recording-opening, recording-texts}
 use Rattle.theorems.specs.NexusLaws.{read-exactly}
-use Rattle.theorems.specs.NexusTextLaws.{plain-unended}
+use Rattle.theorems.specs.NexusTextLaws.{Unended, AllUnended, plain-unended}
 
 -- ---- what is handed in, as calls
 
@@ -45,12 +46,7 @@ heardTaken (closedLane a) = 0
 abbrev pub fedTo : ℕ → List (List ℕ) → List Call
 fedTo l ts = map (λ t. feed l (t ++ semicolon ∷ [])) ts
 
--- ---- neither the opening nor a lane changes
-
-pub handing-opening : (h : Held) (ts : List (List ℕ)) → handing h ts .after .opening ≡ h .opening
-unfolding handing withVerdict
-handing-opening h [] = refl
-handing-opening h (t ∷ ts) = handing-opening (recording h (onText h t)) ts ∙ recording-opening h (onText h t)
+-- ---- no lane changes
 
 pub handing-lanes : (h : Held) (ts : List (List ℕ)) → handing h ts .after .texts ≡ h .texts
 unfolding handing withVerdict
@@ -82,12 +78,22 @@ empty-kept h l v e =
       empty = ap (λ (xs : List Lane). getD xs l (holding [])) (recording-texts h v) ∙ e .empty;
     }
 
-module _ (h : Held) (l : ℕ) (e : EmptyLane h l) (t : List ℕ) (f : member 59 t ≡ false) where
+module _ (h : Held) (l : ℕ) (e : EmptyLane h l) (t : List ℕ) (u : Unended t) where
+  lane-closed : openIn (laneOf h l) ≡ false
+  unfolding openIn openAfter
+  lane-closed = ap openIn (e .empty)
+
+  text-ends : endsAt h l (t ++ 59 ∷ []) ≡ true
+  text-ends = ap (λ (q : Bool). hasEnd q (t ++ 59 ∷ [])) lane-closed ∙ has-end [] false t (leads-open u)
+
+  text-before : lastPart h l (t ++ 59 ∷ []) ≡ t
+  text-before = ap (λ (q : Bool). beforeEnd q (t ++ 59 ∷ [])) lane-closed ∙ before-end [] false t (leads-unended u) (leads-open u)
+
   text-fed : feeding h l (t ++ 59 ∷ []) ≡ finishing h l (suc (length t)) (onText h t)
   unfolding onText
   text-fed =
-      feeding-by h l (t ++ 59 ∷ []) ∙ ap₂ (λ (x y : Bool). feedingBy x y h l (t ++ 59 ∷ [])) (e .there) (has-end t)
-      ∙ ap₂ (λ (w : List ℕ) (x : Lane). finishing h l (suc (length w)) (verdict h (longer x w))) (before-end t f) (e .empty)
+      feeding-by h l (t ++ 59 ∷ []) ∙ ap₂ (λ (x y : Bool). feedingBy x y h l (t ++ 59 ∷ [])) (e .there) text-ends
+      ∙ ap₂ (λ (w : List ℕ) (x : Lane). finishing h l (suc (length w)) (verdict h (longer x w))) text-before (e .empty)
 
   text-after : feeding h l (t ++ 59 ∷ []) .after ≡ recording h (onText h t)
   unfolding finishing
@@ -104,13 +110,13 @@ pub record FedAs (h : Held) (l : ℕ) (ts : List (List ℕ)) (b : Batched) : Typ
   pub heard : b .verdicts ≡ map heardVerdict (answers h (fedTo l ts))
   pub taken : map heardTaken (answers h (fedTo l ts)) ≡ map (λ t. suc (length t)) ts
 
-pub handing-as-feeding : (h : Held) (l : ℕ) → EmptyLane h l → (ts : List (List ℕ)) → every unended ts ≡ true → FedAs h l ts (handing h ts)
-unfolding handing withVerdict answers ending next heardVerdict heardTaken every
+pub handing-as-feeding : (h : Held) (l : ℕ) → EmptyLane h l → (ts : List (List ℕ)) → AllUnended ts → FedAs h l ts (handing h ts)
+unfolding handing withVerdict answers ending next heardVerdict heardTaken
 handing-as-feeding h l e [] u = record { held = refl; heard = refl; taken = refl }
 handing-as-feeding h l e (t ∷ ts) u =
-    let f : member 59 t ≡ false = not-true (member 59 t) (and-left (unended t) (every unended ts) u) in
+    let f = u t (inl refl) in
     let k = recording h (onText h t) in
-    let rest = handing-as-feeding k l (empty-kept h l (onText h t) e) ts (and-right (unended t) (every unended ts) u) in
+    let rest = handing-as-feeding k l (empty-kept h l (onText h t) e) ts (λ w m. u w (inr m)) in
     let a = text-after h l e t f in
     let s = text-heard h l e t f in
     record {
@@ -127,7 +133,7 @@ FileFed h l ts (refused k) = Unit {0}
 FileFed h l ts (gives b) = FedAs h l ts b
 
 module _ (h : Held) (l : ℕ) (e : EmptyLane h l) where
-  handed-fed : (x : File) (room : ℕ) → every unended (plainTexts x) ≡ true → FileFed h l (plainTexts x) (handedIn h x room)
+  handed-fed : (x : File) (room : ℕ) → AllUnended (plainTexts x) → FileFed h l (plainTexts x) (handedIn h x room)
   unfolding handedIn
   handed-fed x room u =
       by-test (FileFed h l (plainTexts x)) (different (keysOf (x .pairs)))
@@ -138,4 +144,4 @@ module _ (h : Held) (l : ℕ) (e : EmptyLane h l) where
   nexus-as-feeding f x i room b g =
       let r : readFile f ≡ some x = read-exactly f x .1 i in
       let handed : nexus h f room ≡ handedIn h x room = ap (λ (o : Option File). elim o as (λ _. Answer Batched) [ none ↦ refused 15 | some y ↦ handedIn h y room ]) r in
-      subst (FileFed h l (plainTexts x)) (sym handed ∙ g) (handed-fed x room (plain-unended f x r))
+      subst (FileFed h l (plainTexts x)) (sym handed ∙ g) (handed-fed x room (plain-unended i))

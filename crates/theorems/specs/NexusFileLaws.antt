@@ -1,8 +1,6 @@
 -- The plain NEXUS file around texts is one, and gives them. Assumes nothing.
 --
---   uncommented-plain     bytes without `[` have no comment
---   parts-cut             bytes up to the first semicolon are the first part
---   Plain w, AllPlain ws     the text w, all texts ws have no semicolon and no comment
+--   Plain w, AllPlain ws     in the text w, in all texts ws, none ends, no comment begins, and quotes are closed behind
 --   withEnd w             the text w and a semicolon
 --   behindBlank ws        a file without pairs, with the texts ws, each behind a blank
 --   around-file           the file around texts is a NEXUS file, and gives them behind a blank
@@ -11,34 +9,21 @@
 use Prim.Native.Nat.{ℕ}
 use native.Mathlib.Omega.{arith}
 use mathlib.Core.Path.{_≡_, refl, ap, ap₂, sym, _∙_, subst}
-use mathlib.Core.Logic.{inl, inr, ⊎-elim}
-use mathlib.Core.Bool.{Bool, true, false}
+use mathlib.Core.Logic.{inl, inr}
+use mathlib.Core.Bool.{Bool, true, false, _&&_, not}
 use mathlib.Core.List.{List, [], _∷_, _++_, map, append-assoc, append-nil}
-use borrow.Author.Tests.{ne-eqb}
 use Rattle.trees.specs.Plain.{every, member, sameBytes, bytes}
-use Rattle.trees.specs.Text.{isBlank, isLabelByte}
-use Rattle.trees.specs.Nexus.{begins, uncommented, behindComment, withByte, parts, capital, isWord, isToken, First, is-first, are-two, File, is-begin, no-other, no-list, isNameByte, IsLine, is-line, IsLines, no-line, a-line, IsEnd, is-end, IsTrees, is-trees, IsNexus, is-nexus}
+use Rattle.trees.specs.Text.{isBlank, isLabelByte, turned, withByte, parts}
+use Rattle.trees.specs.Nexus.{begins, uncommented, capital, isWord, isToken, First, is-first, are-two, File, is-begin, no-other, no-list, isNameByte, IsLine, is-line, IsLines, no-line, a-line, IsEnd, is-end, IsTrees, is-trees, IsNexus, is-nexus}
 use Rattle.trees.specs.NexusCall.{nameOf, shown, freeBehind, replacedAfter, replaced, plainTexts}
-use Rattle.theorems.specs.ListLaws.{if-false, by-test, Mem, mem-cases, not-member}
+use Rattle.theorems.specs.ListLaws.{by-elim, Mem}
+use Rattle.theorems.specs.OutsideLaws.{Leads, leads-append, leads-over, leads-cut, leads-uncommented}
 use Rattle.theorems.specs.NexusFile.{treeLines, fileAround}
 
--- ---- bytes
-
-pub uncommented-plain : (s : List ℕ) → (Mem 91 s → ⊥) → uncommented s ≡ s
-unfolding uncommented
-uncommented-plain [] f = refl
-uncommented-plain (b ∷ s) f =
-    if-false (behindComment s) (b ∷ uncommented s) (ne-eqb b 91 (λ e. f (inl (sym e)))) ∙ ap (λ (r : List ℕ). b ∷ r) (uncommented-plain s (λ m. f (inr m)))
-
-pub parts-cut : (c s : List ℕ) → (Mem 59 c → ⊥) → parts 59 (c ++ (59 ∷ s)) ≡ c ∷ parts 59 s
-unfolding parts withByte
-parts-cut [] s f = refl
-parts-cut (b ∷ c) s f = if-false _ _ (ne-eqb b 59 (λ e. f (inl (sym e)))) ∙ ap (withByte b) (parts-cut c s (λ m. f (inr m)))
-
--- ---- the file around texts that have no semicolon and no comment
+-- ---- texts in which none ends and no comment begins
 
 abbrev pub Plain : List ℕ → Type 0
-Plain w = (Mem 59 w → ⊥) × (Mem 91 w → ⊥)
+Plain w = Leads 59 false w false × Leads 91 false w false
 
 abbrev pub AllPlain : List (List ℕ) → Type 0
 AllPlain ws = (w : List ℕ) → Mem w ws → Plain w
@@ -64,28 +49,34 @@ lines-are : (ws : List (List ℕ)) → IsLines (map command ws) (map (λ w. 32 �
 lines-are [] = no-line
 lines-are (w ∷ ws) = a-line (line-is w) (lines-are ws)
 
-command-unended : (w : List ℕ) → (Mem 59 w → ⊥) → Mem 59 (command w) → ⊥
-unfolding bytes member
-command-unended w f m = ⊎-elim (not-member 59 (bytes "\nTREE t = ") refl) f (mem-cases 59 (bytes "\nTREE t = ") w m)
+-- bytes without the byte x and without quotes
+abbrev lacks : ℕ → ℕ → Bool
+lacks x b = not (member b (39 ∷ x ∷ []))
 
-lines-parts : (ws : List (List ℕ)) → AllPlain ws → parts 59 (10 ∷ treeLines (map withEnd ws)) ≡ map command ws ++ (bytes "\nEND" ∷ (10 ∷ []) ∷ [])
+lacks-leads : (x : ℕ) → lacks x x ≡ false → (w : List ℕ) → every (lacks x) w ≡ true → Leads x false w false
+unfolding member
+lacks-leads x e w h = leads-over x (lacks x) refl e false w h
+
+command-unended : (w : List ℕ) → Plain w → Leads 59 false (command w) false
+unfolding bytes every member
+command-unended w p = leads-append 59 (lacks-leads 59 refl (bytes "\nTREE t = ") refl) (p .0)
+
+lines-parts : (ws : List (List ℕ)) → AllPlain ws → parts 59 false (10 ∷ treeLines (map withEnd ws)) ≡ map command ws ++ (bytes "\nEND" ∷ (10 ∷ []) ∷ [])
 unfolding treeLines parts withByte bytes
 lines-parts [] f = refl
 lines-parts (w ∷ ws) f =
     let rest : List ℕ = 10 ∷ treeLines (map withEnd ws) in
-    ap (λ (y : List ℕ). parts 59 (bytes "\nTREE t = " ++ y)) (append-assoc w (59 ∷ []) rest)
-    ∙ parts-cut (command w) rest (command-unended w (f w (inl refl) .0))
+    ap (λ (y : List ℕ). parts 59 false (bytes "\nTREE t = " ++ y)) (append-assoc w (59 ∷ []) rest)
+    ∙ leads-cut (command-unended w (f w (inl refl))) rest
     ∙ ap (λ (y : List (List ℕ)). command w ∷ y) (lines-parts ws (λ v m. f v (inr m)))
 
-lines-plain : (ws : List (List ℕ)) → AllPlain ws → Mem 91 (treeLines (map withEnd ws)) → ⊥
-unfolding treeLines bytes member
-lines-plain [] f m = not-member 91 (bytes "END;\n") refl m
-lines-plain (w ∷ ws) f m =
-    let rest : List ℕ = 10 ∷ treeLines (map withEnd ws) in
-    let front : Mem 91 (w ++ 59 ∷ []) → ⊥ = λ k. ⊎-elim (f w (inl refl) .1) (not-member 91 (59 ∷ []) refl) (mem-cases 91 w (59 ∷ []) k) in
-    let behind : Mem 91 rest → ⊥ = λ k. ⊎-elim (λ e. omega arith) (lines-plain ws (λ v q. f v (inr q))) k in
-    ⊎-elim (not-member 91 (bytes "TREE t = ") refl) (λ k. ⊎-elim front behind (mem-cases 91 (w ++ 59 ∷ []) rest k))
-    (mem-cases 91 (bytes "TREE t = ") ((w ++ 59 ∷ []) ++ rest) m)
+lines-plain : (ws : List (List ℕ)) → AllPlain ws → Leads 91 false (treeLines (map withEnd ws)) false
+unfolding treeLines bytes every member
+lines-plain [] f = lacks-leads 91 refl (bytes "END;\n") refl
+lines-plain (w ∷ ws) f =
+    leads-append 91 (lacks-leads 91 refl (bytes "TREE t = ") refl)
+    (leads-append 91 (leads-append 91 (f w (inl refl) .1) (lacks-leads 91 refl (59 ∷ []) refl))
+    (leads-append 91 (lacks-leads 91 refl (10 ∷ []) refl) (lines-plain ws (λ v m. f v (inr m)))))
 
 -- what a file around the texts ws gives
 abbrev pub behindBlank : List (List ℕ) → File
@@ -102,18 +93,17 @@ module _ (ws : List (List ℕ)) (all : AllPlain ws) where
       (is-begin {w = bytes "BEGIN"} (are-two {r = bytes " TREES"} {e = []} (is-first (bytes "\n") refl refl refl refl) (is-first (bytes " ") refl refl refl refl) refl) refl)
       refl no-list (lines-are ws) end-is
 
-  around-parts : parts 59 rest ≡ (bytes "\nBEGIN TREES" ∷ (map command ws ++ (bytes "\nEND" ∷ []))) ++ ((10 ∷ []) ∷ [])
-  unfolding bytes member
+  around-parts : parts 59 false rest ≡ (bytes "\nBEGIN TREES" ∷ (map command ws ++ (bytes "\nEND" ∷ []))) ++ ((10 ∷ []) ∷ [])
+  unfolding bytes every member
   around-parts =
-      parts-cut (bytes "\nBEGIN TREES") (10 ∷ treeLines (map withEnd ws)) (not-member 59 (bytes "\nBEGIN TREES") refl)
+      leads-cut (lacks-leads 59 refl (bytes "\nBEGIN TREES") refl) (10 ∷ treeLines (map withEnd ws))
       ∙ ap (λ (y : List (List ℕ)). bytes "\nBEGIN TREES" ∷ y) (lines-parts ws all ∙ sym (append-assoc (map command ws) (bytes "\nEND" ∷ []) ((10 ∷ []) ∷ [])))
 
-  around-first : First (uncommented (fileAround (map withEnd ws))) (bytes "#NEXUS") rest
+  around-first : First (uncommented false (fileAround (map withEnd ws))) (bytes "#NEXUS") rest
   unfolding fileAround bytes every isBlank isLabelByte isToken begins member
   around-first =
       subst (λ (s : List ℕ). First s (bytes "#NEXUS") rest)
-      (sym (uncommented-plain (bytes "#NEXUS" ++ rest) (λ m. ⊎-elim (not-member 91 (bytes "#NEXUS\nBEGIN TREES;\n") refl) (lines-plain ws all) (mem-cases 91 (bytes "#NEXUS\nBEGIN TREES;\n") (treeLines (map withEnd ws)) m))))
-      (is-first [] refl refl refl refl)
+      (sym (leads-uncommented (leads-append 91 (lacks-leads 91 refl (bytes "#NEXUS\nBEGIN TREES;\n") refl) (lines-plain ws all)))) (is-first [] refl refl refl refl)
 
   pub around-file : IsNexus (fileAround (map withEnd ws)) (behindBlank ws)
   unfolding bytes every isBlank isWord sameBytes capital member
@@ -127,17 +117,17 @@ shown-none free [] = refl
 shown-none true (b ∷ w) = refl
 shown-none false (b ∷ w) = refl
 
-after-none : (free : Bool) (w s : List ℕ) → replacedAfter [] free w s ≡ w ++ s
+after-none : (q free : Bool) (w s : List ℕ) → replacedAfter [] q free w s ≡ w ++ s
 unfolding replacedAfter
-after-none free w [] = shown-none free w ∙ sym (append-nil w)
-after-none free w (b ∷ s) =
-    by-test (λ (r : List ℕ). r ≡ w ++ (b ∷ s)) (isLabelByte b) (λ e. after-none free (w ++ b ∷ []) s ∙ append-assoc w (b ∷ []) s)
-    (λ e. ap₂ (λ (u v : List ℕ). u ++ (b ∷ v)) (shown-none free w) (after-none (freeBehind free w b) [] s))
+after-none q free w [] = shown-none free w ∙ sym (append-nil w)
+after-none q free w (b ∷ s) =
+    by-elim (λ (r : List ℕ). r ≡ w ++ (b ∷ s)) (not q && isLabelByte b) (λ e. after-none q free (w ++ b ∷ []) s ∙ append-assoc w (b ∷ []) s)
+    (λ e. ap₂ (λ (u v : List ℕ). u ++ (b ∷ v)) (shown-none free w) (after-none (turned q b) (freeBehind free w b) [] s))
 
 pub replaced-none : (ts : List (List ℕ)) → map (replaced []) ts ≡ ts
 unfolding replaced
 replaced-none [] = refl
-replaced-none (t ∷ ts) = ap₂ (λ (u : List ℕ) (us : List (List ℕ)). u ∷ us) (after-none true [] t) (replaced-none ts)
+replaced-none (t ∷ ts) = ap₂ (λ (u : List ℕ) (us : List (List ℕ)). u ∷ us) (after-none false true [] t) (replaced-none ts)
 
 pub around-plain : (ws : List (List ℕ)) → plainTexts (behindBlank ws) ≡ map (λ w. 32 ∷ w) ws
 unfolding plainTexts

@@ -15,8 +15,8 @@ use mathlib.Core.Option.{Option, none, some}
 use lib.ListN.{length, length-append}
 use borrow.Author.Tests.{le-leb}
 use Rattle.trees.specs.Plain.{if_then_else_, every, sameBytes, bytes}
-use Rattle.trees.specs.Text.{semicolon, isBlank}
-use Rattle.trees.specs.Nexus.{uncommented, parts, isWord, First, Pair, File, Begins, is-begin, EndsOther, NoneEnds, none-ends, not-yet, IsOthers, no-other, other, IsPairs, mostKeys, MayTranslate, no-list, a-list, IsLine, is-line, IsLines, no-line, a-line, IsEnd, IsNexus}
+use Rattle.trees.specs.Text.{semicolon, isBlank, parts}
+use Rattle.trees.specs.Nexus.{uncommented, isWord, First, Pair, File, Begins, is-begin, EndsOther, NoneEnds, none-ends, not-yet, IsOthers, no-other, other, IsPairs, mostKeys, MayTranslate, no-list, a-list, IsLine, is-line, IsLines, no-line, a-line, IsEnd, IsNexus}
 use Rattle.trees.specs.NexusReading.{firstToken, behindFirst, readPairs, isEnd, Place, outside, inOther, inTrees, Move, wrong, to, lists, brings, blockBegun, listed, lineGiven, moved, withPairs, withText, closes, readsOn, reads, readFile}
 use Rattle.theorems.specs.ListLaws.{if-true, if-false, by-test}
 use Rattle.theorems.specs.TokenLaws.{word-other, first-found, two-complete}
@@ -100,13 +100,13 @@ lined-read (is-lined ls e ds q l i d) fresh = ap (reads (inTrees fresh)) q ∙ l
 lined-some : {cs ts : List (List ℕ)} → Lined cs ts → 1 ≤ length cs
 lined-some (is-lined ls e ds q l i d) = omega (arith, ap length q, some-more ls e ds)
 
-list-moves : {c w r : List ℕ} {ps : List Pair} → First c w r → isWord "TRANSLATE" w ≡ true → IsPairs (parts 44 r) ps → length ps ≤ mostKeys → moved (inTrees true) c ≡ lists ps
+list-moves : {c w r : List ℕ} {ps : List Pair} → First c w r → isWord "TRANSLATE" w ≡ true → IsPairs (parts 44 false r) ps → length ps ≤ mostKeys → moved (inTrees true) c ≡ lists ps
 unfolding moved listed bytes sameBytes
 list-moves {c} {w} {r} {ps} f e i h =
     let g = first-found f in
     let word : isWord "TRANSLATE" (firstToken c) ≡ true = ap (isWord "TRANSLATE") (g .token-found) ∙ e in
     if-false _ _ (not-end c (word-other "TRANSLATE" (firstToken c) word "END" refl))
-    ∙ if-true _ _ word ∙ ap listed (ap (λ (y : List ℕ). readPairs (parts 44 y)) (g .rest-found) ∙ pairs-complete i) ∙ if-true _ _ (le-leb (length ps) mostKeys h)
+    ∙ if-true _ _ word ∙ ap listed (ap (λ (y : List ℕ). readPairs (parts 44 false y)) (g .rest-found) ∙ pairs-complete i) ∙ if-true _ _ (le-leb (length ps) mostKeys h)
 
 listing-read : {ls ds ts : List (List ℕ)} {ps : List Pair} → MayTranslate ls ps → Lined ds ts → reads (inTrees true) (ls ++ ds) ≡ some (record { pairs = ps; texts = ts })
 unfolding readsOn withPairs
@@ -130,10 +130,10 @@ FileOk f (some x) = IsNexus f x
 file-sound : (f : List ℕ) → FileOk f (readFile f)
 unfolding readFile
 file-sound f =
-    let cs = parts semicolon (behindFirst (uncommented f)) in
-    by-test (FileOk f) (isWord "#NEXUS" (firstToken (uncommented f))) (λ e. go e (reads (outside false) cs) (left-sound (outside false) cs)) (λ e. tt)
+    let cs = parts semicolon false (behindFirst (uncommented false f)) in
+    by-test (FileOk f) (isWord "#NEXUS" (firstToken (uncommented false f))) (λ e. go e (reads (outside false) cs) (left-sound (outside false) cs)) (λ e. tt)
   where
-    go : isWord "#NEXUS" (firstToken (uncommented f)) ≡ true → (o : Option File) → LeftOk (outside false) (parts semicolon (behindFirst (uncommented f))) o → FileOk f o
+    go : isWord "#NEXUS" (firstToken (uncommented false f)) ≡ true → (o : Option File) → LeftOk (outside false) (parts semicolon false (behindFirst (uncommented false f))) o → FileOk f o
     go e none l = tt
     go e (some x) l = began-file e l
 

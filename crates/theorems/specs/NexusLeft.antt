@@ -15,8 +15,8 @@ use mathlib.Core.Path.{_≡_, refl, ap, sym, _∙_}
 use mathlib.Core.Bool.{Bool, true, false}
 use mathlib.Core.List.{List, [], _∷_, _++_, append-assoc}
 use Rattle.trees.specs.Plain.{every, bytes}
-use Rattle.trees.specs.Text.{semicolon, isBlank}
-use Rattle.trees.specs.Nexus.{uncommented, parts, isWord, File, Begins, EndsOther, NoneEnds, IsOthers, MayTranslate, IsLines, IsEnd, IsTrees, is-trees, IsNexus, is-nexus}
+use Rattle.trees.specs.Text.{semicolon, isBlank, parts}
+use Rattle.trees.specs.Nexus.{uncommented, isWord, File, Begins, EndsOther, NoneEnds, IsOthers, MayTranslate, IsLines, IsEnd, IsTrees, is-trees, IsNexus, is-nexus}
 use Rattle.trees.specs.NexusReading.{firstToken, behindFirst, Place, outside, inOther, inTrees}
 use Rattle.theorems.specs.TokenLaws.{word-some, first-stands, first-found}
 
@@ -74,15 +74,15 @@ file-trees {os = os} {ds = ds} p o (is-trees c w ls ts e q b word m l i) d =
     is-began os c w (ls ++ (ts ++ (e ∷ ds))) (p ∙ ap (λ (y : List (List ℕ)). os ++ (y ++ ds)) q ∙ joined os ls ts c e ds) o b word
     (is-listed ls (ts ++ (e ∷ ds)) refl m (is-lined ts e ds refl l i d))
 
-pub file-began : {f : List ℕ} {x : File} → IsNexus f x → (isWord "#NEXUS" (firstToken (uncommented f)) ≡ true) × Began (parts semicolon (behindFirst (uncommented f))) x
+pub file-began : {f : List ℕ} {x : File} → IsNexus f x → (isWord "#NEXUS" (firstToken (uncommented false f)) ≡ true) × Began (parts semicolon false (behindFirst (uncommented false f))) x
 file-began (is-nexus os bs us e first word p o t u blank) =
     let g = first-found first in
-    (ap (isWord "#NEXUS") (g .token-found) ∙ word, file-trees (ap (parts semicolon) (g .rest-found) ∙ p) o t (is-ended us e refl u blank))
+    (ap (isWord "#NEXUS") (g .token-found) ∙ word, file-trees (ap (parts semicolon false) (g .rest-found) ∙ p) o t (is-ended us e refl u blank))
 
-pub began-file : {f : List ℕ} {x : File} → isWord "#NEXUS" (firstToken (uncommented f)) ≡ true → Began (parts semicolon (behindFirst (uncommented f))) x → IsNexus f x
+pub began-file : {f : List ℕ} {x : File} → isWord "#NEXUS" (firstToken (uncommented false f)) ≡ true → Began (parts semicolon false (behindFirst (uncommented false f))) x → IsNexus f x
 unfolding bytes
 began-file {f} word (is-began os c w ds p o b trees (is-listed ls rs q m (is-lined ts e us r l i (is-ended vs d s others blank)))) =
-    is-nexus os (c ∷ (ls ++ (ts ++ (e ∷ [])))) vs d (first-stands (uncommented f) (word-some "#NEXUS" (firstToken (uncommented f)) word (omega arith))) word
+    is-nexus os (c ∷ (ls ++ (ts ++ (e ∷ [])))) vs d (first-stands (uncommented false f) (word-some "#NEXUS" (firstToken (uncommented false f)) word (omega arith))) word
     (p
     ∙ ap (λ (y : List (List ℕ)). os ++ (c ∷ y)) (q ∙ ap (λ (y : List (List ℕ)). ls ++ y) (r ∙ ap (λ (y : List (List ℕ)). ts ++ (e ∷ y)) s))
     ∙ sym (joined os ls ts c e (vs ++ (d ∷ []))))

@@ -14,8 +14,8 @@ use lib.Dec.{leb}
 use lib.ListN.{length}
 use borrow.Author.Tests.{leb-true}
 use Rattle.trees.specs.Plain.{if_then_else_, every, bytes}
-use Rattle.trees.specs.Text.{isBlank}
-use Rattle.trees.specs.Nexus.{parts, isWord, Pair, File, Begins, is-begin, EndsOther, NoneEnds, none-ends, not-yet, no-other, other, mostKeys, MayTranslate, no-list, a-list, IsLine, IsLines, no-line, a-line}
+use Rattle.trees.specs.Text.{isBlank, parts}
+use Rattle.trees.specs.Nexus.{isWord, Pair, File, Begins, is-begin, EndsOther, NoneEnds, none-ends, not-yet, no-other, other, mostKeys, MayTranslate, no-list, a-list, IsLine, IsLines, no-line, a-line}
 use Rattle.trees.specs.NexusReading.{firstToken, behindFirst, twoTokens, endsOther, readPairs, readLine, isEnd, Place, outside, inOther, inTrees, Move, wrong, to, blockBegun, listed, lineGiven, moved, withPairs, withText, closes, readsOn, reads}
 use Rattle.theorems.specs.ListLaws.{by-test}
 use Rattle.theorems.specs.TokenLaws.{word-some, first-stands, TwoOk, two-sound}
@@ -111,7 +111,7 @@ module _ (c : List ℕ) (ds : List (List ℕ)) (on : Place → Option File) (res
       go none l = tt
       go (some x) l = lined-left fresh (record { pairs = x .pairs; texts = t ∷ x .texts }) (text-lined i (l .0)) (l .1)
 
-  pairs-step : (o : Option (List Pair)) → isWord "TRANSLATE" (firstToken c) ≡ true → PairsOk (parts 44 (behindFirst c)) o → LeftOk (inTrees true) (c ∷ ds) (readsOn (listed o) on)
+  pairs-step : (o : Option (List Pair)) → isWord "TRANSLATE" (firstToken c) ≡ true → PairsOk (parts 44 false (behindFirst c)) o → LeftOk (inTrees true) (c ∷ ds) (readsOn (listed o) on)
   unfolding listed readsOn withPairs bytes
   pairs-step none e i = tt
   pairs-step (some ps) e i =
@@ -125,8 +125,8 @@ module _ (c : List ℕ) (ds : List (List ℕ)) (on : Place → Option File) (res
           (a-list (first-stands c (word-some "TRANSLATE" (firstToken c) e (omega arith))) e i (leb-true (length ps) mostKeys f)))
           (l .0)
 
-  lists-step : (fresh : Bool) → (fresh && isWord "TRANSLATE" (firstToken c)) ≡ true → LeftOk (inTrees fresh) (c ∷ ds) (readsOn (listed (readPairs (parts 44 (behindFirst c)))) on)
-  lists-step true e = pairs-step (readPairs (parts 44 (behindFirst c))) e (pairs-sound (parts 44 (behindFirst c)))
+  lists-step : (fresh : Bool) → (fresh && isWord "TRANSLATE" (firstToken c)) ≡ true → LeftOk (inTrees fresh) (c ∷ ds) (readsOn (listed (readPairs (parts 44 false (behindFirst c)))) on)
+  lists-step true e = pairs-step (readPairs (parts 44 false (behindFirst c))) e (pairs-sound (parts 44 false (behindFirst c)))
   lists-step false e = absurd (true≢false (sym e))
 
   trees-step : (fresh : Bool) → LeftOk (inTrees fresh) (c ∷ ds) (readsOn (moved (inTrees fresh) c) on)

@@ -1,150 +1,180 @@
--- The plain texts of a NEXUS file have no semicolon. Assumes nothing.
+-- In the plain texts of a NEXUS file no text ends, and no quotes are open behind them. Assumes nothing.
 --
---   is-unended           bytes among which there is no semicolon pass the test for that
---   parts-unended        what stands between semicolons has none
---   pairs-unended        a name of a TRANSLATE list has none, as it is a token
---   lines-unended        the text of a tree's line has none if the line has none
---   replaced-unended     keys replaced by such names bring none
---   plain-unended        so no plain text of a file has one
+--   Unended w, AllUnended ws     no text ends in the bytes w, and no quotes are open behind them; so it is with all of ws
+--   Parted q cs          so it is with the parts cs but the last; q: whether quotes are open before the first
+--   parts-parted         what stands between semicolons is so parted
+--   pairs-unended        a name of a TRANSLATE list is unended, as it is a label
+--   lines-unended        so is the text of a tree's line, if the line is
+--   replaced-unended     it stays so with keys replaced by such names
+--   plain-unended        so every plain text of a file is
 use Prim.Native.Nat.{ℕ}
-use mathlib.Core.Path.{_≡_, refl, ap, sym, _∙_, subst}
-use mathlib.Core.Logic.{inl, inr, ⊎-elim}
-use mathlib.Core.Bool.{Bool, true, false, not, true≢false}
+use mathlib.Core.Path.{_≡_, refl, sym, subst}
+use mathlib.Core.Logic.{inl, inr}
+use mathlib.Core.Bool.{Bool, true, false, _&&_, not}
 use mathlib.Core.List.{List, [], _∷_, _++_, map}
-use mathlib.Core.Option.{some}
 use lib.Dec.{eqb}
-use borrow.Author.Tests.{eqb-false, not-true}
-use Rattle.trees.specs.Plain.{every, member, bytes, sameBytes}
-use Rattle.trees.specs.Text.{isLabelByte}
-use Rattle.trees.specs.Nexus.{withByte, parts, First, is-first, Two, are-two, Pair, File, IsPairs, no-pair, a-pair, MayTranslate, no-list, a-list, IsLine, is-line, IsLines, no-line, a-line, IsTrees, is-trees, IsNexus, is-nexus}
-use Rattle.trees.specs.NexusReading.{readFile}
+use Rattle.trees.specs.Plain.{every, member, sameBytes}
+use Rattle.trees.specs.Text.{semicolon, apostrophe, isBlank, isLabelByte, turned, endsText, withByte, parts}
+use Rattle.trees.specs.Nexus.{First, is-first, is-named, Pair, File, IsPairs, no-pair, a-pair, MayTranslate, no-list, a-list, isNameByte, IsLine, is-line, IsLines, no-line, a-line, IsNexus}
 use Rattle.trees.specs.NexusCall.{nameOf, shown, freeBehind, replacedAfter, replaced, plainTexts}
-use Rattle.theorems.specs.ListLaws.{by-test, and-left, and-right, and-true, Mem, mem-left, mem-right, mem-cases, member-not, not-member, every-at, every-intro}
-use Rattle.theorems.specs.PieceLaws.{unended}
+use Rattle.theorems.specs.ListLaws.{by-test, by-elim, Mem}
+use Rattle.theorems.specs.QuoteLaws.{other-turned, end-closed, end-turned}
+use Rattle.theorems.specs.OutsideLaws.{Leads, leads-none, leads-more, other-byte, leads-append, leads-behind, label-leads}
 use Rattle.theorems.specs.TokenLaws.{token-label}
-use Rattle.theorems.specs.NexusLaws.{read-exactly}
+use Rattle.theorems.specs.NexusLeft.{Lined, is-lined, Listed, is-listed, Began, is-began, file-began}
 
--- no semicolon, as a type
-abbrev Unended : List ℕ → Type 0
-Unended w = Mem 59 w → ⊥
+abbrev pub Unended : List ℕ → Type 0
+Unended w = Leads semicolon false w false
 
-pub is-unended : (w : List ℕ) → Unended w → unended w ≡ true
-is-unended w f = ap not (member-not 59 w f)
-
-unended-is : (w : List ℕ) → unended w ≡ true → Unended w
-unended-is w e = not-member 59 w (not-true (member 59 w) e)
+abbrev pub AllUnended : List (List ℕ) → Type 0
+AllUnended ws = (w : List ℕ) → Mem w ws → Unended w
 
 -- ---- between semicolons
 
-with-unended : (b : ℕ) (cs : List (List ℕ)) → eqb b 59 ≡ false → every unended cs ≡ true → every unended (withByte b cs) ≡ true
-unfolding withByte every
-with-unended b [] f e = refl
-with-unended b (c ∷ cs) f e =
-    and-true (is-unended (b ∷ c) (λ m. ⊎-elim (λ q. eqb-false b 59 f (sym q)) (unended-is c (and-left (unended c) (every unended cs) e)) m)) (and-right (unended c) (every unended cs) e)
+abbrev Parted : Bool → List (List ℕ) → Type 0
+Parted q [] = Unit {0}
+Parted q (c ∷ []) = Unit {0}
+Parted q (c ∷ d ∷ cs) = Leads semicolon q c false × Parted false (d ∷ cs)
 
-pub parts-unended : (s : List ℕ) → every unended (parts 59 s) ≡ true
-unfolding parts every member
-parts-unended [] = refl
-parts-unended (b ∷ s) = by-test (λ (cs : List (List ℕ)). every unended cs ≡ true) (eqb b 59) (λ e. parts-unended s) (λ e. with-unended b (parts 59 s) e (parts-unended s))
+none-parted : (cs : List (List ℕ)) → Parted false cs → Parted false ([] ∷ cs)
+none-parted [] p = tt
+none-parted (c ∷ cs) p = (leads-none, p)
+
+with-parted : (q : Bool) (b : ℕ) (cs : List (List ℕ)) → (not q && eqb b semicolon) ≡ false → Parted (turned q b) cs → Parted q (withByte b cs)
+unfolding withByte
+with-parted q b [] e p = tt
+with-parted q b (c ∷ []) e p = tt
+with-parted q b (c ∷ d ∷ cs) e p = (leads-more e (p .0), p .1)
+
+parts-parted : (q : Bool) (s : List ℕ) → Parted q (parts semicolon q s)
+unfolding parts endsText
+parts-parted q [] = tt
+parts-parted q (b ∷ s) =
+    let r = parts semicolon (turned q b) s in
+    by-test (Parted q) (not q && eqb b semicolon)
+    (λ e. subst (λ (t : Bool). Parted t ([] ∷ r)) (sym (end-closed q b e)) (none-parted r (subst (λ (t : Bool). Parted t r) (end-turned q b e) (parts-parted (turned q b) s))))
+    (λ e. with-parted q b r e (parts-parted (turned q b) s))
+
+parted-behind : (xs ys : List (List ℕ)) → Parted false (xs ++ ys) → Parted false ys
+parted-behind [] ys p = p
+parted-behind (x ∷ []) [] p = tt
+parted-behind (x ∷ []) (y ∷ ys) p = p .1
+parted-behind (x ∷ z ∷ xs) ys p = parted-behind (z ∷ xs) ys (p .1)
+
+parted-front : (xs : List (List ℕ)) (y : List ℕ) (ys : List (List ℕ)) → Parted false (xs ++ (y ∷ ys)) → AllUnended xs
+parted-front [] y ys p c m = absurd m
+parted-front (x ∷ []) y ys p c (inl e) = subst Unended (sym e) (p .0)
+parted-front (x ∷ []) y ys p c (inr m) = absurd m
+parted-front (x ∷ z ∷ xs) y ys p c (inl e) = subst Unended (sym e) (p .0)
+parted-front (x ∷ z ∷ xs) y ys p c (inr m) = parted-front (z ∷ xs) y ys (p .1) c m
 
 -- ---- names
 
-label-unended : (w : List ℕ) → every isLabelByte w ≡ true → Unended w
-unfolding isLabelByte member bytes
-label-unended w e m = true≢false (sym (every-at isLabelByte w e 59 m))
+abbrev NamesUnended : List Pair → Type 0
+NamesUnended ps = (p : Pair) → Mem p ps → Unended (p .1)
 
-abbrev named : Pair → Bool
-named p = unended (p .1)
+pub pairs-unended : {rs : List (List ℕ)} {ps : List Pair} → IsPairs rs ps → NamesUnended ps
+unfolding isLabelByte member
+pairs-unended no-pair p m = absurd m
+pairs-unended (a-pair {n = n} f (is-named a e q blank label blanks) i) p (inl d) = subst (λ (r : Pair). Unended (r .1)) (sym d) (label-leads semicolon refl refl n label)
+pairs-unended (a-pair f g i) p (inr m) = pairs-unended i p m
 
-first-unended : {s w r : List ℕ} → First s w r → unended w ≡ true
-first-unended {w = w} (is-first a e blank tok stop) = is-unended w (label-unended w (token-label w tok))
-
-two-unended : {s k n : List ℕ} → Two s k n → unended n ≡ true
-two-unended (are-two f g blank) = first-unended g
-
-pub pairs-unended : {rs : List (List ℕ)} {ps : List Pair} → IsPairs rs ps → every named ps ≡ true
-unfolding every
-pairs-unended no-pair = refl
-pairs-unended (a-pair t q) = and-true (two-unended t) (pairs-unended q)
-
-list-unended : {cs : List (List ℕ)} {ps : List Pair} → MayTranslate cs ps → every named ps ≡ true
-unfolding every
-list-unended no-list = refl
-list-unended (a-list f e i h) = pairs-unended i
+list-unended : {cs : List (List ℕ)} {ps : List Pair} → MayTranslate cs ps → NamesUnended ps
+list-unended no-list p m = absurd m
+list-unended (a-list f e i h) p m = pairs-unended i p m
 
 -- ---- lines
 
-behind-unended : (a c t : List ℕ) → c ≡ a ++ t → Unended c → Unended t
-behind-unended a c t e f m = f (subst (Mem 59) (sym e) (mem-right 59 a t m))
+behind-blanks : (a w : List ℕ) → every isBlank a ≡ true → Unended (a ++ w) → Unended w
+unfolding isBlank member
+behind-blanks a w e l = leads-behind semicolon isBlank refl refl a w e l
+
+behind-labels : (a w : List ℕ) → every isLabelByte a ≡ true → Unended (a ++ w) → Unended w
+unfolding isLabelByte member
+behind-labels a w e l = leads-behind semicolon isLabelByte refl refl a w e l
+
+behind-name : (a w : List ℕ) → every isNameByte a ≡ true → Unended (a ++ w) → Unended w
+unfolding isNameByte isLabelByte member
+behind-name a w e l = leads-behind semicolon isNameByte refl refl a w e l
+
+behind-equals : (t : List ℕ) → Unended (61 ∷ t) → Unended t
+unfolding turned
+behind-equals t (leads-more e l) = l
 
 first-behind : {s w r : List ℕ} → First s w r → Unended s → Unended r
-first-behind {s} {w} {r} (is-first a e blank tok stop) f = behind-unended w (w ++ r) r refl (behind-unended a s (w ++ r) e f)
+first-behind {s} {w} {r} (is-first a e blank tok stop) l = behind-labels w r (token-label w tok) (behind-blanks a (w ++ r) blank (subst Unended e l))
 
 line-unended : {c t : List ℕ} → IsLine c t → Unended c → Unended t
-line-unended {t = t} (is-line {r = r} a n e f word q blank h name blanks) g =
-    let x = behind-unended a r (n ++ (e ++ (61 ∷ t))) q (first-behind f g) in
-    let y = behind-unended n (n ++ (e ++ (61 ∷ t))) (e ++ (61 ∷ t)) refl x in
-    behind-unended (61 ∷ []) (61 ∷ t) t refl (behind-unended e (e ++ (61 ∷ t)) (61 ∷ t) refl y)
+line-unended {t = t} (is-line a n e f word q blank h name blanks) l =
+    let x = behind-blanks a (n ++ (e ++ (61 ∷ t))) blank (subst Unended q (first-behind f l)) in
+    behind-equals t (behind-blanks e (61 ∷ t) blanks (behind-name n (e ++ (61 ∷ t)) name x))
 
-pub lines-unended : {cs ts : List (List ℕ)} → IsLines cs ts → every unended cs ≡ true → every unended ts ≡ true
-unfolding every
-lines-unended no-line e = refl
-lines-unended (a-line {c = c} {t = t} {cs = cs} i l) e =
-    and-true (is-unended t (line-unended i (unended-is c (and-left (unended c) (every unended cs) e)))) (lines-unended l (and-right (unended c) (every unended cs) e))
+pub lines-unended : {cs ts : List (List ℕ)} → IsLines cs ts → AllUnended cs → AllUnended ts
+lines-unended no-line all t m = absurd m
+lines-unended (a-line {c = c} i l) all t (inl e) = subst Unended (sym e) (line-unended i (all c (inl refl)))
+lines-unended (a-line i l) all t (inr m) = lines-unended l (λ d k. all d (inr k)) t m
 
 -- ---- keys replaced
 
-module _ (ps : List Pair) (names : every named ps ≡ true) where
-  name-unended : (qs : List Pair) → every named qs ≡ true → (w : List ℕ) → Unended w → Unended (nameOf qs w)
-  unfolding nameOf every
-  name-unended [] e w f = f
-  name-unended (p ∷ qs) e w f =
-      by-test Unended (sameBytes (p .0) w) (λ d. unended-is (p .1) (and-left (named p) (every named qs) e)) (λ d. name-unended qs (and-right (named p) (every named qs) e) w f)
+label-turned : (b : ℕ) → isLabelByte b ≡ true → turned false b ≡ false
+unfolding isLabelByte member
+label-turned b e = other-turned false b (other-byte isLabelByte b apostrophe e refl)
+
+byte-unended : (b : ℕ) → isLabelByte b ≡ true → (not false && eqb b semicolon) ≡ false → Unended (b ∷ [])
+byte-unended b f e = leads-more e (subst (λ (t : Bool). Leads semicolon t [] false) (sym (label-turned b f)) leads-none)
+
+-- a run that has not ended: in quotes there is none
+abbrev Run : Bool → List ℕ → Type 0
+Run true w = w ≡ []
+Run false w = Unended w
+
+module _ (ps : List Pair) (names : NamesUnended ps) where
+  name-unended : (qs : List Pair) → NamesUnended qs → (w : List ℕ) → Unended w → Unended (nameOf qs w)
+  unfolding nameOf
+  name-unended [] all w l = l
+  name-unended (p ∷ qs) all w l = by-test Unended (sameBytes (p .0) w) (λ d. all p (inl refl)) (λ d. name-unended qs (λ r m. all r (inr m)) w l)
 
   shown-unended : (free : Bool) (w : List ℕ) → Unended w → Unended (shown ps free w)
   unfolding shown
-  shown-unended free [] f = f
-  shown-unended true (b ∷ w) f = name-unended ps names (b ∷ w) f
-  shown-unended false (b ∷ w) f = f
+  shown-unended free [] l = l
+  shown-unended true (b ∷ w) l = name-unended ps names (b ∷ w) l
+  shown-unended false (b ∷ w) l = l
 
-  append-unended : (v w : List ℕ) → Unended v → Unended w → Unended (v ++ w)
-  append-unended v w f g m = ⊎-elim f g (mem-cases 59 v w m)
+  run-leads : (q free : Bool) (w : List ℕ) → Run q w → Leads semicolon q (shown ps free w) q
+  unfolding shown
+  run-leads true free w e = subst (λ (v : List ℕ). Leads semicolon true (shown ps free v) true) (sym e) leads-none
+  run-leads false free w l = shown-unended free w l
 
-  after-unended : (free : Bool) (w s : List ℕ) → Unended w → Unended s → Unended (replacedAfter ps free w s)
+  no-run : (q : Bool) → Run q []
+  no-run true = refl
+  no-run false = leads-none
+
+  after-unended : (q free : Bool) (w s : List ℕ) → Run q w → Leads semicolon q s false → Leads semicolon q (replacedAfter ps q free w s) false
   unfolding replacedAfter
-  after-unended free w [] f g = shown-unended free w f
-  after-unended free w (b ∷ s) f g =
-      let one : Unended (b ∷ []) = λ m. ⊎-elim (λ q. g (inl q)) (λ q. q) m in
-      let rest : Unended s = λ m. g (inr m) in
-      by-test Unended (isLabelByte b)
-      (λ e. after-unended free (w ++ b ∷ []) s (append-unended w (b ∷ []) f one) rest)
-      (λ e. append-unended (shown ps free w) (b ∷ replacedAfter ps (freeBehind free w b) [] s) (shown-unended free w f)
-      (append-unended (b ∷ []) (replacedAfter ps (freeBehind free w b) [] s) one (after-unended (freeBehind free w b) [] s (λ m. m) rest)))
+  after-unended q free w [] r leads-none = run-leads q free w r
+  after-unended true free w (b ∷ s) r (leads-more e l) =
+      leads-append semicolon (run-leads true free w r) (leads-more e (after-unended (turned true b) (freeBehind free w b) [] s (no-run (turned true b)) l))
+  after-unended false free w (b ∷ s) r (leads-more e l) =
+      by-elim Unended (isLabelByte b)
+      (λ f. after-unended false free (w ++ b ∷ []) s (leads-append semicolon r (byte-unended b f e)) (subst (λ (t : Bool). Leads semicolon t s false) (label-turned b f) l))
+      (λ f. leads-append semicolon (run-leads false free w r) (leads-more e (after-unended (turned false b) (freeBehind free w b) [] s (no-run (turned false b)) l)))
 
-  pub replaced-unended : (ts : List (List ℕ)) → every unended ts ≡ true → every unended (map (replaced ps) ts) ≡ true
-  unfolding replaced every
-  replaced-unended [] e = refl
-  replaced-unended (t ∷ ts) e =
-      and-true (is-unended (replaced ps t) (after-unended true [] t (λ m. m) (unended-is t (and-left (unended t) (every unended ts) e)))) (replaced-unended ts (and-right (unended t) (every unended ts) e))
+  pub replaced-unended : (ts : List (List ℕ)) → AllUnended ts → AllUnended (map (replaced ps) ts)
+  unfolding replaced
+  replaced-unended (t ∷ ts) all w (inl e) = subst Unended (sym e) (after-unended false true [] t leads-none (all t (inl refl)))
+  replaced-unended (t ∷ ts) all w (inr m) = replaced-unended ts (λ v k. all v (inr k)) w m
 
 -- ---- a file
 
-every-right : (a b : List (List ℕ)) → every unended (a ++ b) ≡ true → every unended b ≡ true
-every-right a b e = every-intro unended b (λ t m. every-at unended (a ++ b) e t (mem-right t a b m))
+lined-unended : {cs ts : List (List ℕ)} → Lined cs ts → Parted false cs → AllUnended ts
+lined-unended (is-lined ls e ds q l i d) p = lines-unended l (parted-front ls e ds (subst (Parted false) q p))
 
-every-left : (a b : List (List ℕ)) → every unended (a ++ b) ≡ true → every unended a ≡ true
-every-left a b e = every-intro unended a (λ t m. every-at unended (a ++ b) e t (mem-left t a b m))
-
-trees-unended : {ds : List (List ℕ)} {x : File} → IsTrees ds x → every unended ds ≡ true → every unended (plainTexts x) ≡ true
+listed-unended : {cs : List (List ℕ)} {x : File} → Listed cs x → Parted false cs → AllUnended (plainTexts x)
 unfolding plainTexts
-trees-unended {ds} {x} (is-trees c w ls cs e q b word m l i) u =
-    let rest : every unended (ls ++ (cs ++ (e ∷ []))) ≡ true = every-right (c ∷ []) (ls ++ (cs ++ (e ∷ []))) (ap (every unended) (sym q) ∙ u) in
-    replaced-unended (x .pairs) (list-unended m) (x .texts) (lines-unended l (every-left cs (e ∷ []) (every-right ls (cs ++ (e ∷ [])) rest)))
+listed-unended {x = x} (is-listed ls ds q m l) p = replaced-unended (x .pairs) (list-unended m) (x .texts) (lined-unended l (parted-behind ls ds (subst (Parted false) q p)))
 
-file-unended : {f : List ℕ} {x : File} → IsNexus f x → every unended (plainTexts x) ≡ true
-file-unended (is-nexus {r = r} os bs us e first word p o t u blank) =
-    let all : every unended (os ++ (bs ++ (us ++ (e ∷ [])))) ≡ true = ap (every unended) (sym p) ∙ parts-unended r in
-    trees-unended t (every-left bs (us ++ (e ∷ [])) (every-right os (bs ++ (us ++ (e ∷ []))) all))
+began-unended : {cs : List (List ℕ)} {x : File} → Began cs x → Parted false cs → AllUnended (plainTexts x)
+began-unended (is-began os c w ds q o b word l) p = listed-unended l (parted-behind (c ∷ []) ds (parted-behind os (c ∷ ds) (subst (Parted false) q p)))
 
-pub plain-unended : (f : List ℕ) (x : File) → readFile f ≡ some x → every unended (plainTexts x) ≡ true
-plain-unended f x e = file-unended (read-exactly f x .0 e)
+pub plain-unended : {f : List ℕ} {x : File} → IsNexus f x → AllUnended (plainTexts x)
+plain-unended i = began-unended (file-began i .1) (parts-parted false _)

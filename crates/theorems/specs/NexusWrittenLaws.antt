@@ -5,18 +5,17 @@
 --   written-file               the file around written trees is a NEXUS file
 --   written-file-reads-back    it gives no pairs, and as texts the written trees without their semicolons, behind a blank
 --   written-file-accepted      handed in, each of its trees is accepted with exactly its splits where there is room
---   written-file-fed           as the written trees are, fed one after another to an empty lane
 use Prim.Native.Nat.{ℕ, _≤_}
 use native.Mathlib.Omega.{arith}
 use mathlib.Core.Path.{_≡_, refl, ap, sym, _∙_, subst}
 use mathlib.Core.Logic.{inl, inr}
-use mathlib.Core.Bool.{true}
+use mathlib.Core.Bool.{true, false}
 use mathlib.Core.List.{List, [], _∷_, map}
 use mathlib.Core.Option.{Option, none, some}
 use lib.ListN.{length, length-map}
 use borrow.Author.Tests.{le-ltb}
 use Rattle.trees.specs.Plain.{every, Answer, refused, gives}
-use Rattle.trees.specs.Text.{kind, symbols}
+use Rattle.trees.specs.Text.{kindIn, openAfter, ended, symbols}
 use Rattle.trees.specs.Tree.{Nodes}
 use Rattle.trees.specs.Names.{goodNames, different}
 use Rattle.trees.specs.Verdict.{judgedTree, judged}
@@ -27,23 +26,23 @@ use Rattle.trees.specs.Batch.{verdictNumber, Batched, withVerdict}
 use Rattle.trees.specs.Nexus.{File, IsNexus}
 use Rattle.trees.specs.NexusReading.{readFile}
 use Rattle.trees.specs.NexusCall.{keysOf, onText, handing, handedIn, nexus}
-use Rattle.theorems.specs.ListLaws.{if-false, and-left, and-right, every-intro}
+use Rattle.theorems.specs.ListLaws.{if-false, and-left, and-right}
 use Rattle.theorems.specs.TextLaws.{byKind, symbols-cons}
+use Rattle.theorems.specs.LabelLaws.{end-outside}
+use Rattle.theorems.specs.OutsideLaws.{hides-leads}
 use Rattle.theorems.specs.GrammarLaws.{reading-symbols}
-use Rattle.theorems.specs.WrittenLaws.{written-tree-reads-back, written-no-semicolon, written-no-comment, written-length}
+use Rattle.theorems.specs.WrittenLaws.{written-tree-reads-back, written-closed, written-unended, written-no-comment, written-length}
 use Rattle.theorems.specs.WrittenFedLaws.{written-more}
-use Rattle.theorems.specs.PieceLaws.{unended, text-held}
+use Rattle.theorems.specs.PieceLaws.{text-held}
 use Rattle.theorems.specs.OwnLaneLaws.{recording-opening}
 use Rattle.theorems.specs.NexusLaws.{read-exactly}
-use Rattle.theorems.specs.NexusTextLaws.{is-unended}
-use Rattle.theorems.specs.NexusFedLaws.{EmptyLane, FedAs, handing-as-feeding}
 use Rattle.theorems.specs.NexusFile.{fileAround, accepting}
 use Rattle.theorems.specs.NexusFileLaws.{Plain, AllPlain, withEnd, behindBlank, around-file, around-plain}
 
 -- ---- a blank before a text
 
 blank-symbols : (w : List ℕ) → symbols (32 ∷ w) ≡ symbols w
-unfolding byKind kind
+unfolding byKind kindIn openAfter ended
 blank-symbols w = symbols-cons [] 32 w
 
 pub judged-blank : (ns : List (List ℕ)) (w : List ℕ) → judged ns (32 ∷ w) ≡ judged ns w
@@ -66,11 +65,15 @@ written-texts ns [] = refl
 written-texts ns (s ∷ ss) = ap (λ (ts : List (List ℕ)). withEnd (treeText ns s) ∷ ts) (written-texts ns ss)
 
 module _ (n : ℕ) (ns : List (List ℕ)) (names : goodNames n ns ≡ true) (least : 3 ≤ n) (most : n ≤ 64) where
+  tree-plain : (s : List ℕ) → goodTree n s ≡ true → Plain (treeText ns s)
+  tree-plain s good =
+      let w = treeText ns s in
+      let closed = written-closed n ns s names good (omega arith) in
+      (hides-leads 59 false false w (sym (end-outside false w) ∙ written-unended n ns s names good (omega arith)) closed, hides-leads 91 false false w (written-no-comment n ns s names good (omega arith)) closed)
+
   written-plain : (ss : List (List ℕ)) → every (goodTree n) ss ≡ true → AllPlain (map (treeText ns) ss)
   unfolding every
-  written-plain (s ∷ ss) e w (inl q) =
-      let good = and-left (goodTree n s) (every (goodTree n) ss) e in
-      subst Plain (sym q) (written-no-semicolon n ns s names good (omega arith), written-no-comment n ns s names good (omega arith))
+  written-plain (s ∷ ss) e w (inl q) = subst Plain (sym q) (tree-plain s (and-left (goodTree n s) (every (goodTree n) ss) e))
   written-plain (s ∷ ss) e w (inr m) = written-plain ss (and-right (goodTree n s) (every (goodTree n) ss) e) w m
 
   pub written-file : (ss : List (List ℕ)) → every (goodTree n) ss ≡ true → IsNexus (fileAround (map (written ns) ss)) (behindBlank (map (treeText ns) ss))
@@ -83,30 +86,24 @@ module _ (n : ℕ) (ns : List (List ℕ)) (names : goodNames n ns ≡ true) (lea
 
   -- ---- its trees
 
-  module _ (h : Held) (same : h .opening .names ≡ ns) (s : List ℕ) (good : goodTree n s ≡ true) where
-    shown-judged : (t : List ℕ) → length t ≤ 4096 → judged ns t ≡ gives s → onText h t ≡ roomFor h s
-    unfolding onText verdict withRoom
-    shown-judged t l e = ap (verdict h) (text-held t l) ∙ ap (λ (x : List (List ℕ)). withRoom h (judged x t)) same ∙ ap (withRoom h) e
+  -- a tree's text, as the file gives it
+  abbrev lineText : List ℕ → List ℕ
+  lineText s = 32 ∷ treeText ns s
 
-    written-judged : onText h (treeText ns s) ≡ roomFor h s
-    written-judged = shown-judged (treeText ns s) (omega (arith, written-more ns s, written-length n ns s names good least most)) (written-tree-reads-back n ns s names good (omega arith) most)
+  line-judged : (h : Held) → h .opening .names ≡ ns → (s : List ℕ) → goodTree n s ≡ true → onText h (lineText s) ≡ roomFor h s
+  unfolding onText verdict withRoom
+  line-judged h same s good =
+      ap (verdict h) (text-held (lineText s) (omega (arith, written-more ns s, written-length n ns s names good least most)))
+      ∙ ap (λ (x : List (List ℕ)). withRoom h (judged x (lineText s))) same
+      ∙ ap (withRoom h) (judged-blank ns (treeText ns s) ∙ written-tree-reads-back n ns s names good (omega arith) most)
 
-    blank-judged : onText h (32 ∷ treeText ns s) ≡ roomFor h s
-    blank-judged =
-        shown-judged (32 ∷ treeText ns s) (omega (arith, written-more ns s, written-length n ns s names good least most))
-        (judged-blank ns (treeText ns s) ∙ written-tree-reads-back n ns s names good (omega arith) most)
-
-  -- texts that are judged to their splits
-  abbrev Judged : (List ℕ → List ℕ) → Type 0
-  Judged f = (h : Held) → h .opening .names ≡ ns → (s : List ℕ) → goodTree n s ≡ true → onText h (f s) ≡ roomFor h s
-
-  handing-accepts : (f : List ℕ → List ℕ) → Judged f → (h : Held) → h .opening .names ≡ ns → (ss : List (List ℕ)) → every (goodTree n) ss ≡ true → handing h (map f ss) ≡ accepting h ss
+  handing-accepts : (h : Held) → h .opening .names ≡ ns → (ss : List (List ℕ)) → every (goodTree n) ss ≡ true → handing h (map lineText ss) ≡ accepting h ss
   unfolding handing accepting every
-  handing-accepts f j h same [] e = refl
-  handing-accepts f j h same (s ∷ ss) e =
+  handing-accepts h same [] e = refl
+  handing-accepts h same (s ∷ ss) e =
       let kept : recording h (roomFor h s) .opening .names ≡ ns = ap (λ o. o .names) (recording-opening h (roomFor h s)) ∙ same in
-      ap (λ (v : Answer (List ℕ)). withVerdict (verdictNumber (finished h v)) (handing (recording h v) (map f ss))) (j h same s (and-left (goodTree n s) (every (goodTree n) ss) e))
-      ∙ ap (withVerdict (verdictNumber (finished h (roomFor h s)))) (handing-accepts f j (recording h (roomFor h s)) kept ss (and-right (goodTree n s) (every (goodTree n) ss) e))
+      ap (λ (v : Answer (List ℕ)). withVerdict (verdictNumber (finished h v)) (handing (recording h v) (map lineText ss))) (line-judged h same s (and-left (goodTree n s) (every (goodTree n) ss) e))
+      ∙ ap (withVerdict (verdictNumber (finished h (roomFor h s)))) (handing-accepts (recording h (roomFor h s)) kept ss (and-right (goodTree n s) (every (goodTree n) ss) e))
 
   module _ (h : Held) (same : h .opening .names ≡ ns) (ss : List (List ℕ)) (good : every (goodTree n) ss ≡ true) where
     pub written-file-accepted : (room : ℕ) → length ss ≤ room → nexus h (fileAround (map (written ns) ss)) room ≡ gives (accepting h ss)
@@ -114,9 +111,4 @@ module _ (n : ℕ) (ns : List (List ℕ)) (names : goodNames n ns ≡ true) (lea
     written-file-accepted room r =
         ap (λ (o : Option File). elim o as (λ _. Answer Batched) [ none ↦ refused 15 | some x ↦ handedIn h x room ]) (written-file-reads-back ss good)
         ∙ if-false _ _ (le-ltb room (length (map (λ (w : List ℕ). 32 ∷ w) (map (treeText ns) ss))) (omega (arith, length-map (map (treeText ns) ss) (λ w. 32 ∷ w), length-map ss (treeText ns))))
-        ∙ ap gives (ap (handing h) (around-plain (map (treeText ns) ss) ∙ map-twice (λ w. 32 ∷ w) (treeText ns) ss) ∙ handing-accepts (λ s. 32 ∷ treeText ns s) blank-judged h same ss good)
-
-    pub written-file-fed : (l : ℕ) → EmptyLane h l → FedAs h l (map (treeText ns) ss) (accepting h ss)
-    written-file-fed l e =
-        subst (FedAs h l (map (treeText ns) ss)) (handing-accepts (treeText ns) written-judged h same ss good)
-        (handing-as-feeding h l e (map (treeText ns) ss) (every-intro unended (map (treeText ns) ss) (λ w m. is-unended w (written-plain ss good w m .0))))
+        ∙ ap gives (ap (handing h) (around-plain (map (treeText ns) ss) ∙ map-twice (λ w. 32 ∷ w) (treeText ns) ss) ∙ handing-accepts h same ss good)

@@ -2,6 +2,7 @@
 --
 --   outcome h cs        the final answers of a run, and the trees at its end
 --   state o ts us       a collection with the trees ts, each lane of which was empty and got its bytes of us
+--   partOf us l p       the bytes of the piece p before the end of lane l's text
 --   judgement o ts w    the verdict on the text w: it does not depend on what the lanes hold
 --   outcome-hand        a text that is handed in
 --   outcome-text, outcome-more, outcome-closed    one call to a lane
@@ -12,15 +13,16 @@ use mathlib.Core.Bool.{Bool, true, false}
 use mathlib.Core.List.{List, [], _∷_, _++_, map}
 use lib.Dec.{ltb}
 use lib.ListN.{length, getD, set, List·getD-map}
-use Rattle.trees.specs.Plain.{member, Answer, refused, gives}
+use Rattle.trees.specs.Plain.{Answer, refused, gives}
+use Rattle.trees.specs.Text.{openAfter, hasEnd, beforeEnd}
 use Rattle.trees.specs.Opening.{Opening}
-use Rattle.trees.specs.Held.{Held, Lane, holding, laneOf, withLane, withTree, longer, verdict, Progress, moreWanted, accepted, beforeSemicolon, Fed, finished, recording, finishing, feeding, Closed, closed, closing}
+use Rattle.trees.specs.Held.{Held, Lane, holding, laneOf, withLane, withTree, openIn, longer, verdict, Progress, moreWanted, accepted, Fed, finished, recording, finishing, feeding, Closed, closed, closing}
 use Rattle.trees.specs.NexusCall.{onText}
-use Rattle.theorems.specs.WrittenFedLaws.{feedingBy, feeding-by}
-use Rattle.trees.specs.Runs.{Call, feed, hand, close, fed, answer, next, answers, ending, Final, acceptedAs, refusedWith, closedWith, finals}
+use Rattle.theorems.specs.FeedingLaws.{endsAt, lastPart, feedingBy, feeding-by, closingBy, closing-by}
+use Rattle.trees.specs.Runs.{Call, feed, hand, close, fed, answer, next, answers, ending, Final, acceptedAs, refusedWith, closedWith, finals, endsIn}
 use Rattle.theorems.specs.Alike.{Alike}
-use Rattle.theorems.specs.AlikeLaws.{closingBy, closing-by, verdict-alike}
-use Rattle.theorems.specs.PieceLaws.{longer-longer, text, map-set}
+use Rattle.theorems.specs.AlikeLaws.{verdict-alike}
+use Rattle.theorems.specs.PieceLaws.{longer-longer, text, open-text, map-set}
 
 -- ---- what a run comes to
 
@@ -57,6 +59,10 @@ outcome-close h l cs = refl
 
 -- ---- a collection whose lanes hold pending bytes
 
+-- the bytes of the piece p before the end of lane l's text, where the bytes us are pending
+abbrev pub partOf : List (List ℕ) → ℕ → List ℕ → List ℕ
+partOf us l p = beforeEnd (openAfter false (getD us l [])) p
+
 module _ (o : Opening) where
   abbrev pub state : List (List ℕ) → List (List ℕ) → Held
   state ts us = record { opening = o; trees = ts; texts = map text us }
@@ -64,6 +70,9 @@ module _ (o : Opening) where
   state-lane : (ts us : List (List ℕ)) (l : ℕ) → laneOf (state ts us) l ≡ text (getD us l [])
   unfolding laneOf longer
   state-lane ts us l = List·getD-map text us l []
+
+  state-open : (ts us : List (List ℕ)) (l : ℕ) → openIn (laneOf (state ts us) l) ≡ openAfter false (getD us l [])
+  state-open ts us l = ap openIn (state-lane ts us l) ∙ open-text (getD us l [])
 
   state-set : (ts us : List (List ℕ)) (l : ℕ) (u : List ℕ) → withLane (state ts us) l (text u) ≡ state ts (set us l u)
   unfolding withLane
@@ -135,20 +144,27 @@ module _ (o : Opening) where
         ∙ ap₂ (λ (a : Answer Progress) (h : Held). noted a (outcome h cs)) (state-finished (judgement ts t)) (state-recording (judgement ts t))
 
   module _ (ts us : List (List ℕ)) (l : ℕ) where
-    feeding-as : (p : List ℕ) (b c : Bool) → ltb l (o .numbers .lanes) ≡ b → member 59 p ≡ c → feeding (state ts us) l p ≡ feedingBy b c (state ts us) l p
-    feeding-as p b c e f = feeding-by (state ts us) l p ∙ ap₂ (λ (x y : Bool). feedingBy x y (state ts us) l p) e f
+    ends-as : (p : List ℕ) → endsAt (state ts us) l p ≡ endsIn us l p
+    unfolding endsIn
+    ends-as p = ap (λ (q : Bool). hasEnd q p) (state-open ts us l)
+
+    part-as : (p : List ℕ) → lastPart (state ts us) l p ≡ partOf us l p
+    part-as p = ap (λ (q : Bool). beforeEnd q p) (state-open ts us l)
+
+    feeding-as : (p : List ℕ) (b c : Bool) → ltb l (o .numbers .lanes) ≡ b → endsIn us l p ≡ c → feeding (state ts us) l p ≡ feedingBy b c (state ts us) l p
+    feeding-as p b c e f = feeding-by (state ts us) l p ∙ ap₂ (λ (x y : Bool). feedingBy x y (state ts us) l p) e (ends-as p ∙ f)
 
     -- the piece p ends the lane's text
-    pub outcome-text : (p : List ℕ) (cs : List Call) → ltb l (o .numbers .lanes) ≡ true → member 59 p ≡ true
-        → outcome (state ts us) (feed l p ∷ cs) ≡ judgedThen ts us l cs (judgement ts (getD us l [] ++ beforeSemicolon p))
+    pub outcome-text : (p : List ℕ) (cs : List Call) → ltb l (o .numbers .lanes) ≡ true → endsIn us l p ≡ true
+        → outcome (state ts us) (feed l p ∷ cs) ≡ judgedThen ts us l cs (judgement ts (getD us l [] ++ partOf us l p))
     outcome-text p cs e f =
-        let n = suc (length (beforeSemicolon p)) in
+        let w = lastPart (state ts us) l p in
         outcome-feed (state ts us) l p cs
-        ∙ ap (λ (r : Fed). noted (r .answer) (outcome (r .after) cs)) (feeding-as p true true e f ∙ state-finishing ts us l n (verdict (state ts us) (longer (laneOf (state ts us) l) (beforeSemicolon p))))
-        ∙ ap (judgedThen ts us l cs) (state-verdict ts us l (beforeSemicolon p))
+        ∙ ap (λ (r : Fed). noted (r .answer) (outcome (r .after) cs)) (feeding-as p true true e f ∙ state-finishing ts us l (suc (length w)) (verdict (state ts us) (longer (laneOf (state ts us) l) w)))
+        ∙ ap (judgedThen ts us l cs) (state-verdict ts us l w ∙ ap (λ (v : List ℕ). judgement ts (getD us l [] ++ v)) (part-as p))
 
     -- the piece p only adds to it
-    pub outcome-more : (p : List ℕ) (cs : List Call) → ltb l (o .numbers .lanes) ≡ true → member 59 p ≡ false
+    pub outcome-more : (p : List ℕ) (cs : List Call) → ltb l (o .numbers .lanes) ≡ true → endsIn us l p ≡ false
         → outcome (state ts us) (feed l p ∷ cs) ≡ outcome (state ts (set us l (getD us l [] ++ p))) cs
     unfolding noted
     outcome-more p cs e f =
@@ -158,7 +174,7 @@ module _ (o : Opening) where
         ∙ ap (λ (h : Held). outcome h cs) (state-set ts us l (getD us l [] ++ p))
 
     pub outcome-no-lane : (p : List ℕ) (cs : List Call) → ltb l (o .numbers .lanes) ≡ false → outcome (state ts us) (feed l p ∷ cs) ≡ noted (refused 5) (outcome (state ts us) cs)
-    outcome-no-lane p cs e = outcome-feed (state ts us) l p cs ∙ ap (λ (r : Fed). noted (r .answer) (outcome (r .after) cs)) (feeding-as p false (member 59 p) e refl)
+    outcome-no-lane p cs e = outcome-feed (state ts us) l p cs ∙ ap (λ (r : Fed). noted (r .answer) (outcome (r .after) cs)) (feeding-as p false (endsIn us l p) e refl)
 
     pub outcome-closed : (cs : List Call) → ltb l (o .numbers .lanes) ≡ true → outcome (state ts us) (close l ∷ cs) ≡ shut (record { answer = closed (text (getD us l [])); after = state ts (set us l []) }) cs
     unfolding longer

@@ -2,7 +2,7 @@
 --
 --   recording-opening, recording-texts     a verdict changes neither the opening nor a lane
 --   feeding-texts, closing-texts      which lane a call changes, and how
---   unfinished-keeps-trees            a piece without a semicolon leaves the trees as they were
+--   unfinished-keeps-trees            a piece that ends no text leaves the trees as they were
 --   other-lanes-kept                  feeding a lane leaves every other lane as it was
 --   other-lanes-kept-closing          so does closing it
 --   own-lane-only                     collections that differ only in the texts of other lanes give the same answer to a piece,
@@ -16,17 +16,18 @@ use mathlib.Core.List.{List, [], _∷_}
 use lib.Dec.{ltb}
 use lib.ListN.{length, getD, set, length-set}
 use lib.Seq.{getD-set-other}
-use Rattle.trees.specs.Plain.{if_then_else_, member, Answer, refused, gives}
-use Rattle.trees.specs.Held.{Held, Lane, holding, laneOf, withLane, withTree, longer, verdict, beforeSemicolon, Fed, recording, finishing, feeding, Closed, closing}
-use Rattle.theorems.specs.WrittenFedLaws.{feedingBy, feeding-by}
+use Rattle.trees.specs.Plain.{if_then_else_, Answer, refused, gives}
+use Rattle.trees.specs.Text.{hasEnd}
+use Rattle.trees.specs.Held.{Held, Lane, holding, laneOf, withLane, withTree, openIn, longer, verdict, Fed, recording, finishing, feeding, Closed, closing}
+use Rattle.theorems.specs.FeedingLaws.{endsAt, lastPart, feedingBy, feeding-by, closingBy, closing-by}
 use Rattle.theorems.specs.Alike.{Alike, SaveOthers}
-use Rattle.theorems.specs.AlikeLaws.{closingBy, closing-by, feeding-alike, closing-alike}
+use Rattle.theorems.specs.AlikeLaws.{feeding-alike, closing-alike}
 
 -- ---- what a call leaves of the opening and of the lanes
 
 -- a lane after a piece: "After a semicolon the lane is empty either way"
 abbrev pub laneAfter : Lane → List ℕ → Lane
-laneAfter x p = if member 59 p then holding [] else longer x p
+laneAfter x p = if hasEnd (openIn x) p then holding [] else longer x p
 
 -- the lanes after a call that leaves x in lane l, if there is such a lane
 abbrev pub lanesAfter : Bool → List Lane → ℕ → Lane → List Lane
@@ -45,24 +46,24 @@ recording-texts h (gives t) = refl
 module _ (h : Held) (l : ℕ) where
   pub feeding-opening : (p : List ℕ) → feeding h l p .after .opening ≡ h .opening
   unfolding finishing withLane
-  feeding-opening p = ap (λ (f : Fed). f .after .opening) (feeding-by h l p) ∙ go (ltb l (h .opening .numbers .lanes)) (member 59 p)
+  feeding-opening p = ap (λ (f : Fed). f .after .opening) (feeding-by h l p) ∙ go (ltb l (h .opening .numbers .lanes)) (endsAt h l p)
     where
       go : (b c : Bool) → feedingBy b c h l p .after .opening ≡ h .opening
-      go true true = recording-opening h (verdict h (longer (laneOf h l) (beforeSemicolon p)))
+      go true true = recording-opening h (verdict h (longer (laneOf h l) (lastPart h l p)))
       go true false = refl
       go false c = refl
 
   pub feeding-texts : (p : List ℕ) → feeding h l p .after .texts ≡ lanesAfter (ltb l (h .opening .numbers .lanes)) (h .texts) l (laneAfter (laneOf h l) p)
   unfolding finishing withLane
-  feeding-texts p = ap (λ (f : Fed). f .after .texts) (feeding-by h l p) ∙ go (ltb l (h .opening .numbers .lanes)) (member 59 p)
+  feeding-texts p = ap (λ (f : Fed). f .after .texts) (feeding-by h l p) ∙ go (ltb l (h .opening .numbers .lanes)) (endsAt h l p)
     where
       go : (b c : Bool) → feedingBy b c h l p .after .texts ≡ lanesAfter b (h .texts) l (if c then holding [] else longer (laneOf h l) p)
-      go true true = ap (λ (xs : List Lane). set xs l (holding [])) (recording-texts h (verdict h (longer (laneOf h l) (beforeSemicolon p))))
+      go true true = ap (λ (xs : List Lane). set xs l (holding [])) (recording-texts h (verdict h (longer (laneOf h l) (lastPart h l p))))
       go true false = refl
       go false true = refl
       go false false = refl
 
-  pub unfinished-keeps-trees : (p : List ℕ) → member 59 p ≡ false → feeding h l p .after .trees ≡ h .trees
+  pub unfinished-keeps-trees : (p : List ℕ) → endsAt h l p ≡ false → feeding h l p .after .trees ≡ h .trees
   unfolding withLane
   unfinished-keeps-trees p e = ap (λ (f : Fed). f .after .trees) (feeding-by h l p ∙ ap (λ c. feedingBy (ltb l (h .opening .numbers .lanes)) c h l p) e) ∙ go (ltb l (h .opening .numbers .lanes))
     where

@@ -1,43 +1,34 @@
 -- Unfinished text touches only its own lane's next verdict or closing, over whole runs: two collections that differ in one lane's
 -- unfinished text cannot be told apart until that text is ended or closed.
 --
---   quiet-append         a quiet run in two parts
---   quiet-run            a run that does not end or close the text of lane j has the same answers on both, which differ afterwards only there
+--   by-equal             two numbers are equal or they are not
+--   quiet-run            a run that ends or closes the text of lane j on neither has the same answers on both, which differ afterwards only there
 --   save-questions, save-collisions      such collections answer every question alike, that for the collision number too
 --   quiet-questions, quiet-collisions    and so they do after the run
 use Prim.Native.Nat.{ℕ, suc}
 use mathlib.Core.Path.{_≡_, refl, ap, ap₂, sym, _∙_, subst}
 use mathlib.Core.Bool.{Bool, true, false}
-use mathlib.Core.List.{List, [], _∷_, _++_}
+use mathlib.Core.List.{List, [], _∷_}
 use lib.Dec.{ltb, eqb}
 use lib.ListN.{length, getD, length-set}
 use borrow.Author.Tests.{eqb-true, eqb-false}
-use Rattle.trees.specs.Plain.{member, Answer}
-use Rattle.trees.specs.Text.{semicolon}
+use Rattle.trees.specs.Plain.{Answer}
 use Rattle.trees.specs.Held.{Held, Lane, holding, Progress, laneOf, recording, Fed, feeding, closing}
 use Rattle.trees.specs.NexusCall.{onText}
 use Rattle.trees.specs.Questions.{collisionsOf}
 use Rattle.trees.specs.Runs.{Call, feed, hand, close, Heard, fed, closedLane, answer, next, answers, ending}
 use Rattle.theorems.specs.Alike.{Alike, SaveOthers, SameAnswers}
 use Rattle.theorems.specs.AlikeLaws.{judged-alike, recorded-alike, questions-alike}
-use Rattle.theorems.specs.WrittenFedLaws.{feedingBy, feeding-by}
+use Rattle.theorems.specs.FeedingLaws.{endsAt, feedingBy, feeding-by}
 use Rattle.theorems.specs.OwnLaneLaws.{laneAfter, lanesAfter, recording-opening, recording-texts, feeding-opening, feeding-texts, unfinished-keeps-trees, other-lanes-kept, other-lanes-kept-closing, own-lane-only, own-lane-only-closing}
-use Rattle.theorems.specs.Quiet.{Quiet, SaveLane}
+use Rattle.theorems.specs.Quiet.{Leaves, Quiet, SaveLane}
 
--- two numbers are equal or they are not
-by-equal : (P : Type 0) (i j : ℕ) → (i ≡ j → P) → ((i ≡ j → ⊥) → P) → P
+pub by-equal : (P : Type 0) (i j : ℕ) → (i ≡ j → P) → ((i ≡ j → ⊥) → P) → P
 by-equal P i j f g = go (eqb i j) refl
   where
     go : (t : Bool) → eqb i j ≡ t → P
     go true e = f (eqb-true i j e)
     go false e = g (eqb-false i j e)
-
-pub quiet-append : (j : ℕ) (cs ds : List Call) → Quiet j (cs ++ ds) → Quiet j cs × Quiet j ds
-unfolding Quiet
-quiet-append j [] ds q = (tt, q)
-quiet-append j (feed l p ∷ cs) ds q = let r = quiet-append j cs ds (q .1) in ((q .0, r .0), r .1)
-quiet-append j (hand t ∷ cs) ds q = quiet-append j cs ds q
-quiet-append j (close l ∷ cs) ds q = let r = quiet-append j cs ds (q .1) in ((q .0, r .0), r .1)
 
 -- the same answer, and afterwards the same but for the text of lane j
 abbrev Unseen : ℕ → Held → Held → Call → Type 0
@@ -80,13 +71,13 @@ module _ (j : ℕ) (h k : Held) (s : SaveLane j h k) where
           },
         )
 
-  -- ---- a piece without a semicolon to lane j itself
+  -- ---- a piece to lane j itself that does not end its text
 
   -- what is heard of it, from the test that there is such a lane
   abbrev heardBy : Bool → Held → List ℕ → Heard
   heardBy b x p = fed (feedingBy b false x j p .taken) (feedingBy b false x j p .answer)
 
-  unfinished : (x : Held) (p : List ℕ) → member semicolon p ≡ false → answer x (feed j p) ≡ heardBy (ltb j (x .opening .numbers .lanes)) x p
+  unfinished : (x : Held) (p : List ℕ) → endsAt x j p ≡ false → answer x (feed j p) ≡ heardBy (ltb j (x .opening .numbers .lanes)) x p
   unfolding answer
   unfinished x p e = ap (λ (f : Fed). fed (f .taken) (f .answer)) (feeding-by x j p ∙ ap (λ (c : Bool). feedingBy (ltb j (x .opening .numbers .lanes)) c x j p) e)
 
@@ -101,13 +92,13 @@ module _ (j : ℕ) (h k : Held) (s : SaveLane j h k) where
       go true = length-set (x .texts) j (laneAfter (laneOf x j) p)
       go false = refl
 
-  unseen-unfinished : (p : List ℕ) → member semicolon p ≡ false → Unseen j h k (feed j p)
+  unseen-unfinished : (p : List ℕ) → endsAt h j p ≡ false → endsAt k j p ≡ false → Unseen j h k (feed j p)
   unfolding next
-  unseen-unfinished p e = (
-    unfinished h p e ∙ heard-same (ltb j (h .opening .numbers .lanes)) p ∙ (λ i. heardBy (ltb j (s .opening i .numbers .lanes)) k p) ∙ sym (unfinished k p e),
+  unseen-unfinished p e f = (
+    unfinished h p e ∙ heard-same (ltb j (h .opening .numbers .lanes)) p ∙ (λ i. heardBy (ltb j (s .opening i .numbers .lanes)) k p) ∙ sym (unfinished k p f),
     record {
       opening = feeding-opening h j p ∙ s .opening ∙ sym (feeding-opening k j p);
-      trees = unfinished-keeps-trees h j p e ∙ s .trees ∙ sym (unfinished-keeps-trees k j p e);
+      trees = unfinished-keeps-trees h j p e ∙ s .trees ∙ sym (unfinished-keeps-trees k j p f);
       lanes = lanes-many h p ∙ s .lanes ∙ sym (lanes-many k p);
       others = λ i g. other-lanes-kept h j p i g ∙ s .others i g ∙ sym (other-lanes-kept k j p i g);
     },
@@ -143,22 +134,22 @@ module _ (j : ℕ) (h k : Held) (s : SaveLane j h k) (t : List ℕ) where
 
 -- ---- a run
 
-unseen : (j : ℕ) (h k : Held) → SaveLane j h k → (c : Call) → Quiet j (c ∷ []) → Unseen j h k c
-unfolding Quiet
-unseen j h k s (feed l p) q =
+unseen : (j : ℕ) (h k : Held) → SaveLane j h k → (c : Call) → Leaves j h c → Leaves j k c → Unseen j h k c
+unfolding Leaves
+unseen j h k s (feed l p) q r =
     by-equal (Unseen j h k (feed l p)) l j
-    (λ e. subst (λ (x : ℕ). Unseen j h k (feed x p)) (sym e) (unseen-unfinished j h k s p (q .0 e)))
+    (λ e. subst (λ (x : ℕ). Unseen j h k (feed x p)) (sym e)
+    (unseen-unfinished j h k s p (subst (λ (x : ℕ). endsAt h x p ≡ false) e (q e)) (subst (λ (x : ℕ). endsAt k x p ≡ false) e (r e))))
     (λ f. unseen-fed j h k s l f p)
-unseen j h k s (hand t) q = unseen-handed j h k s t
-unseen j h k s (close l) q = unseen-closed j h k s l (q .0)
+unseen j h k s (hand t) q r = unseen-handed j h k s t
+unseen j h k s (close l) q r = unseen-closed j h k s l q
 
-pub quiet-run : (j : ℕ) (cs : List Call) (h k : Held) → SaveLane j h k → Quiet j cs → (answers h cs ≡ answers k cs) × SaveLane j (ending h cs) (ending k cs)
-unfolding answers ending
-quiet-run j [] h k s q = (refl, s)
-quiet-run j (c ∷ cs) h k s q =
-    let r = quiet-append j (c ∷ []) cs q in
-    let u = unseen j h k s c (r .0) in
-    let t = quiet-run j cs (next h c) (next k c) (u .1) (r .1) in
+pub quiet-run : (j : ℕ) (cs : List Call) (h k : Held) → SaveLane j h k → Quiet j h cs → Quiet j k cs → (answers h cs ≡ answers k cs) × SaveLane j (ending h cs) (ending k cs)
+unfolding answers ending Quiet
+quiet-run j [] h k s q r = (refl, s)
+quiet-run j (c ∷ cs) h k s q r =
+    let u = unseen j h k s c (q .0) (r .0) in
+    let t = quiet-run j cs (next h c) (next k c) (u .1) (q .1) (r .1) in
     (ap₂ (λ (a : Heard) (as′ : List Heard). a ∷ as′) (u .0) (t .0), t .1)
 
 -- ---- the questions
@@ -170,9 +161,9 @@ pub save-collisions : (j : ℕ) (h k : Held) → SaveLane j h k → collisionsOf
 unfolding collisionsOf
 save-collisions j h k s = λ i. collisionsOf (record { opening = s .opening i; trees = s .trees i; texts = [] })
 
-module _ (j : ℕ) (cs : List Call) (h k : Held) (s : SaveLane j h k) (q : Quiet j cs) where
+module _ (j : ℕ) (cs : List Call) (h k : Held) (s : SaveLane j h k) (q : Quiet j h cs) (r : Quiet j k cs) where
   pub quiet-questions : SameAnswers (ending h cs) (ending k cs)
-  quiet-questions = save-questions j (ending h cs) (ending k cs) (quiet-run j cs h k s q .1)
+  quiet-questions = save-questions j (ending h cs) (ending k cs) (quiet-run j cs h k s q r .1)
 
   pub quiet-collisions : collisionsOf (ending h cs) ≡ collisionsOf (ending k cs)
-  quiet-collisions = save-collisions j (ending h cs) (ending k cs) (quiet-run j cs h k s q .1)
+  quiet-collisions = save-collisions j (ending h cs) (ending k cs) (quiet-run j cs h k s q r .1)

@@ -1,7 +1,7 @@
 -- The refusal numbers of a whole text one by one: a line for each line of document 01's table, 6 to 12, each of what feeding answers to a text
--- and its semicolon in an empty lane.
+-- and the semicolon that ends it in an empty lane.
 --
---   fed-six-exactly         the text is longer than 4,096 bytes
+--   fed-six-exactly         the text is longer than 4,608 bytes
 --   fed-seven-exactly       it is not, and the text is no tree of the grammar
 --   fed-leaf-exactly        it is a tree of the grammar, and k is the fault of its leaves, from left to right: 8, 9 or 10
 --   fed-eleven-exactly      no fault is in the text, and the accepted trees equal the tree room
@@ -10,14 +10,14 @@ use Prim.Native.Nat.{ℕ, _≤_, _<_}
 use native.Mathlib.Omega.{arith}
 use mathlib.Core.Path.{_≡_, refl}
 use mathlib.Core.Logic.{_↔_}
+use mathlib.Core.Bool.{false}
 use mathlib.Core.List.{List, [], _∷_, _++_}
 use lib.ListN.{length}
 use Rattle.trees.specs.Plain.{refused}
-use Rattle.trees.specs.Text.{semicolon}
+use Rattle.trees.specs.Text.{semicolon, openAfter, hasEnd}
 use Rattle.trees.specs.Tree.{Nodes, leaves}
 use Rattle.trees.specs.Grammar.{IsTree}
 use Rattle.trees.specs.Held.{Held, holding, mostText, laneOf, feeding}
-use Rattle.theorems.specs.ListLaws.{Mem}
 use Rattle.theorems.specs.FaultLaws.{fault-numbers-only}
 use Rattle.theorems.specs.Refusing.{Fault, Faultless, TreesFull, splitsWith, Refuses, too-long, no-form, leaf-fault, no-tree-room, no-split-room}
 use Rattle.theorems.specs.RefusingLaws.{fed-refused-exactly}
@@ -71,12 +71,12 @@ module _ (h : Held) (s : List ℕ) where
 
 -- ---- what feeding answers
 
-module _ (h : Held) (l : ℕ) (lane : l < h .opening .numbers .lanes) (empty : laneOf h l ≡ holding []) (s : List ℕ) (one : Mem semicolon s → ⊥) where
+module _ (h : Held) (l : ℕ) (lane : l < h .opening .numbers .lanes) (empty : laneOf h l ≡ holding []) (s : List ℕ) (one : hasEnd false s ≡ false) (even : openAfter false s ≡ false) where
   abbrev Refused : ℕ → Type 0
   Refused k = feeding h l (s ++ semicolon ∷ []) .answer ≡ refused k
 
   exactly : (k : ℕ) → Refused k ↔ Refuses h s k
-  exactly = fed-refused-exactly h l lane empty s one
+  exactly = fed-refused-exactly h l lane empty s one even
 
   pub fed-six-exactly : Refused 6 ↔ (mostText < length s)
   fed-six-exactly = (λ e. from-six h s refl (exactly 6 .0 e), λ p. exactly 6 .1 (too-long p))

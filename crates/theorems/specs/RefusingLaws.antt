@@ -7,7 +7,7 @@
 --   refused-numbers          its number is one of 6 to 12
 --   refused-or-accepted      a fault holds, or none
 --   accepted-unless-refused  accepted exactly when no fault holds
--- and of the call, a text and its semicolon being fed in one piece to an empty lane:
+-- and of the call, a text and the semicolon that ends it being fed in one piece to an empty lane:
 --   fed-refused-exactly      feeding refuses with k exactly when the fault k holds
 --   fed-accepted-exactly     it accepts exactly when no fault holds, and the tree's number is that of the trees before
 --   fed-refused-after, fed-accepted-after    what is held then: nothing new; exactly the splits of the text's tree. The lane is empty either way
@@ -22,19 +22,19 @@ use lib.Dec.{ltb, eqb}
 use lib.ListN.{length}
 use borrow.Author.Tests.{ltb-true, ltb-false, lt-ltb, le-ltb, eqb-true, eqb-false, eq-eqb, ne-eqb}
 use Rattle.trees.specs.Plain.{if_then_else_, Answer, refused, gives}
-use Rattle.trees.specs.Text.{semicolon}
+use Rattle.trees.specs.Text.{semicolon, openAfter, hasEnd, beforeEnd}
 use Rattle.trees.specs.Tree.{Nodes, children}
 use Rattle.trees.specs.Splits.{clusters, splitsOf}
 use Rattle.trees.specs.Verdict.{judged}
 use Rattle.trees.specs.Consensus.{recorded}
-use Rattle.trees.specs.Held.{Held, holding, overrun, mostText, laneOf, withLane, withTree, longer, newSplits, roomFor, withRoom, verdict, Progress, accepted, finished, recording, finishing, feeding}
-use Rattle.theorems.specs.ListLaws.{if-true, if-false, Mem, mem-right, mem-member}
+use Rattle.trees.specs.Held.{Held, holding, overrun, mostText, laneOf, withLane, withTree, openIn, longer, newSplits, roomFor, withRoom, verdict, Progress, accepted, finished, recording, finishing, feeding}
+use Rattle.theorems.specs.ListLaws.{if-true, if-false}
 use Rattle.theorems.specs.RisingLaws.{Rising}
 use Rattle.theorems.specs.SplitLaws.{counted-rising}
 use Rattle.theorems.specs.RecordedLaws.{recorded-more}
 use Rattle.theorems.specs.FaultLaws.{fault-numbers-only, Refusal, judged-refuses, judged-accepts}
-use Rattle.theorems.specs.WrittenLaws.{before-semicolon}
-use Rattle.theorems.specs.WrittenFedLaws.{feedingBy, feeding-by}
+use Rattle.theorems.specs.QuoteLaws.{before-end, has-end}
+use Rattle.theorems.specs.FeedingLaws.{feedingBy, feeding-by}
 use Rattle.theorems.specs.Refusing.{Faultless, TreesFull, splitsWith, Refuses, too-long, no-form, leaf-fault, no-tree-room, no-split-room, Accepts}
 
 abbrev pub onText : Held → List ℕ → Answer (List ℕ)
@@ -83,11 +83,11 @@ module _ (h : Held) (t : Nodes) where
 module _ (h : Held) (s : List ℕ) where
   long-text : mostText < length s → onText h s ≡ refused 6
   unfolding longer verdict
-  long-text l = ap (verdict h) (if-true overrun (holding s) (lt-ltb mostText (length s) l))
+  long-text l = ap (verdict h) (if-true (overrun (openAfter false s)) (holding s) (lt-ltb mostText (length s) l))
 
   short-text : length s ≤ mostText → onText h s ≡ withRoom h (judged (h .opening .names) s)
   unfolding longer verdict
-  short-text l = ap (verdict h) (if-false overrun (holding s) (le-ltb mostText (length s) l))
+  short-text l = ap (verdict h) (if-false (overrun (openAfter false s)) (holding s) (le-ltb mostText (length s) l))
 
   refused-text : length s ≤ mostText → (k : ℕ) → Refusal (h .opening .names) s k → onText h s ≡ refused k
   unfolding withRoom
@@ -187,49 +187,57 @@ unfolding finished
 finished-refused h (refused j) k = (λ e. let q : j ≡ k = cc in ap refused q, λ e. ap (finished h) e)
 finished-refused h (gives ms) k = (λ e. cc, λ e. cc)
 
-module _ (h : Held) (l : ℕ) (lane : l < h .opening .numbers .lanes) (empty : laneOf h l ≡ holding []) (s : List ℕ) (one : Mem semicolon s → ⊥) where
-  fed-finishes : feeding h l (s ++ semicolon ∷ []) ≡ finishing h l (suc (length s)) (onText h s)
-  fed-finishes =
-      feeding-by h l (s ++ semicolon ∷ [])
-      ∙ ap₂ (λ b c. feedingBy b c h l (s ++ semicolon ∷ [])) (lt-ltb l (h .opening .numbers .lanes) lane) (mem-member semicolon (s ++ semicolon ∷ []) (mem-right semicolon s (semicolon ∷ []) (inl refl)))
-      ∙ ap₂ (λ x w. finishing h l (suc (length w)) (verdict h (longer x w))) empty (before-semicolon s one)
+-- a whole text: none ends in it, and no quotes are open where its semicolon stands
+module _ (h : Held) (l : ℕ) (lane : l < h .opening .numbers .lanes) (empty : laneOf h l ≡ holding []) (s : List ℕ) (one : hasEnd false s ≡ false) (even : openAfter false s ≡ false) where
+  abbrev piece : List ℕ
+  piece = s ++ semicolon ∷ []
 
-  pub fed-taken : feeding h l (s ++ semicolon ∷ []) .taken ≡ suc (length s)
+  empty-closed : openIn (laneOf h l) ≡ false
+  unfolding openIn openAfter
+  empty-closed = ap openIn empty
+
+  fed-finishes : feeding h l piece ≡ finishing h l (suc (length s)) (onText h s)
+  fed-finishes =
+      feeding-by h l piece
+      ∙ ap₂ (λ b c. feedingBy b c h l piece) (lt-ltb l (h .opening .numbers .lanes) lane) (ap (λ (q : Bool). hasEnd q piece) empty-closed ∙ has-end [] false s even)
+      ∙ ap₂ (λ x w. finishing h l (suc (length w)) (verdict h (longer x w))) empty (ap (λ (q : Bool). beforeEnd q piece) empty-closed ∙ before-end [] false s one even)
+
+  pub fed-taken : feeding h l piece .taken ≡ suc (length s)
   unfolding finishing
   fed-taken = ap (λ f. f .taken) fed-finishes
 
-  fed-answer : feeding h l (s ++ semicolon ∷ []) .answer ≡ finished h (onText h s)
+  fed-answer : feeding h l piece .answer ≡ finished h (onText h s)
   unfolding finishing
   fed-answer = ap (λ f. f .answer) fed-finishes
 
-  fed-after : feeding h l (s ++ semicolon ∷ []) .after ≡ withLane (recording h (onText h s)) l (holding [])
+  fed-after : feeding h l piece .after ≡ withLane (recording h (onText h s)) l (holding [])
   unfolding finishing
   fed-after = ap (λ f. f .after) fed-finishes
 
-  pub fed-refused-exactly : (k : ℕ) → (feeding h l (s ++ semicolon ∷ []) .answer ≡ refused k) ↔ Refuses h s k
+  pub fed-refused-exactly : (k : ℕ) → (feeding h l piece .answer ≡ refused k) ↔ Refuses h s k
   fed-refused-exactly k = (
     λ e. refused-exactly h s k .0 (finished-refused h (onText h s) k .0 (sym fed-answer ∙ e)),
     λ r. fed-answer ∙ finished-refused h (onText h s) k .1 (refused-exactly h s k .1 r),
   )
 
-  accepted-answer : {ms : List ℕ} → Accepts h s ms → feeding h l (s ++ semicolon ∷ []) .answer ≡ gives (accepted (length (h .trees)))
+  accepted-answer : {ms : List ℕ} → Accepts h s ms → feeding h l piece .answer ≡ gives (accepted (length (h .trees)))
   unfolding finished
   accepted-answer a = fed-answer ∙ ap (finished h) (accepts-answer h s a)
 
-  pub fed-accepted-exactly : (i : ℕ) → (feeding h l (s ++ semicolon ∷ []) .answer ≡ gives (accepted i)) ↔ ((i ≡ length (h .trees)) × ((k : ℕ) → Refuses h s k → ⊥))
+  pub fed-accepted-exactly : (i : ℕ) → (feeding h l piece .answer ≡ gives (accepted i)) ↔ ((i ≡ length (h .trees)) × ((k : ℕ) → Refuses h s k → ⊥))
   fed-accepted-exactly i = (
     λ e. (number e (refused-or-accepted h s), λ k r. never-both (sym (fed-refused-exactly k .1 r) ∙ e)),
     λ p. accepted-answer (accepted-unless-refused h s .1 (p .1) .1) ∙ ap (λ (x : ℕ). gives (accepted x)) (sym (p .0)),
   )
     where
-      number : feeding h l (s ++ semicolon ∷ []) .answer ≡ gives (accepted i) → ((k : ℕ) × Refuses h s k) ⊎ ((ms : List ℕ) × Accepts h s ms) → i ≡ length (h .trees)
+      number : feeding h l piece .answer ≡ gives (accepted i) → ((k : ℕ) × Refuses h s k) ⊎ ((ms : List ℕ) × Accepts h s ms) → i ≡ length (h .trees)
       number e (inl r) = absurd (never-both (sym (fed-refused-exactly (r .0) .1 (r .1)) ∙ e))
       number e (inr a) = let q : _≡_ {A = Answer Progress} (gives (accepted i)) (gives (accepted (length (h .trees)))) = sym e ∙ accepted-answer (a .1) in cc
 
-  pub fed-refused-after : {k : ℕ} → Refuses h s k → feeding h l (s ++ semicolon ∷ []) .after ≡ withLane h l (holding [])
+  pub fed-refused-after : {k : ℕ} → Refuses h s k → feeding h l piece .after ≡ withLane h l (holding [])
   unfolding recording
   fed-refused-after r = fed-after ∙ ap (λ v. withLane (recording h v) l (holding [])) (refuses-answer h s r)
 
-  pub fed-accepted-after : {ms : List ℕ} → Accepts h s ms → feeding h l (s ++ semicolon ∷ []) .after ≡ withLane (withTree h ms) l (holding [])
+  pub fed-accepted-after : {ms : List ℕ} → Accepts h s ms → feeding h l piece .after ≡ withLane (withTree h ms) l (holding [])
   unfolding recording
   fed-accepted-after a = fed-after ∙ ap (λ v. withLane (recording h v) l (holding [])) (accepts-answer h s a)

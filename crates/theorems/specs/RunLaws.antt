@@ -1,10 +1,10 @@
 -- Laws of runs of calls.
 --
---   more-exactly                    "more wanted" exactly when a piece has no semicolon
+--   more-exactly                    "more wanted" exactly when a piece ends no text
 --   ending-append, answers-append   a run in two parts
 --   ending-opening                  the opening stays
 --   ending-whole, run-whole         from an accepted opening on, a collection is whole after every run
---   lanes-hold-pending              every lane holds the bytes fed to it since its last semicolon or closing, or ran over
+--   lanes-hold-pending              every lane holds the bytes fed to it since its last text ended or it was closed, or ran over
 use Prim.Native.Nat.{ℕ}
 use native.Mathlib.Omega.{arith}
 use mathlib.Core.Path.{_≡_, refl, ap, ap₂, sym, _∙_, subst}
@@ -15,16 +15,17 @@ use lib.Dec.{ltb}
 use lib.ListN.{length, getD, set, replicate, length-set, length-replicate, List·getD-map}
 use lib.Seq.{set-out}
 use borrow.Author.Tests.{ltb-false}
-use Rattle.trees.specs.Plain.{if_then_else_, member, Answer, refused, gives}
+use Rattle.trees.specs.Plain.{if_then_else_, Answer, refused, gives}
+use Rattle.trees.specs.Text.{hasEnd}
 use Rattle.trees.specs.Opening.{Numbers, Opening, opening}
-use Rattle.trees.specs.Held.{Held, Lane, holding, opened, laneOf, longer, verdict, Progress, moreWanted, accepted, beforeSemicolon, Fed, finished, recording, finishing, feeding, closing}
+use Rattle.trees.specs.Held.{Held, Lane, holding, opened, laneOf, longer, verdict, Progress, moreWanted, accepted, Fed, finished, recording, finishing, feeding, closing}
 use Rattle.trees.specs.NexusCall.{onText}
 use Rattle.theorems.specs.WholeHeld.{whole}
 use Rattle.theorems.specs.HeldLaws.{opened-whole, feeding-whole, handed-whole, closing-whole}
-use Rattle.theorems.specs.WrittenFedLaws.{feedingBy, feeding-by}
+use Rattle.theorems.specs.FeedingLaws.{endsAt, lastPart, feedingBy, feeding-by}
 use Rattle.theorems.specs.OwnLaneLaws.{laneAfter, lanesAfter, recording-opening, recording-texts, feeding-opening, feeding-texts, closing-opening, closing-texts}
-use Rattle.theorems.specs.PieceLaws.{longer-longer, text, map-set, map-replicate}
-use Rattle.trees.specs.Runs.{Call, feed, hand, close, Heard, answer, next, answers, ending, pendingAfter}
+use Rattle.theorems.specs.PieceLaws.{longer-longer, text, open-text, map-set, map-replicate}
+use Rattle.trees.specs.Runs.{Call, feed, hand, close, Heard, answer, next, answers, ending, endsIn, pendingAfter}
 
 -- ---- which answers are verdicts
 
@@ -39,16 +40,16 @@ unfolding finished
 finished-settled h (refused k) = tt
 finished-settled h (gives t) = tt
 
--- a piece to a lane that exists: its answer is a verdict exactly when it has a semicolon
-pub more-exactly : (h : Held) (l : ℕ) (p : List ℕ) → ltb l (h .opening .numbers .lanes) ≡ true → (feeding h l p .answer ≡ gives moreWanted) ↔ (member 59 p ≡ false)
+-- a piece to a lane that exists: its answer is a verdict exactly when it ends a text
+pub more-exactly : (h : Held) (l : ℕ) (p : List ℕ) → ltb l (h .opening .numbers .lanes) ≡ true → (feeding h l p .answer ≡ gives moreWanted) ↔ (endsAt h l p ≡ false)
 unfolding finishing
-more-exactly h l p e = go (member 59 p) refl
+more-exactly h l p e = go (endsAt h l p) refl
   where
-    answered : (c : Bool) → member 59 p ≡ c → feeding h l p .answer ≡ feedingBy true c h l p .answer
+    answered : (c : Bool) → endsAt h l p ≡ c → feeding h l p .answer ≡ feedingBy true c h l p .answer
     answered c f = ap (λ (r : Fed). r .answer) (feeding-by h l p ∙ ap₂ (λ (x y : Bool). feedingBy x y h l p) e f)
 
-    go : (c : Bool) → member 59 p ≡ c → (feeding h l p .answer ≡ gives moreWanted) ↔ (c ≡ false)
-    go true f = ((λ q. absurd (subst Settled (sym (answered true f) ∙ q) (finished-settled h (verdict h (longer (laneOf h l) (beforeSemicolon p)))))), λ q. absurd (true≢false q))
+    go : (c : Bool) → endsAt h l p ≡ c → (feeding h l p .answer ≡ gives moreWanted) ↔ (c ≡ false)
+    go true f = ((λ q. absurd (subst Settled (sym (answered true f) ∙ q) (finished-settled h (verdict h (longer (laneOf h l) (lastPart h l p)))))), λ q. absurd (true≢false q))
     go false f = ((λ q. refl), λ q. answered false f)
 
 -- ---- a run in two parts
@@ -94,9 +95,11 @@ module _ (h : Held) (us : List (List ℕ)) (d : Holds h us) (l : ℕ) where
   unfolding laneOf longer
   holds-lane = ap (λ (xs : List Lane). getD xs l (holding [])) (d .lanes) ∙ List·getD-map text us l []
 
-  holds-piece : (p : List ℕ) → laneAfter (laneOf h l) p ≡ text (if member 59 p then [] else getD us l [] ++ p)
-  unfolding longer
-  holds-piece p = ap (λ (x : Lane). laneAfter x p) holds-lane ∙ go (member 59 p)
+  holds-piece : (p : List ℕ) → laneAfter (laneOf h l) p ≡ text (if endsIn us l p then [] else getD us l [] ++ p)
+  unfolding longer endsIn
+  holds-piece p =
+      ap (λ (x : Lane). laneAfter x p) holds-lane ∙ ap (λ (q : Bool). if hasEnd q p then holding [] else longer (text (getD us l [])) p) (open-text (getD us l []))
+      ∙ go (endsIn us l p)
     where
       go : (c : Bool) → (if c then holding [] else longer (text (getD us l [])) p) ≡ text (if c then [] else getD us l [] ++ p)
       go true = refl
@@ -109,9 +112,9 @@ module _ (h : Held) (us : List (List ℕ)) (d : Holds h us) (l : ℕ) where
       go true e = sym (map-set text us l w)
       go false e = ap (map text) (sym (set-out us l w (omega (arith, d .many, ltb-false l (h .opening .numbers .lanes) e))))
 
-  holds-fed : (p : List ℕ) → Holds (feeding h l p .after) (set us l (if member 59 p then [] else getD us l [] ++ p))
+  holds-fed : (p : List ℕ) → Holds (feeding h l p .after) (set us l (if endsIn us l p then [] else getD us l [] ++ p))
   holds-fed p =
-      let w = if member 59 p then [] else getD us l [] ++ p in
+      let w = if endsIn us l p then [] else getD us l [] ++ p in
       record {
         many = length-set us l w ∙ d .many ∙ λ i. sym (feeding-opening h l p) i .numbers .lanes;
         lanes = feeding-texts h l p ∙ ap (lanesAfter (ltb l (h .opening .numbers .lanes)) (h .texts) l) (holds-piece p) ∙ holds-set w;
@@ -131,7 +134,7 @@ holds-handed h us d t =
 holds-after : (h : Held) (us : List (List ℕ)) → Holds h us → (cs : List Call) → Holds (ending h cs) (pendingAfter us cs)
 unfolding ending next pendingAfter
 holds-after h us d [] = d
-holds-after h us d (feed l p ∷ cs) = holds-after (feeding h l p .after) (set us l (if member 59 p then [] else getD us l [] ++ p)) (holds-fed h us d l p) cs
+holds-after h us d (feed l p ∷ cs) = holds-after (feeding h l p .after) (set us l (if endsIn us l p then [] else getD us l [] ++ p)) (holds-fed h us d l p) cs
 holds-after h us d (hand t ∷ cs) = holds-after (recording h (onText h t)) us (holds-handed h us d t) cs
 holds-after h us d (close l ∷ cs) = holds-after (closing h l .after) (set us l []) (holds-closed h us d l) cs
 

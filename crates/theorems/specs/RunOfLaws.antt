@@ -4,7 +4,6 @@
 --   run-join          a run, and what stands behind it
 --   run-every         every byte of a run passes
 --   behind-stops      none stands behind it
---   behind-twice      nothing is left to pass
 --   run-of, behind-of     a run of bytes that pass, before bytes that begin with none
 --   every-behind      whether every byte passes, by what stands behind the run
 --   blank-all, blank-not     every byte passes exactly where nothing stands behind the run
@@ -66,9 +65,6 @@ module _ (p : ℕ → Bool) where
       go : (t : Bool) → p b ≡ t → begins p (behindRun p s) ≡ false → begins p (if t then behindRun p s else b ∷ s) ≡ false
       go true e f = f
       go false e f = e
-
-  pub behind-twice : (s : List ℕ) → behindRun p (behindRun p s) ≡ behindRun p s
-  behind-twice s = behind-over (behindRun p s) (behind-stops s)
 
   pub run-of : (w r : List ℕ) → every p w ≡ true → begins p r ≡ false → runOf p (w ++ r) ≡ w
   unfolding every

@@ -1,38 +1,41 @@
 -- What is shown of a tree reads back as that tree.
 --
---   Readable d t         the labels of t are tokens, its inner nodes have two children or more, at most d brackets are open at once
+--   Readable d t         the leaves of t are labels, its inner nodes have two children or more, at most d brackets are open at once
 --   symbolsOf t          the symbols of t, as a tree
 --   shown-symbols        what is shown of t has the symbols of t
 --   shown-reading        what is shown of a tree reads back as it
---   NotShown x           the byte x is no label byte, no bracket and no comma
---   shown-lacks          what is shown has no such byte
---   shown-no-semicolon, shown-no-comment     so it has no semicolon, and no comment
+--   shown-made           what holds of nothing, of brackets, commas and labels, and of two runs together, holds of what is shown
+--   shown-closed         quotes are closed behind what is shown
+--   NotShown x           the byte x is no label byte, no apostrophe, no bracket and no comma
+--   shown-hides          such a byte stands in what is shown only in quotes
+--   shown-unended        so no text ends in what is shown
+--   shown-no-comment     and no comment begins in it
 use Prim.Native.Nat.{ℕ, suc, _≤_, _<_}
 use native.Mathlib.Omega.{arith}
 use mathlib.Core.Path.{_≡_, refl, ap, sym, _∙_, subst}
-use mathlib.Core.Logic.{inl, inr, ⊎-elim}
-use mathlib.Core.Bool.{false, true≢false}
+use mathlib.Core.Logic.{inl, inr}
+use mathlib.Core.Bool.{Bool, true, false, _||_}
 use mathlib.Core.List.{List, [], _∷_, _++_, append-assoc, append-nil}
 use mathlib.Core.Option.{some}
-use Rattle.trees.specs.Text.{Symbol, mark, kind, openBracket, closeBracket, comma, token, symbols, symbolsAfter, ended, isLabelByte}
+use lib.Dec.{eqb}
+use Rattle.trees.specs.Plain.{byte}
+use Rattle.trees.specs.Text.{Symbol, mark, kind, kindIn, openBracket, closeBracket, comma, token, symbols, symbolsAfter, ended, isLabelByte, isLabel, apostrophe, turned, openAfter, hasEnd}
 use Rattle.trees.specs.Tree.{Nodes, nil, leaf, inner, beside, width}
 use Rattle.trees.specs.Grammar.{IsNode, IsNodes, is-leaf, is-inner, is-one, is-more, no-length, no-label}
 use Rattle.trees.specs.Reading.{reading}
 use Rattle.trees.specs.Written.{shown, parted}
-use Rattle.theorems.specs.ListLaws.{Mem, mem-cases}
+use Rattle.theorems.specs.ListLaws.{Mem}
 use Rattle.theorems.specs.TextLaws.{byKind, symbols-cons}
 use Rattle.theorems.specs.GrammarLaws.{reading-complete}
-use Rattle.theorems.specs.NameLaws.{LabelBytes, Token, label-kind}
+use Rattle.theorems.specs.QuoteLaws.{open-append}
+use Rattle.theorems.specs.LabelLaws.{outside, outside-append, end-outside, label-closed, label-hides, Ends, ends-nil, ends-mark, label-run}
 
 -- ---- trees that can be read back
 
 pub data Readable : ℕ → Nodes → Type 0 where
   readable-nil : {d : ℕ} → Readable d nil
-  readable-leaf : {d b : ℕ} {w : List ℕ} {r : Nodes} → LabelBytes (b ∷ w) → Readable d r → Readable d (leaf (b ∷ w) r)
+  readable-leaf : {d : ℕ} {w : List ℕ} {r : Nodes} → isLabel w ≡ true → Readable d r → Readable d (leaf w r)
   readable-inner : {d : ℕ} {c r : Nodes} → 2 ≤ width c → Readable d c → Readable (suc d) r → Readable (suc d) (inner c r)
-
-pub readable-token : {d : ℕ} {w : List ℕ} {r : Nodes} → Token w → Readable d r → Readable d (leaf w r)
-readable-token {d} {w} {r} h g = subst (λ x. Readable d (leaf x r)) (sym (h .2)) (readable-leaf {b = h .0} {w = h .1} (h .3) g)
 
 -- ---- the symbols of a tree
 
@@ -52,15 +55,15 @@ symbols-nodes : {d : ℕ} {t : Nodes} → Readable d t → 0 < width t → IsNod
 unfolding symbolsOf partedSymbols width beside
 symbols-nodes readable-nil h = absurd (omega arith)
 symbols-nodes (readable-leaf l readable-nil) h = is-one (is-leaf no-length)
-symbols-nodes (readable-leaf {b = b} {w = w} l (readable-leaf {b = b′} {w = w′} {r = r} l′ g)) h =
-    is-more {ss = token (b ∷ w) ∷ []} {t = leaf (b ∷ w) nil} refl refl (is-leaf no-length) (symbols-nodes (readable-leaf {b = b′} {w = w′} {r = r} l′ g) (omega arith))
-symbols-nodes (readable-leaf {b = b} {w = w} l (readable-inner k g g′)) h =
-    is-more {ss = token (b ∷ w) ∷ []} {t = leaf (b ∷ w) nil} refl refl (is-leaf no-length) (symbols-nodes (readable-inner k g g′) (omega arith))
+symbols-nodes (readable-leaf {w = w} l (readable-leaf {w = w′} {r = r} l′ g)) h =
+    is-more {ss = token w ∷ []} {t = leaf w nil} refl refl (is-leaf no-length) (symbols-nodes (readable-leaf {w = w′} {r = r} l′ g) (omega arith))
+symbols-nodes (readable-leaf {w = w} l (readable-inner k g g′)) h =
+    is-more {ss = token w ∷ []} {t = leaf w nil} refl refl (is-leaf no-length) (symbols-nodes (readable-inner k g g′) (omega arith))
 symbols-nodes (readable-inner {c = c} k g readable-nil) h = is-one (is-inner {ss = symbolsOf c} {l = []} {e = []} refl (symbols-nodes g (omega arith)) k no-label no-length)
-symbols-nodes (readable-inner {c = c} k g (readable-leaf {b = b} {w = w} {r = r} l g′)) h =
+symbols-nodes (readable-inner {c = c} k g (readable-leaf {w = w} {r = r} l g′)) h =
     is-more {ss = openBracket ∷ (symbolsOf c ++ (closeBracket ∷ []))} {t = inner c nil}
-    (ap (λ x. openBracket ∷ x) (sym (append-assoc (symbolsOf c) (closeBracket ∷ []) (comma ∷ symbolsOf (leaf (b ∷ w) r))))) refl
-    (is-inner {ss = symbolsOf c} {l = []} {e = []} refl (symbols-nodes g (omega arith)) k no-label no-length) (symbols-nodes (readable-leaf {b = b} {w = w} {r = r} l g′) (omega arith))
+    (ap (λ x. openBracket ∷ x) (sym (append-assoc (symbolsOf c) (closeBracket ∷ []) (comma ∷ symbolsOf (leaf w r))))) refl
+    (is-inner {ss = symbolsOf c} {l = []} {e = []} refl (symbols-nodes g (omega arith)) k no-label no-length) (symbols-nodes (readable-leaf {w = w} {r = r} l g′) (omega arith))
 symbols-nodes (readable-inner {c = c} k g (readable-inner {c = c′} {r = r} k′ g′ g″)) h =
     is-more {ss = openBracket ∷ (symbolsOf c ++ (closeBracket ∷ []))} {t = inner c nil}
     (ap (λ x. openBracket ∷ x) (sym (append-assoc (symbolsOf c) (closeBracket ∷ []) (comma ∷ symbolsOf (inner c′ r))))) refl
@@ -73,26 +76,8 @@ symbols-node (readable-inner {c = c} k g g′) = is-inner {ss = symbolsOf c} {l 
 
 -- ---- the symbols of what is shown
 
-symbols-label : (v w rest : List ℕ) → LabelBytes w → symbolsAfter v (w ++ rest) ≡ symbolsAfter (v ++ w) rest
-unfolding byKind
-symbols-label v [] rest h = ap (λ x. symbolsAfter x rest) (sym (append-nil v))
-symbols-label v (b ∷ w) rest h =
-    symbols-cons v b (w ++ rest) ∙ ap (λ k. byKind k v b (w ++ rest)) (label-kind b (h .0)) ∙ symbols-label (v ++ (b ∷ [])) w rest (h .1) ∙ ap (λ x. symbolsAfter x rest) (append-assoc v (b ∷ []) w)
-
--- a token ends before this text
-Ends : List ℕ → Type 0
-Ends s = (v : List ℕ) → symbolsAfter v s ≡ ended v (symbols s)
-
-ends-nil : Ends []
-unfolding Ends symbolsAfter
-ends-nil v = refl
-
-ends-mark : (b : ℕ) (m : Symbol) (s : List ℕ) → kind b ≡ mark m → Ends (b ∷ s)
-unfolding Ends byKind
-ends-mark b m s e v = symbols-cons v b s ∙ ap (λ k. byKind k v b s) e ∙ ap (ended v) (sym (symbols-cons [] b s ∙ ap (λ k. byKind k [] b s) e))
-
 symbols-mark : (b : ℕ) (m : Symbol) (s : List ℕ) → kind b ≡ mark m → symbols (b ∷ s) ≡ m ∷ symbols s
-unfolding byKind
+unfolding byKind kindIn openAfter ended
 symbols-mark b m s e = symbols-cons [] b s ∙ ap (λ k. byKind k [] b s) e
 
 comma-kind : kind 44 ≡ mark comma
@@ -110,8 +95,8 @@ close-kind = refl
 parted-ends : (r : Nodes) (s : List ℕ) → Ends s → Ends (parted r (shown r) ++ s)
 unfolding parted shown
 parted-ends nil s h = h
-parted-ends (leaf w r) s h = ends-mark 44 comma (shown (leaf w r) ++ s) comma-kind
-parted-ends (inner c r) s h = ends-mark 44 comma (shown (inner c r) ++ s) comma-kind
+parted-ends (leaf w r) s h = ends-mark 44 (shown (leaf w r) ++ s) comma comma-kind
+parted-ends (inner c r) s h = ends-mark 44 (shown (inner c r) ++ s) comma comma-kind
 
 parted-symbols : (r : Nodes) (s : List ℕ) → symbols (shown r ++ s) ≡ symbolsOf r ++ symbols s → symbols (parted r (shown r) ++ s) ≡ partedSymbols r (symbolsOf r) ++ symbols s
 unfolding parted shown partedSymbols symbolsOf
@@ -122,14 +107,14 @@ parted-symbols (inner c r) s h = symbols-mark 44 comma (shown (inner c r) ++ s) 
 shown-symbols : {d : ℕ} {t : Nodes} → Readable d t → (s : List ℕ) → Ends s → symbols (shown t ++ s) ≡ symbolsOf t ++ symbols s
 unfolding shown symbolsOf Ends
 shown-symbols readable-nil s h = refl
-shown-symbols (readable-leaf {b = b} {w = w} {r = r} l g) s h =
-    ap symbols (append-assoc (b ∷ w) (parted r (shown r)) s) ∙ symbols-label [] (b ∷ w) (parted r (shown r) ++ s) l
-    ∙ parted-ends r s h (b ∷ w) ∙ ap (λ x. token (b ∷ w) ∷ x) (parted-symbols r s (shown-symbols g s h))
+shown-symbols (readable-leaf {w = w} {r = r} l g) s h =
+    ap symbols (append-assoc w (parted r (shown r)) s) ∙ label-run w (parted r (shown r) ++ s) l (parted-ends r s h)
+    ∙ ap (λ x. token w ∷ x) (parted-symbols r s (shown-symbols g s h))
 shown-symbols (readable-inner {c = c} {r = r} k g g′) s h =
     symbols-mark 40 openBracket ((shown c ++ (41 ∷ parted r (shown r))) ++ s) open-kind
     ∙ ap (λ x. openBracket ∷ symbols x) (append-assoc (shown c) (41 ∷ parted r (shown r)) s)
     ∙ ap (λ x. openBracket ∷ x)
-    (shown-symbols g (41 ∷ (parted r (shown r) ++ s)) (ends-mark 41 closeBracket (parted r (shown r) ++ s) close-kind)
+    (shown-symbols g (41 ∷ (parted r (shown r) ++ s)) (ends-mark 41 (parted r (shown r) ++ s) closeBracket close-kind)
     ∙ ap (λ x. symbolsOf c ++ x) (symbols-mark 41 closeBracket (parted r (shown r) ++ s) close-kind ∙ ap (λ x. closeBracket ∷ x) (parted-symbols r s (shown-symbols g′ s h)))
     ∙ sym (append-assoc (symbolsOf c) (closeBracket ∷ partedSymbols r (symbolsOf r)) (symbols s)))
 
@@ -141,46 +126,86 @@ shown-reading c g =
     reading-complete (shown (inner c nil)) (inner c nil)
     (subst (λ x. IsNode 63 x (inner c nil)) (sym (ap symbols (sym (append-nil (shown (inner c nil)))) ∙ shown-symbols g [] ends-nil ∙ append-nil (symbolsOf (inner c nil)))) (symbols-node g))
 
--- ---- bytes that are not shown
+-- ---- what holds of what is shown
 
--- no label byte, no bracket and no comma
+module _ (P : List ℕ → Type 0) (none : P []) (marks : (b : ℕ) → Mem b (40 ∷ 41 ∷ 44 ∷ []) → P (b ∷ []))
+    (labels : (w : List ℕ) → isLabel w ≡ true → P w) (joined : (s t : List ℕ) → P s → P t → P (s ++ t)) where
+  parted-made : (r : Nodes) → P (shown r) → P (parted r (shown r))
+  unfolding parted
+  parted-made nil h = h
+  parted-made (leaf w r) h = joined (44 ∷ []) (shown (leaf w r)) (marks 44 (inr (inr (inl refl)))) h
+  parted-made (inner c r) h = joined (44 ∷ []) (shown (inner c r)) (marks 44 (inr (inr (inl refl)))) h
+
+  pub shown-made : {d : ℕ} {t : Nodes} → Readable d t → P (shown t)
+  unfolding shown
+  shown-made readable-nil = none
+  shown-made (readable-leaf {w = w} {r = r} l g) = joined w (parted r (shown r)) (labels w l) (parted-made r (shown-made g))
+  shown-made (readable-inner {c = c} {r = r} k g g′) =
+      joined (40 ∷ []) (shown c ++ (41 ∷ parted r (shown r))) (marks 40 (inl refl))
+      (joined (shown c) (41 ∷ parted r (shown r)) (shown-made g) (joined (41 ∷ []) (parted r (shown r)) (marks 41 (inr (inl refl))) (parted-made r (shown-made g′))))
+
+-- ---- bytes that stand in quotes alone
+
 pub record NotShown (x : ℕ) : Type 0 where
   pub no-label-byte : isLabelByte x ≡ false
-  pub no-open : x ≡ 40 → ⊥
-  pub no-close : x ≡ 41 → ⊥
-  pub no-comma : x ≡ 44 → ⊥
+  pub no-quote : eqb apostrophe x ≡ false
+  pub no-open : eqb 40 x ≡ false
+  pub no-close : eqb 41 x ≡ false
+  pub no-comma : eqb 44 x ≡ false
+
+marks-closed : (b : ℕ) → Mem b (40 ∷ 41 ∷ 44 ∷ []) → turned false b ≡ false
+unfolding turned
+marks-closed b (inl e) = ap (turned false) e
+marks-closed b (inr (inl e)) = ap (turned false) e
+marks-closed b (inr (inr (inl e))) = ap (turned false) e
+
+-- quotes closed behind two runs
+closed-joined : (s t : List ℕ) → openAfter false s ≡ false → openAfter false t ≡ false → openAfter false (s ++ t) ≡ false
+closed-joined s t h k = open-append false s t ∙ ap (λ (q : Bool). openAfter q t) h ∙ k
+
+pub shown-closed : {d : ℕ} {t : Nodes} → Readable d t → openAfter false (shown t) ≡ false
+unfolding openAfter
+shown-closed g = shown-made (λ s. openAfter false s ≡ false) refl marks-closed label-closed closed-joined g
 
 module _ (x : ℕ) (n : NotShown x) where
-  label-lacks : (w : List ℕ) → LabelBytes w → Mem x w → ⊥
-  label-lacks (b ∷ w) h (inl e) = true≢false (sym (ap isLabelByte e ∙ h .0) ∙ n .no-label-byte)
-  label-lacks (b ∷ w) h (inr k) = label-lacks w (h .1) k
+  -- quotes closed behind s, and no byte x outside them
+  Hides : List ℕ → Type 0
+  Hides s = (openAfter false s ≡ false) × (outside x false s ≡ false)
 
-  parted-lacks : (r : Nodes) → (Mem x (shown r) → ⊥) → Mem x (parted r (shown r)) → ⊥
-  unfolding parted
-  parted-lacks nil f h = f h
-  parted-lacks (leaf w r) f (inl e) = n .no-comma e
-  parted-lacks (leaf w r) f (inr h) = f h
-  parted-lacks (inner c r) f (inl e) = n .no-comma e
-  parted-lacks (inner c r) f (inr h) = f h
+  hides-joined : (s t : List ℕ) → Hides s → Hides t → Hides (s ++ t)
+  unfolding Hides
+  hides-joined s t h k = (
+    closed-joined s t (h .0) (k .0),
+    outside-append x false s t ∙ ap (λ (o : Bool). o || outside x (openAfter false s) t) (h .1) ∙ ap (λ (q : Bool). outside x q t) (h .0) ∙ k .1,
+  )
 
-  pub shown-lacks : {d : ℕ} {t : Nodes} → Readable d t → Mem x (shown t) → ⊥
-  unfolding shown
-  shown-lacks readable-nil h = h
-  shown-lacks (readable-leaf {b = b} {w = w} {r = r} l g) h = ⊎-elim (label-lacks (b ∷ w) l) (parted-lacks r (shown-lacks g)) (mem-cases x (b ∷ w) (parted r (shown r)) h)
-  shown-lacks (readable-inner {c = c} {r = r} k g g′) (inl e) = n .no-open e
-  shown-lacks (readable-inner {c = c} {r = r} k g g′) (inr h) =
-      ⊎-elim (shown-lacks g) (λ m. ⊎-elim (n .no-close) (parted-lacks r (shown-lacks g′)) m) (mem-cases x (shown c) (41 ∷ parted r (shown r)) h)
+  other-mark : (b : ℕ) → Mem b (40 ∷ 41 ∷ 44 ∷ []) → eqb b x ≡ false
+  other-mark b (inl e) = ap (λ (y : ℕ). eqb y x) e ∙ n .no-open
+  other-mark b (inr (inl e)) = ap (λ (y : ℕ). eqb y x) e ∙ n .no-close
+  other-mark b (inr (inr (inl e))) = ap (λ (y : ℕ). eqb y x) e ∙ n .no-comma
 
-semicolon-not-shown : NotShown 59
+  hides-mark : (b : ℕ) → Mem b (40 ∷ 41 ∷ 44 ∷ []) → Hides (b ∷ [])
+  unfolding Hides openAfter outside
+  hides-mark b m = (marks-closed b m, ap (λ (o : Bool). o || false) (other-mark b m))
+
+  hides-label : (w : List ℕ) → isLabel w ≡ true → Hides w
+  unfolding Hides
+  hides-label w e = (label-closed w e, label-hides x (n .no-label-byte) (n .no-quote) w e)
+
+  pub shown-hides : {d : ℕ} {t : Nodes} → Readable d t → outside x false (shown t) ≡ false
+  unfolding Hides openAfter outside
+  shown-hides g = shown-made Hides (refl, refl) hides-mark hides-label hides-joined g .1
+
+semicolon-not-shown : NotShown (byte ";")
 unfolding isLabelByte
-semicolon-not-shown = record { no-label-byte = refl; no-open = λ e. omega arith; no-close = λ e. omega arith; no-comma = λ e. omega arith }
+semicolon-not-shown = record { no-label-byte = refl; no-quote = refl; no-open = refl; no-close = refl; no-comma = refl }
 
-bracket-not-shown : NotShown 91
+bracket-not-shown : NotShown (byte "[")
 unfolding isLabelByte
-bracket-not-shown = record { no-label-byte = refl; no-open = λ e. omega arith; no-close = λ e. omega arith; no-comma = λ e. omega arith }
+bracket-not-shown = record { no-label-byte = refl; no-quote = refl; no-open = refl; no-close = refl; no-comma = refl }
 
-pub shown-no-semicolon : {d : ℕ} {t : Nodes} → Readable d t → Mem 59 (shown t) → ⊥
-shown-no-semicolon g = shown-lacks 59 semicolon-not-shown g
+pub shown-unended : {d : ℕ} {t : Nodes} → Readable d t → hasEnd false (shown t) ≡ false
+shown-unended {t = t} g = end-outside false (shown t) ∙ shown-hides (byte ";") semicolon-not-shown g
 
-pub shown-no-comment : {d : ℕ} {t : Nodes} → Readable d t → Mem 91 (shown t) → ⊥
-shown-no-comment g = shown-lacks 91 bracket-not-shown g
+pub shown-no-comment : {d : ℕ} {t : Nodes} → Readable d t → outside (byte "[") false (shown t) ≡ false
+shown-no-comment g = shown-hides (byte "[") bracket-not-shown g

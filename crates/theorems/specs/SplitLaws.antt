@@ -16,6 +16,7 @@ use lib.ListN.{length}
 use Rattle.trees.specs.Plain.{if_then_else_, every, sameBytes}
 use Rattle.trees.specs.Mask.{everyTaxon, agree, side, proper}
 use Rattle.trees.specs.Tree.{Nodes, nil, leaf, inner, children}
+use Rattle.trees.specs.Text.{readAs}
 use Rattle.trees.specs.Names.{taxonFrom, taxonOf}
 use Rattle.trees.specs.Splits.{bitOf, taxon, taxa, clusters, insert, counted, splitsOf}
 use Rattle.trees.specs.Whole.{agreeInPairs, goodTree}
@@ -41,11 +42,11 @@ taxon-named ns w i e = ap bitOf e
 
 pub taxon-sub : (ns : List (List ℕ)) (w : List ℕ) → Sub (taxon ns w) (everyTaxon (length ns))
 unfolding taxon taxonOf
-taxon-sub ns w = go (taxonFrom 0 ns w) refl
+taxon-sub ns w = go (taxonFrom 0 ns (readAs w)) refl
   where
-    go : (o : Option ℕ) → taxonFrom 0 ns w ≡ o → Sub (bitOf o) (everyTaxon (length ns))
+    go : (o : Option ℕ) → taxonFrom 0 ns (readAs w) ≡ o → Sub (bitOf o) (everyTaxon (length ns))
     go none e i h = absurd (off-zero i h)
-    go (some j) e i h = every-on (length ns) i (omega (arith, taxonFrom-below ns 0 w j e, only-on j i h))
+    go (some j) e i h = every-on (length ns) i (omega (arith, taxonFrom-below ns 0 (readAs w) j e, only-on j i h))
 
 or-sub : (a b r : ℕ) → Sub a r → Sub b r → Sub (bitOr a b) r
 or-sub a b r f g i h = ⊎-elim (λ n. g i (or-on a b i h n)) (λ o. f i o) (on? a i)

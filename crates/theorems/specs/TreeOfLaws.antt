@@ -9,10 +9,9 @@ use lib.Pow.{pow-pos}
 use mathlib.Core.Path.{_≡_, refl, sym, subst}
 use mathlib.Core.Logic.{_⊎_, inl, inr}
 use mathlib.Core.Bool.{Bool, true, false}
-use mathlib.Core.List.{List, []}
+use mathlib.Core.List.{List}
 use lib.Dec.{eqb}
 use lib.Bits.{bitXor}
-use lib.ListN.{getD}
 use borrow.Author.Tests.{eqb-true, eqb-false}
 use Rattle.trees.specs.Mask.{everyTaxon, without, lowest}
 use Rattle.trees.specs.Tree.{Nodes, nil, leaf, inner}
@@ -24,13 +23,13 @@ use Rattle.theorems.specs.BitLaws.{On, Sub, sub-le, less-sub, less-lt}
 use Rattle.theorems.specs.MaskLaws.{without-sub}
 use Rattle.theorems.specs.WidestLaws.{Fit, lowest-on, widest-from, widest-top}
 use Rattle.theorems.specs.ProperLaws.{proper-sub}
-use Rattle.theorems.specs.BranchLaws.{Closed, Done, on-pos, split-proper, closed-self, nil-done, leaf-within, leaf-closed, leaf-done, inner-within, inner-closed, inner-done}
+use Rattle.theorems.specs.BranchLaws.{labelOf, Closed, Done, on-pos, split-proper, closed-self, nil-done, leaf-within, leaf-closed, leaf-done, inner-within, inner-closed, inner-done}
 
 -- ---- one step: nothing, a leaf, or an inner node
 
 abbrev pub branchesBy : Bool → Bool → ℕ → List (List ℕ) → List ℕ → ℕ → ℕ → ℕ → ℕ → Nodes
 branchesBy true c f ns s m r i x = nil
-branchesBy false true f ns s m r i x = leaf (getD ns i []) (branches f ns s m (without r (2 ^ i)))
+branchesBy false true f ns s m r i x = leaf (labelOf ns i) (branches f ns s m (without r (2 ^ i)))
 branchesBy false false f ns s m r i x = inner (branches f ns s x x) (branches f ns s m (without r x))
 
 pub branches-step : (f : ℕ) (ns : List (List ℕ)) (s : List ℕ) (m r : ℕ)
@@ -43,7 +42,7 @@ branches-step f ns s m r = go (eqb r 0) (eqb (widest m (lowest r) s) 0)
           | true ↦ nil
           | false ↦
               elim c as (λ _. Nodes) [
-                | true ↦ leaf (getD ns (lowest r) []) (branches f ns s m (without r (2 ^ lowest r)))
+                | true ↦ leaf (labelOf ns (lowest r)) (branches f ns s m (without r (2 ^ lowest r)))
                 | false ↦ inner (branches f ns s (widest m (lowest r) s) (widest m (lowest r) s)) (branches f ns s m (without r (widest m (lowest r) s)))
               ]
         ] ≡ branchesBy b c f ns s m r (lowest r) (widest m (lowest r) s)
@@ -65,7 +64,7 @@ module _ (n : ℕ) (ns : List (List ℕ)) (s : List ℕ) (names : goodNames n ns
       (ih m (bitXor r x) (omega (arith, less-lt r x wi p)) (λ j a. rm j (less-sub r x wi j a)) (λ j a. rn j (less-sub r x wi j a)) cl)
 
   module _ (f m r i x : ℕ) (ih : Made f) (h : m + r < suc f) (rm : Sub r m) (rn : Sub r (everyTaxon n)) (cl : Closed s m r) (oi : On r i) (top : (y : ℕ) → Mem y s → Fit m i y → y ≤ x) where
-    made-leaf : x ≡ 0 → Done ns s m r (leaf (getD ns i []) (branches f ns s m (without r (2 ^ i))))
+    made-leaf : x ≡ 0 → Done ns s m r (leaf (labelOf ns i) (branches f ns s m (without r (2 ^ i))))
     made-leaf z = leaf-done n ns s names good m r i oi nofit cl (branches f ns s m (without r (2 ^ i))) rn (made-rest f m r (2 ^ i) ih h rm rn (leaf-within n ns s names good m r i oi nofit cl) (pow-pos i) (leaf-closed n ns s names good m r i oi nofit cl))
       where
         nofit : (y : ℕ) → Mem y s → Fit m i y → ⊥

@@ -3,21 +3,24 @@
 --   tree-has-splits            the tree made of splits has exactly these splits
 --   majority-tree-splits, strict-tree-splits     so the consensus trees have exactly the consensus splits
 --   written-tree-reads-back    the verdict on what is written gives the splits that it was written from
---   written-no-semicolon, written-no-comment   without its semicolon it has no semicolon and no comment
---   written-before-semicolon   so what is written, up to its semicolon, is what is shown
---   written-short              35 bytes for each of n taxa, less 4, are enough
---   written-length             so at most 2,236 bytes are written
+--   written-readable           what is shown of it can be read back
+--   written-closed, written-unended     without its semicolon: quotes are closed behind it, and no text ends in it
+--   written-no-comment         nor does a comment begin in it
+--   written-before-end         so what is written, up to its end, is what is shown
+--   written-short              68 bytes for each of n taxa, less 3, are enough
+--   written-length             so at most 4,349 bytes are written
 use Prim.Native.Nat.{ℕ, zero, suc, _+_, _*_, _≤_, _<_}
 use native.Mathlib.Omega.{arith}
-use mathlib.Core.Path.{_≡_, refl, ap, sym, _∙_, subst}
+use mathlib.Core.Path.{_≡_, ap, sym, _∙_, subst}
 use mathlib.Core.Logic.{_⊎_, inl, inr}
-use mathlib.Core.Bool.{true}
+use mathlib.Core.Bool.{true, false}
 use mathlib.Core.List.{List, [], _∷_, _++_}
 use mathlib.Core.Option.{none, some}
 use lib.Count.{ones}
 use lib.ListN.{length, length-append}
-use borrow.Author.Tests.{eq-eqb, ne-eqb}
-use Rattle.trees.specs.Plain.{Answer, refused, gives}
+use borrow.Author.Tests.{eq-eqb}
+use Rattle.trees.specs.Plain.{byte, Answer, refused, gives}
+use Rattle.trees.specs.Text.{openAfter, hasEnd, beforeEnd}
 use Rattle.trees.specs.Mask.{everyTaxon, side, proper}
 use Rattle.trees.specs.Tree.{Nodes, nil, inner, children, leaves, width}
 use Rattle.trees.specs.Reading.{reading}
@@ -26,19 +29,21 @@ use Rattle.trees.specs.Splits.{clusters, counted, splitsOf}
 use Rattle.trees.specs.Verdict.{leafFault, judgedTree, judged}
 use Rattle.trees.specs.Consensus.{strict, majority}
 use Rattle.trees.specs.Written.{branches, treeOf, shown, parted, written}
-use Rattle.trees.specs.Held.{beforeSemicolon}
 use Rattle.trees.specs.Whole.{goodTree}
-use Rattle.theorems.specs.ListLaws.{if-true, if-false, Mem}
+use Rattle.theorems.specs.ListLaws.{if-true, Mem}
 use Rattle.theorems.specs.RisingLaws.{rising-true, rising-same}
+use Rattle.theorems.specs.QuoteLaws.{before-end}
+use Rattle.theorems.specs.LabelLaws.{outside}
+use Rattle.theorems.specs.WrittenNameLaws.{quotesAt}
 use Rattle.theorems.specs.BitLaws.{On, off-zero, sub-le}
 use Rattle.theorems.specs.OnesLaws.{ones-lt}
 use Rattle.theorems.specs.MaskLaws.{every-on, side-even}
 use Rattle.theorems.specs.SplitLaws.{cluster-sub, counted-mem, mem-counted, counted-rising}
 use Rattle.theorems.specs.ConsensusLaws.{AllGood, good-rising, majority-good, strict-good}
 use Rattle.theorems.specs.NameLaws.{good-count}
-use Rattle.theorems.specs.ShownLaws.{Readable, readable-nil, readable-inner, shown-reading, shown-no-semicolon, shown-no-comment}
+use Rattle.theorems.specs.ShownLaws.{Readable, readable-nil, readable-inner, shown-reading, shown-closed, shown-unended, shown-no-comment}
 use Rattle.theorems.specs.ProperLaws.{every-ones, one-taxon, proper-even, proper-two, proper-most, proper-sub}
-use Rattle.theorems.specs.BranchLaws.{Done, split-proper, parted-length}
+use Rattle.theorems.specs.BranchLaws.{extra-most, Done, split-proper, parted-length}
 use Rattle.theorems.specs.TreeOfLaws.{branches-done}
 
 -- ---- the verdict on a text that is read and has no faulty leaf
@@ -48,14 +53,6 @@ unfolding judged judgedTree
 judged-gives ns w t e z =
     ap (λ o. elim o as (λ _. Answer (List ℕ)) [ none ↦ refused 7 | some u ↦ judgedTree ns u ]) e
     ∙ ap (λ (k : ℕ). elim k as (λ _. Answer (List ℕ)) [ zero ↦ gives (splitsOf ns t) | suc k ↦ refused (suc k) ]) z
-
--- ---- a text and its semicolon
-
-pub before-semicolon : (w : List ℕ) → (Mem 59 w → ⊥) → beforeSemicolon (w ++ 59 ∷ []) ≡ w
-unfolding beforeSemicolon
-before-semicolon [] f = refl
-before-semicolon (b ∷ w) f =
-    if-false [] (b ∷ beforeSemicolon (w ++ 59 ∷ [])) (ne-eqb b 59 (λ e. f (inl (sym e)))) ∙ ap (λ x. b ∷ x) (before-semicolon w (λ h. f (inr h)))
 
 -- two brackets and a semicolon
 bracketed-length : (c : Nodes) → length (shown (inner c nil) ++ 59 ∷ []) ≡ length (shown c) + 3
@@ -130,17 +127,23 @@ module _ (n : ℕ) (ns : List (List ℕ)) (s : List ℕ) (names : goodNames n ns
   pub written-tree-reads-back : 2 ≤ n → n ≤ 64 → judged ns (shown (treeOf ns s)) ≡ gives s
   written-tree-reads-back h l = judged-gives ns (shown (treeOf ns s)) (treeOf ns s) (tree-reading h l) tree-faultless ∙ ap gives tree-has-splits
 
-  -- ---- its one semicolon ends it
+  -- ---- its last semicolon ends it
 
-  pub written-no-semicolon : 2 ≤ n → Mem 59 (shown (treeOf ns s)) → ⊥
-  written-no-semicolon h m = shown-no-semicolon (root-readable h n (omega arith)) (subst (λ t. Mem 59 (shown t)) tree-root m)
+  pub written-readable : 2 ≤ n → Readable (suc n) (treeOf ns s)
+  written-readable h = subst (Readable (suc n)) (sym tree-root) (root-readable h n (omega arith))
 
-  pub written-no-comment : 2 ≤ n → Mem 91 (shown (treeOf ns s)) → ⊥
-  written-no-comment h m = shown-no-comment (root-readable h n (omega arith)) (subst (λ t. Mem 91 (shown t)) tree-root m)
+  pub written-closed : 2 ≤ n → openAfter false (shown (treeOf ns s)) ≡ false
+  written-closed h = shown-closed (written-readable h)
 
-  pub written-before-semicolon : 2 ≤ n → beforeSemicolon (written ns s) ≡ shown (treeOf ns s)
+  pub written-unended : 2 ≤ n → hasEnd false (shown (treeOf ns s)) ≡ false
+  written-unended h = shown-unended (written-readable h)
+
+  pub written-no-comment : 2 ≤ n → outside (byte "[") false (shown (treeOf ns s)) ≡ false
+  written-no-comment h = shown-no-comment (written-readable h)
+
+  pub written-before-end : 2 ≤ n → beforeEnd false (written ns s) ≡ shown (treeOf ns s)
   unfolding written
-  written-before-semicolon h = before-semicolon (shown (treeOf ns s)) (written-no-semicolon h)
+  written-before-end h = before-end [] false (shown (treeOf ns s)) (written-unended h) (written-closed h)
 
   -- ---- its length
 
@@ -151,12 +154,12 @@ module _ (n : ℕ) (ns : List (List ℕ)) (s : List ℕ) (names : goodNames n ns
   root-three : 3 ≤ n → 3 ≤ width (rootBranches n ns s)
   root-three h = done .wide .three (omega (arith, every-ones n)) (every-on n 0 (omega arith)) (λ y m. omega (arith, split-ones y m, every-ones n))
 
-  pub written-short : 3 ≤ n → length (written ns s) + 4 ≤ 35 * n
+  pub written-short : 3 ≤ n → length (written ns s) + 3 ≤ 68 * n
   written-short h =
       let w = root-three h in
-      omega (arith, written-bytes, parted-length (rootBranches n ns s) (shown (rootBranches n ns s)) (omega arith), done .short, every-ones n)
+      omega (arith, written-bytes, parted-length (rootBranches n ns s) (shown (rootBranches n ns s)) (omega arith), done .short, every-ones n, extra-most (quotesAt ns) (everyTaxon n))
 
-  pub written-length : 3 ≤ n → n ≤ 64 → length (written ns s) ≤ 2236
+  pub written-length : 3 ≤ n → n ≤ 64 → length (written ns s) ≤ 4349
   written-length h l = omega (arith, written-short h)
 
 -- ---- the consensus trees

@@ -8,7 +8,7 @@ use libc::STDOUT_FILENO;
 pub(crate) fn write_answers(
     names: &[u8],
     texts: &[u8],
-    s: &mut [u8; 253960],
+    s: &mut [u8; 254472],
     matrix: &mut [u16; 1048576],
 ) {
     opened::open(s, names);
@@ -40,8 +40,8 @@ fn write_matrix(s: &[u8], matrix: &mut [u16]) {
 
 // Both consensus trees.
 fn write_consensus(s: &[u8]) {
-    let mut strict = [0u8; 4096];
-    let mut majority = [0u8; 4096];
+    let mut strict = [0u8; 4352];
+    let mut majority = [0u8; 4352];
     let lengths = consensus::both(s, &mut strict, &mut majority);
     let Both::Gives(a, b) = lengths else {
         return;

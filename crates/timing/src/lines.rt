@@ -39,7 +39,7 @@ pub(crate) fn first_byte(line: &[u8]) -> u8 {
     line[0]
 }
 
-// How many names a line of names has, one more than its spaces; 65 stands for any number above 64.
+// How many names a line of names without quotes has, one more than its spaces; 65 stands for any number above 64.
 pub(crate) fn count_names(names: &[u8]) -> u32 {
     let mut n = 1u32;
     let mut i = 0;

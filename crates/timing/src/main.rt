@@ -1,5 +1,5 @@
 // Makes the library's calls on a whole collection, for bench/run. Input: a line that says what is wanted, a line of names, then texts or
-// a NEXUS file.
+// a NEXUS file, all without quotes.
 // For the line `answers` every call is made once, and what they answered is written. For a line `PART N` the collection is filled, a part
 // is made N times, and the nanoseconds of one time are written. docs/BENCH.md says what the parts are.
 mod answered;
@@ -47,7 +47,7 @@ fn take_names(wanted: &[u8], input: &[u8]) {
 
 // Makes the calls that are wanted.
 fn make_calls(wanted: &[u8], names: &[u8], texts: &[u8]) {
-    let mut store = [0u8; 253960];
+    let mut store = [0u8; 254472];
     let mut matrix = [0u16; 1048576];
     let part = lines::first_byte(wanted);
     if part == b'a' {

@@ -9,7 +9,7 @@ pub(crate) fn time_part(
     n: u64,
     names: &[u8],
     texts: &[u8],
-    s: &mut [u8; 253960],
+    s: &mut [u8; 254472],
     matrix: &mut [u16; 1048576],
 ) -> u64 {
     opened::fill(s, names, texts);
@@ -27,7 +27,7 @@ fn make_part(
     part: u8,
     names: &[u8],
     texts: &[u8],
-    s: &mut [u8; 253960],
+    s: &mut [u8; 254472],
     matrix: &mut [u16; 1048576],
 ) {
     match part {
@@ -42,7 +42,7 @@ fn make_part(
 }
 
 // Both consensus trees; a text that a full collection refuses with 11; the test that every call makes first; or a plain pass over the store.
-fn ask(part: u8, texts: &[u8], s: &mut [u8; 253960]) {
+fn ask(part: u8, texts: &[u8], s: &mut [u8; 254472]) {
     match part {
         b'c' => write_both(s),
         b'f' => {
@@ -55,30 +55,30 @@ fn ask(part: u8, texts: &[u8], s: &mut [u8; 253960]) {
 
 // Both consensus trees.
 fn write_both(s: &[u8]) {
-    let mut strict = [0u8; 4096];
-    let mut majority = [0u8; 4096];
+    let mut strict = [0u8; 4352];
+    let mut majority = [0u8; 4352];
     consensus::both(s, &mut strict, &mut majority);
 }
 
 // The test that every call makes first. A byte that no lane holds is written, so that the compiler cannot make one of many.
-fn test(s: &mut [u8; 253960]) {
+fn test(s: &mut [u8; 254472]) {
     if store::is_whole(s) {
         s[5000] = 1;
     }
 }
 
 // A plain pass over the store, which writes a byte as the test does.
-fn pass(s: &mut [u8; 253960]) {
+fn pass(s: &mut [u8; 254472]) {
     if word_sum(s) != 0 {
         s[5000] = 1;
     }
 }
 
 // The sum of the store's words, modulo 2^64.
-fn word_sum(s: &[u8; 253960]) -> u64 {
+fn word_sum(s: &[u8; 254472]) -> u64 {
     let mut sum = 0u64;
     let mut i = 0;
-    while i < 31745 {
+    while i < 31809 {
         sum = std::num::wrapping_add_u64(sum, fields::get64(s, 8 * i));
         i += 1;
     }

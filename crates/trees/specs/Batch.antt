@@ -1,6 +1,6 @@
 -- A piece with many texts, fed in one call.
 --
---   semicolons p          how many texts the piece p ends
+--   textsIn q p           how many texts the piece p ends; q: whether quotes are open before it
 --   verdictNumber a       a verdict as a number: the refusal's, or 256 more than the tree's
 --   isRefusal v           the verdict v is a refusal's number
 --   noneAccepted vs       so are all the verdicts vs
@@ -10,15 +10,18 @@
 use Prim.Native.Nat.{ℕ, zero, suc, _+_}
 use mathlib.Core.Bool.{Bool}
 use mathlib.Core.List.{List, [], _∷_}
-use lib.Dec.{ltb, eqb}
+use lib.Dec.{ltb}
 use lib.ListN.{length, drop}
-use Rattle.trees.specs.Plain.{if_then_else_, every, keep, Answer, refused, gives}
-use Rattle.trees.specs.Text.{semicolon}
-use Rattle.trees.specs.Held.{Held, Progress, moreWanted, accepted, feeding}
+use Rattle.trees.specs.Plain.{if_then_else_, every, Answer, refused, gives}
+use Rattle.trees.specs.Text.{turned, endsText}
+use Rattle.trees.specs.Held.{Held, Progress, moreWanted, accepted, laneOf, openIn, feeding}
 
-unfoldable pub semicolons : List ℕ → ℕ
-unfolding keep
-semicolons p = length (keep (eqb semicolon) p)
+unfoldable pub textsIn : Bool → List ℕ → ℕ
+unfolding endsText turned
+textsIn q [] = 0
+textsIn q (b ∷ p) =
+    let n = textsIn (turned q b) p in
+    if endsText q b then suc n else n
 
 -- refusals are below 256
 unfoldable pub verdictNumber : Answer Progress → ℕ
@@ -51,8 +54,9 @@ batching (suc n) h l p =
 
 -- 5: "no such lane"; 4: "a lent buffer is too short for the whole answer", before anything is taken
 unfoldable pub batch : Held → ℕ → List ℕ → ℕ → Answer Batched
-unfolding semicolons batching
+unfolding laneOf openIn textsIn batching
 batch h l p room =
+    let n = textsIn (openIn (laneOf h l)) p in
     if ltb l (h .opening .numbers .lanes) then
-    if ltb room (semicolons p) then refused 4 else gives (batching (semicolons p) h l p)
+    if ltb room n then refused 4 else gives (batching n h l p)
     else refused 5

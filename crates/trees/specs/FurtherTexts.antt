@@ -1,7 +1,7 @@
--- Further samples, of our own: the rules of document 01 about texts, splits and trees that S1 to S14 do not reach, each on a small text.
+-- Further samples, of our own: the rules of document 01 and of request 2026-02 about texts, splits and trees that S1 to S14 do not reach, each on a small text.
 --
 --   texts        texts and masks, in the form of the samples' table
---   blanks-are, label-bytes-are     every blank, and every label byte
+--   blanks-are, label-bytes-are, quoted-bytes-are     every blank, every label byte, and every byte that may stand in quotes
 --   lengths      tokens that are lengths, and tokens that are not
 --   nestings     63 brackets open at once, and 64
 --   masks-hold   sets of taxa, as masks
@@ -15,7 +15,7 @@ use mathlib.Core.Option.{Option, none, some}
 use mathlib.Core.Path.{_≡_, refl}
 use Rattle.trees.specs.Plain.{keep, bytes}
 use Rattle.trees.specs.Mask.{has, onesBelow, everyTaxon, without, apart, within, side, proper, lowest}
-use Rattle.trees.specs.Text.{isBlank, isLabelByte}
+use Rattle.trees.specs.Text.{isBlank, isLabelByte, isQuotedByte}
 use Rattle.trees.specs.Length.{isLength}
 use Rattle.trees.specs.Tree.{Nodes, nesting}
 use Rattle.trees.specs.Reading.{reading}
@@ -40,7 +40,23 @@ unfolding bytes
 texts =
     record { name = "blanks, lengths and inner labels"; asked = the-splits AtoE " ( (A:-1.5e+3 ,B:.5)x:1. , C , \t (D,E)\r\n:7)y:1e0 ;"; says = has-splits (24 ∷ 28 ∷ []) }
     ∷ record { name = "label bytes at the ends"; asked = the-splits "! ~ C D" "((!,~),C,D);"; says = has-splits (12 ∷ []) }
-    ∷ record { name = "an underscore is a byte like any other"; asked = the-splits "A_B A-B C D" "((A_B,C),A-B,D);"; says = has-splits (10 ∷ []) }
+    ∷ record { name = "an underscore is a blank"; asked = the-splits "A_B A-B C D" "(('A B',C),A-B,D);"; says = has-splits (10 ∷ []) }
+    ∷ record { name = "and a label in quotes is taken as it is"; asked = the-splits "A_B 'A_B' C D" "(('A_B',C),A_B,D);"; says = has-splits (6 ∷ []) }
+    ∷ record { name = "L._lactis_12 and 'L. lactis 12'"; asked = the-splits "'L. lactis 12' B C D" "((L._lactis_12,B),C,D);"; says = has-splits (12 ∷ []) }
+    ∷ record { name = "an underscore alone is a blank, and a name"; asked = the-splits "_ B C D" "((' ',B),C,D);"; says = has-splits (12 ∷ []) }
+    ∷ record { name = "two quotes mean one"; asked = the-splits "'it''s' '''' C D" "(('it''s',C),'''',D);"; says = has-splits (10 ∷ []) }
+    ∷ record { name = "marks and a semicolon in quotes"; asked = the-splits "'(a,b);' '[c:d]' C D" "(('(a,b);',C),'[c:d]',D);"; says = has-splits (10 ∷ []) }
+    ∷ record { name = "a quoted label alike but for a quote"; asked = the-verdict "'A''' B C D" "(A,B,C,D);"; says = is 8 }
+    ∷ record { name = "an unquoted label is no name with an underscore"; asked = the-verdict "'A_B' B C D" "(A_B,B,C,D);"; says = is 8 }
+    ∷ record { name = "a quoted inner label, and blanks around quotes"; asked = the-splits AtoE "(( 'A' ,B)'x (y)':1,C,D,E)'z';"; says = has-splits (28 ∷ []) }
+    ∷ record { name = "an empty quoted label"; asked = the-verdict AtoE "(A,B,C,D,'');"; says = is 7 }
+    ∷ record { name = "an empty quoted inner label"; asked = the-verdict AtoE "((A,B)'',C,D,E);"; says = is 7 }
+    ∷ record { name = "a label behind a quoted one"; asked = the-verdict AtoE "('A'B,C,D,E);"; says = is 7 }
+    ∷ record { name = "a quoted label behind another"; asked = the-verdict AtoE "(A'B',C,D,E);"; says = is 7 }
+    ∷ record { name = "two quoted labels"; asked = the-verdict AtoE "('A' 'B',C,D,E);"; says = is 7 }
+    ∷ record { name = "a quoted length"; asked = the-verdict AtoE "(A:'1',B,C,D,E);"; says = is 7 }
+    ∷ record { name = "a quote at a length"; asked = the-verdict AtoE "(A:1'1',B,C,D,E);"; says = is 7 }
+    ∷ record { name = "a tab in quotes"; asked = the-verdict AtoE "('A\t',B,C,D,E);"; says = is 7 }
     ∷ record { name = "names that begin alike"; asked = the-splits "AB A ABC B" "((A,AB),ABC,B);"; says = has-splits (12 ∷ []) }
     ∷ record { name = "nested splits"; asked = the-splits AtoF "(A,(B,(C,(D,(E,F)))));"; says = has-splits (48 ∷ 56 ∷ 60 ∷ []) }
     ∷ record { name = "splits side by side"; asked = the-splits AtoF "(((F,E),D),((C,B),A));"; says = has-splits (6 ∷ 48 ∷ 56 ∷ []) }
@@ -57,7 +73,7 @@ texts =
     ∷ record { name = "a label before a bracket"; asked = the-verdict AtoE "x(A,B,C,D,E);"; says = is 7 }
     ∷ record { name = "a comma too many"; asked = the-verdict AtoE "(A,B,C,D,E,);"; says = is 7 }
     ∷ record { name = "a bracket too many"; asked = the-verdict AtoE "(A,B,C,D,E));"; says = is 7 }
-    ∷ record { name = "a quoted label"; asked = the-verdict AtoE "(A,B,C,D,'E');"; says = is 7 }
+    ∷ record { name = "a quoted label"; asked = the-splits AtoE "((A,B),C,D,'E');"; says = has-splits (28 ∷ []) }
     ∷ record { name = "two texts in one"; asked = the-verdict AtoE "(A,B,C,D,E),A;"; says = is 7 }
     ∷ record { name = "a leaf of 33 bytes"; asked = the-verdict AtoE "(A,B,C,D,abcdefghijabcdefghijabcdefghijabc);"; says = is 8 }
     ∷ record { name = "an inner label of 33 bytes"; asked = the-splits AtoE "((A,B)abcdefghijabcdefghijabcdefghijabc,C,D,E);"; says = has-splits (28 ∷ []) }
@@ -65,6 +81,8 @@ texts =
     ∷ record { name = "the second within the first"; asked = the-agreement 28 24; says = agrees true }
     ∷ record { name = "nested splits, written"; asked = the-written AtoF "(A,(B,(C,(D,(E,F)))));"; says = reads (bytes "(A,B,(C,(D,(E,F))));") }
     ∷ record { name = "splits side by side, written"; asked = the-written AtoF "(((F,E),D),((C,B),A));"; says = reads (bytes "(A,(B,C),(D,(E,F)));") }
+    ∷ record { name = "names with blanks, written"; asked = the-written "L._lactis 'B b' C D" "((C,D),'L. lactis',B_b);"; says = reads (bytes "(L._lactis,B_b,(C,D));") }
+    ∷ record { name = "names with underscores, marks and quotes, written"; asked = the-written "'a_b' '(c)' 'd''' 'e; f'" "('a_b','(c)','d''','e; f');"; says = reads (bytes "('a_b','(c)','d''','e; f');") }
     ∷ record { name = "64 taxa, written"; asked = the-written taxa64 tree64; says = reads (bytes tree64) }
     ∷ []
 
@@ -86,6 +104,10 @@ blanks-are = refl
 pub label-bytes-are : keep isLabelByte (numbersFrom 0 256) ≡ bytes "!\"#$%&*+-./0123456789<=>?@ABCDEFGHIJKLMNOPQRSTUVWXYZ\\^_`abcdefghijklmnopqrstuvwxyz{|}~"
 unfolding keep isLabelByte numbersFrom bytes
 label-bytes-are = refl
+
+pub quoted-bytes-are : keep isQuotedByte (numbersFrom 0 256) ≡ numbersFrom 32 95
+unfolding keep isQuotedByte numbersFrom
+quoted-bytes-are = refl
 
 -- ---- lengths
 

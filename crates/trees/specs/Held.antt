@@ -1,6 +1,6 @@
 -- What a collection holds, and what the calls that change it do.
 --
---   Lane                a lane: the bytes of its unfinished text, or that it ran over
+--   Lane                a lane: the bytes of its unfinished text; or that it ran over, and whether quotes are open behind its text
 --   Held                what a collection holds: its opening; the accepted trees, in order of acceptance, each by its splits;
 --                       for each lane its unfinished text
 --   opened o            a collection just opened
@@ -8,18 +8,19 @@
 --   feeding h l p       feeding the piece p to lane l
 --   closing h l         closing lane l
 use Prim.Native.Nat.{ℕ, suc, _+_}
+use mathlib.Core.Bool.{Bool, false}
 use mathlib.Core.List.{List, [], _∷_, _++_}
 use lib.Dec.{ltb, eqb}
 use lib.ListN.{length, getD, set, replicate}
-use Rattle.trees.specs.Plain.{if_then_else_, every, member, lacking, Answer, refused, gives}
-use Rattle.trees.specs.Text.{semicolon, isBlank}
+use Rattle.trees.specs.Plain.{if_then_else_, every, lacking, Answer, refused, gives}
+use Rattle.trees.specs.Text.{isBlank, openAfter, hasEnd, beforeEnd}
 use Rattle.trees.specs.Verdict.{judged}
 use Rattle.trees.specs.Consensus.{recorded}
 use Rattle.trees.specs.Opening.{Opening}
 
 pub data Lane : Type 0 where
   holding : List ℕ → Lane
-  overrun : Lane
+  overrun : Bool → Lane
 
 pub record Held : Type 0 where
   pub opening : Opening
@@ -40,14 +41,21 @@ withLane h l x = record { opening = h .opening; trees = h .trees; texts = set (h
 unfoldable pub withTree : Held → List ℕ → Held
 withTree h t = record { opening = h .opening; trees = h .trees ++ t ∷ []; texts = h .texts }
 
--- "bytes of a text before its semicolon", the most
+-- "a text may now hold 4,608 bytes"
 abbrev pub mostText : ℕ
-mostText = 4096
+mostText = 4608
 
--- "Past 4,096 held bytes, blanks counted, the lane drops bytes until the semicolon"
+-- whether quotes are open behind a lane's text, "in an overrun lane too"
+unfoldable pub openIn : Lane → Bool
+unfolding openAfter
+openIn (holding s) = openAfter false s
+openIn (overrun q) = q
+
+-- past `mostText` held bytes, "blanks counted, the lane drops bytes until the semicolon"
 unfoldable pub longer : Lane → List ℕ → Lane
-longer overrun p = overrun
-longer (holding s) p = if ltb mostText (length (s ++ p)) then overrun else holding (s ++ p)
+unfolding openAfter
+longer (overrun q) p = overrun (openAfter q p)
+longer (holding s) p = if ltb mostText (length (s ++ p)) then overrun (openAfter false (s ++ p)) else holding (s ++ p)
 
 -- the splits of a tree that no accepted tree has
 unfoldable pub newSplits : Held → List ℕ → List ℕ
@@ -71,7 +79,7 @@ withRoom h (gives t) = roomFor h t
 -- "A verdict checks 6, then 7 over all the text, then leaves from left to right for 8 or 9, then 10, 11, 12"
 unfoldable pub verdict : Held → Lane → Answer (List ℕ)
 unfolding judged withRoom
-verdict h overrun = refused 6
+verdict h (overrun q) = refused 6
 verdict h (holding s) = withRoom h (judged (h .opening .names) s)
 
 -- what feeding answers besides the bytes taken, when it refuses nothing
@@ -83,11 +91,6 @@ pub record Fed : Type 0 where
   pub taken : ℕ
   pub answer : Answer Progress
   pub after : Held
-
--- the bytes of a piece before its first semicolon; all of them if it has none
-unfoldable pub beforeSemicolon : List ℕ → List ℕ
-beforeSemicolon [] = []
-beforeSemicolon (b ∷ p) = if eqb b semicolon then [] else b ∷ beforeSemicolon p
 
 -- "accepted, with the tree's number (from 0, in order of acceptance); refused, with a number"
 unfoldable pub finished : Held → Answer (List ℕ) → Answer Progress
@@ -104,12 +107,13 @@ unfoldable pub finishing : Held → ℕ → ℕ → Answer (List ℕ) → Fed
 unfolding finished recording withLane
 finishing h l taken v = record { taken = taken; answer = finished h v; after = withLane (recording h v) l (holding []) }
 
--- "A call takes bytes up to the first semicolon and that semicolon, or all if there is none"; 5: "no such lane"
+-- "A call takes bytes up to the first semicolon and that semicolon, or all if there is none": the first that ends a text; 5: "no such lane"
 unfoldable pub feeding : Held → ℕ → List ℕ → Fed
-unfolding member beforeSemicolon longer laneOf withLane verdict finishing
+unfolding openIn hasEnd beforeEnd longer laneOf withLane verdict finishing
 feeding h l p =
+    let q = openIn (laneOf h l) in
     if ltb l (h .opening .numbers .lanes) then
-    if member semicolon p then finishing h l (suc (length (beforeSemicolon p))) (verdict h (longer (laneOf h l) (beforeSemicolon p)))
+    if hasEnd q p then finishing h l (suc (length (beforeEnd q p))) (verdict h (longer (laneOf h l) (beforeEnd q p)))
     else record { taken = length p; answer = gives moreWanted; after = withLane h l (longer (laneOf h l) p) }
     else record { taken = 0; answer = refused 5; after = h }
 
@@ -120,7 +124,7 @@ pub record Closed : Type 0 where
 -- "6 if it had run over, 7 if it held any byte but blanks, else done"
 unfoldable pub closed : Lane → Answer (Unit {0})
 unfolding every isBlank
-closed overrun = refused 6
+closed (overrun q) = refused 6
 closed (holding s) = if every isBlank s then gives tt else refused 7
 
 -- "Closing a lane empties it"; 5: "no such lane"

@@ -1,12 +1,12 @@
--- NEXUS files: what a file is, as a relation. No reader stands behind it. Request 2026-01 of document 02 is quoted.
+-- NEXUS files: what a file is, as a relation. No reader stands behind it. Requests 2026-01 and 2026-02 of document 02 are quoted.
 --
 --   runOf p s, behindRun p s  the longest run of bytes at the front of s that pass p, and what stands behind it
 --   begins p s, ends p s      the first, the last byte of s passes p
---   uncommented s             the bytes s with a blank for each comment
---   parts b s                 the parts of s between its bytes b
+--   uncommented q s           the bytes s with a blank for each comment; q: whether quotes are open before them
 --   isWord k w                the token w is the keyword k
 --   First s w r               the first token of s is w, behind blanks at most, and r stands behind it
 --   Two s k n                 s is the tokens k and n, and blanks
+--   Named s n                 s is the label n, and blanks
 --   Pair, File                a key and its name; what a file gives: its pairs, and the texts of its trees as they stand
 --   Begins c x                the command c begins the block x
 --   EndsOther c               the command c ends another block
@@ -29,7 +29,7 @@ use mathlib.Core.List.{List, [], _∷_, _++_, map}
 use lib.Dec.{leb, eqb}
 use lib.ListN.{length}
 use Rattle.trees.specs.Plain.{if_then_else_, every, sameBytes, bytes, byte}
-use Rattle.trees.specs.Text.{semicolon, isBlank, isLabelByte}
+use Rattle.trees.specs.Text.{semicolon, isBlank, isLabelByte, turned, parts, isLabel}
 
 -- ---- bytes
 
@@ -51,25 +51,18 @@ ends p [] = false
 ends p (b ∷ []) = p b
 ends p (b ∷ c ∷ s) = ends p (c ∷ s)
 
--- "a comment in square brackets .. ends at the first `]` and reads as a blank"; of one that never ends its bracket is left, the last byte
+-- "a comment in square brackets .. ends at the first `]` and reads as a blank"; "quotes hide brackets", and in a comment there are none; of a
+-- comment that never ends its bracket is left, the last byte
 unfoldable mutual
-  pub uncommented : List ℕ → List ℕ
-  uncommented [] = []
-  uncommented (b ∷ s) = if eqb b (byte "[") then behindComment s else b ∷ uncommented s
+  unfolding turned
+
+  pub uncommented : Bool → List ℕ → List ℕ
+  uncommented q [] = []
+  uncommented q (b ∷ s) = elim (not q && eqb b (byte "[")) [ true ↦ behindComment s | false ↦ b ∷ uncommented (turned q b) s ]
 
   pub behindComment : List ℕ → List ℕ
   behindComment [] = byte "[" ∷ []
-  behindComment (b ∷ s) = if eqb b (byte "]") then byte " " ∷ uncommented s else behindComment s
-
--- the byte b before the first part
-unfoldable pub withByte : ℕ → List (List ℕ) → List (List ℕ)
-withByte b [] = []
-withByte b (c ∷ cs) = (b ∷ c) ∷ cs
-
-unfoldable pub parts : ℕ → List ℕ → List (List ℕ)
-unfolding withByte
-parts x [] = [] ∷ []
-parts x (b ∷ s) = if eqb b x then [] ∷ parts x s else withByte b (parts x s)
+  behindComment (b ∷ s) = elim (eqb b (byte "]")) [ true ↦ byte " " ∷ uncommented false s | false ↦ behindComment s ]
 
 -- ---- tokens
 
@@ -96,6 +89,10 @@ pub data First (s w r : List ℕ) : Type 0 where
 
 pub data Two (s k n : List ℕ) : Type 0 where
   are-two : {r e : List ℕ} → First s k r → First r n e → every isBlank e ≡ true → Two s k n
+
+-- a label as it stands, with its quotes, if it has any, behind blanks at most
+pub data Named (s n : List ℕ) : Type 0 where
+  is-named : (a e : List ℕ) → s ≡ a ++ (n ++ e) → every isBlank a ≡ true → isLabel n ≡ true → every isBlank e ≡ true → Named s n
 
 -- ---- blocks
 
@@ -135,10 +132,10 @@ pub data IsOthers : List (List ℕ) → Type 0 where
       → IsOthers os
       → IsOthers ds
 
--- "a list of keys and names", a pair between two commas
+-- "a list of keys and names", a pair between two commas: a token, and a label behind it
 pub data IsPairs : List (List ℕ) → List Pair → Type 0 where
   no-pair : IsPairs [] []
-  a-pair : {r k n : List ℕ} {rs : List (List ℕ)} {ps : List Pair} → Two r k n → IsPairs rs ps → IsPairs (r ∷ rs) ((k, n) ∷ ps)
+  a-pair : {r k e n : List ℕ} {rs : List (List ℕ)} {ps : List Pair} → First r k e → Named e n → IsPairs rs ps → IsPairs (r ∷ rs) ((k, n) ∷ ps)
 
 -- "A 65th key is malformed"
 abbrev pub mostKeys : ℕ
@@ -150,7 +147,7 @@ pub data MayTranslate : List (List ℕ) → List Pair → Type 0 where
   a-list : {c w r : List ℕ} {ps : List Pair}
       → First c w r
       → isWord "TRANSLATE" w ≡ true
-      → IsPairs (parts (byte ",") r) ps
+      → IsPairs (parts (byte ",") false r) ps
       → length ps ≤ mostKeys
       → MayTranslate (c ∷ []) ps
 
@@ -192,9 +189,9 @@ pub data IsTrees : List (List ℕ) → File → Type 0 where
 -- "Read `#NEXUS` and its one TREES block"; behind it other blocks, and behind the last semicolon blanks
 pub data IsNexus (f : List ℕ) (x : File) : Type 0 where
   is-nexus : {w r : List ℕ} (os bs us : List (List ℕ)) (e : List ℕ)
-      → First (uncommented f) w r
+      → First (uncommented false f) w r
       → isWord "#NEXUS" w ≡ true
-      → parts semicolon r ≡ os ++ (bs ++ (us ++ (e ∷ [])))
+      → parts semicolon false r ≡ os ++ (bs ++ (us ++ (e ∷ [])))
       → IsOthers os
       → IsTrees bs x
       → IsOthers us

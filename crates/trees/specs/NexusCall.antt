@@ -9,13 +9,13 @@
 --   handedIn h x room      what a file gives that is x, with room for so many verdicts: 16, 4, or the verdicts
 --   nexus h f room         the file f, with room for so many verdicts
 use Prim.Native.Nat.{ℕ}
-use mathlib.Core.Bool.{Bool, true, false, not}
+use mathlib.Core.Bool.{Bool, true, false, _&&_, not}
 use mathlib.Core.List.{List, [], _∷_, _++_, map}
 use mathlib.Core.Option.{Option, none, some}
 use lib.Dec.{ltb}
 use lib.ListN.{length}
 use Rattle.trees.specs.Plain.{if_then_else_, member, sameBytes, bytes, Answer, refused, gives}
-use Rattle.trees.specs.Text.{isBlank, isLabelByte}
+use Rattle.trees.specs.Text.{isBlank, isLabelByte, turned}
 use Rattle.trees.specs.Names.{different}
 use Rattle.trees.specs.Held.{Held, Lane, holding, longer, verdict, finished, recording}
 use Rattle.trees.specs.Batch.{verdictNumber, Batched, withVerdict}
@@ -41,18 +41,21 @@ unfoldable pub freeBehind : Bool → List ℕ → ℕ → Bool
 unfolding isBlank member bytes
 freeBehind free w b = if isBlank b then elim w [ [] ↦ free | x ∷ v ↦ true ] else not (member b (bytes "):"))
 
--- the text s, behind the label bytes w of a run that has not ended; `free`: a token that stands there is replaced
-unfoldable pub replacedAfter : List Pair → Bool → List ℕ → List ℕ → List ℕ
-unfolding shown freeBehind isLabelByte
-replacedAfter ps free w [] = shown ps free w
-replacedAfter ps free w (b ∷ s) =
-    if isLabelByte b then replacedAfter ps free (w ++ b ∷ []) s
-    else shown ps free w ++ (b ∷ replacedAfter ps (freeBehind free w b) [] s)
+-- the text s, behind the label bytes w of a run that has not ended; q: whether quotes are open there, in which nothing is replaced; `free`: a
+-- token that stands there is replaced
+unfoldable pub replacedAfter : List Pair → Bool → Bool → List ℕ → List ℕ → List ℕ
+unfolding shown freeBehind isLabelByte turned
+replacedAfter ps q free w [] = shown ps free w
+replacedAfter ps q free w (b ∷ s) =
+    elim (not q && isLabelByte b) [
+      | true ↦ replacedAfter ps q free (w ++ b ∷ []) s
+      | false ↦ shown ps free w ++ (b ∷ replacedAfter ps (turned q b) (freeBehind free w b) [] s)
+    ]
 
--- "each tree, keys replaced by names except after `)` or `:`"; a name that is a key stays
+-- "each tree, keys replaced by names except after `)` or `:`"; "a name replaces its key as it stands there, quotes and all", and stays
 unfoldable pub replaced : List Pair → List ℕ → List ℕ
 unfolding replacedAfter
-replaced ps t = replacedAfter ps true [] t
+replaced ps t = replacedAfter ps false true [] t
 
 unfoldable pub plainTexts : File → List (List ℕ)
 unfolding replaced

@@ -3,6 +3,8 @@
 --
 --   firstToken s, behindFirst s     the first token of s, behind blanks at most, and what stands behind it
 --   twoTokens s           the two tokens that s is, or nothing
+--   labelRun s, behindLabel s     the run of label bytes or of quotes at the front of s, and what stands behind it
+--   readPair s            the token and the label that s is, or nothing
 --   endsOther c           the command c ends another block
 --   readPairs rs          the pairs that each of rs is, or nothing
 --   readLine c            the text of the tree that the command c gives, or nothing
@@ -20,8 +22,8 @@ use mathlib.Core.Option.{Option, none, some}
 use lib.Dec.{leb, eqb}
 use lib.ListN.{length}
 use Rattle.trees.specs.Plain.{if_then_else_, every, byte}
-use Rattle.trees.specs.Text.{semicolon, isBlank, isLabelByte}
-use Rattle.trees.specs.Nexus.{runOf, behindRun, begins, uncommented, parts, isWord, Pair, File, mostKeys, isNameByte}
+use Rattle.trees.specs.Text.{semicolon, apostrophe, isBlank, isLabelByte, turned, parts, isLabel}
+use Rattle.trees.specs.Nexus.{runOf, behindRun, begins, uncommented, isWord, Pair, File, mostKeys, isNameByte}
 
 -- ---- tokens
 
@@ -40,6 +42,40 @@ twoTokens s =
     if leb 1 (length (firstToken s)) && (leb 1 (length (firstToken (behindFirst s))) && every isBlank (behindFirst (behindFirst s)))
     then some (firstToken s, firstToken (behindFirst s))
     else none
+
+-- the bytes of s up to the quote that closes, with it, and what stands behind: it is followed by no other
+unfoldable pub quotedRun : Bool → List ℕ → List ℕ
+unfolding turned
+quotedRun q [] = []
+quotedRun q (b ∷ s) = if q || eqb b apostrophe then b ∷ quotedRun (turned q b) s else []
+
+unfoldable pub behindQuoted : Bool → List ℕ → List ℕ
+unfolding turned
+behindQuoted q [] = []
+behindQuoted q (b ∷ s) = if q || eqb b apostrophe then behindQuoted (turned q b) s else b ∷ s
+
+-- a run in quotes where one begins there, else a run of label bytes
+unfoldable pub labelRun : List ℕ → List ℕ
+unfolding begins quotedRun runOf isLabelByte
+labelRun s = if begins (eqb apostrophe) s then quotedRun false s else runOf isLabelByte s
+
+unfoldable pub behindLabel : List ℕ → List ℕ
+unfolding begins behindQuoted behindRun isLabelByte
+behindLabel s = if begins (eqb apostrophe) s then behindQuoted false s else behindRun isLabelByte s
+
+-- s from a pair's name on: a label, and blanks
+unfoldable pub readName : List ℕ → Option (List ℕ)
+unfolding labelRun behindLabel isLabel every isBlank
+readName s = if isLabel (labelRun s) && every isBlank (behindLabel s) then some (labelRun s) else none
+
+-- the key before its name
+unfoldable pub withKey : List ℕ → Option (List ℕ) → Option Pair
+withKey k none = none
+withKey k (some n) = some (k, n)
+
+unfoldable pub readPair : List ℕ → Option Pair
+unfolding firstToken behindFirst behindRun isBlank readName withKey
+readPair s = if leb 1 (length (firstToken s)) then withKey (firstToken s) (readName (behindRun isBlank (behindFirst s))) else none
 
 -- ---- commands
 
@@ -65,9 +101,9 @@ withPair (some p) none = none
 withPair (some p) (some ps) = some (p ∷ ps)
 
 unfoldable pub readPairs : List (List ℕ) → Option (List Pair)
-unfolding twoTokens withPair
+unfolding readPair withPair
 readPairs [] = some []
-readPairs (r ∷ rs) = withPair (twoTokens r) (readPairs rs)
+readPairs (r ∷ rs) = withPair (readPair r) (readPairs rs)
 
 -- behind the name of a tree: `=`, and then the text
 unfoldable pub textBehind : List ℕ → Option (List ℕ)
@@ -123,7 +159,7 @@ moved (outside came) c = blockBegun came (twoTokens c)
 moved (inOther came) c = if endsOther c then to (outside came) else to (inOther came)
 moved (inTrees fresh) c =
     if isEnd c then to (outside true)
-    else if fresh && isWord "TRANSLATE" (firstToken c) then listed (readPairs (parts (byte ",") (behindFirst c)))
+    else if fresh && isWord "TRANSLATE" (firstToken c) then listed (readPairs (parts (byte ",") false (behindFirst c)))
     else lineGiven (readLine c)
 
 -- the pairs ps before those of the file; the text t before its texts
@@ -160,4 +196,6 @@ reads q (c ∷ d ∷ cs) = readsOn (moved q c) (λ p. reads p (d ∷ cs))
 unfoldable pub readFile : List ℕ → Option File
 unfolding firstToken behindFirst uncommented isWord parts reads
 readFile f =
-    if isWord "#NEXUS" (firstToken (uncommented f)) then reads (outside false) (parts semicolon (behindFirst (uncommented f))) else none
+    if isWord "#NEXUS" (firstToken (uncommented false f)) then
+    reads (outside false) (parts semicolon false (behindFirst (uncommented false f)))
+    else none

@@ -44,7 +44,7 @@ abbrev pub headBytes : ℕ
 headBytes = 4096
 
 abbrev pub laneBytes : ℕ
-laneBytes = 4104
+laneBytes = 4616
 
 abbrev pub treeBytes : ℕ
 treeBytes = 128

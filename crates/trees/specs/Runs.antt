@@ -6,17 +6,19 @@
 --   ending h cs          what is held after them
 --   Final                a final answer: one that is not "more wanted", without the number of bytes taken
 --   finals hs            the final answers among the answers hs, in order
+--   endsIn us l p        the piece p, fed to lane l, ends a text, where the bytes us are pending
 --   pendingAfter us cs   for each lane, the bytes that are pending after the calls cs, if before them us are
 --   wholeTexts n cs      the calls cs on n lanes with every text fed whole: at its semicolon, or at its lane's closing
 --   onLane g c           the call c, on lane g l in place of l
 --   onOneLane n l        lane 0 for each of n lanes; a lane that does not exist stays
 use Prim.Native.Nat.{ℕ, suc}
+use mathlib.Core.Bool.{Bool, false}
 use mathlib.Core.List.{List, [], _∷_, _++_}
 use lib.Dec.{ltb}
 use lib.ListN.{length, getD, set, replicate}
-use Rattle.trees.specs.Plain.{if_then_else_, member, Answer, refused, gives}
-use Rattle.trees.specs.Text.{semicolon}
-use Rattle.trees.specs.Held.{Held, Progress, moreWanted, accepted, beforeSemicolon, finished, recording, feeding, closing}
+use Rattle.trees.specs.Plain.{if_then_else_, Answer, refused, gives}
+use Rattle.trees.specs.Text.{semicolon, openAfter, hasEnd, beforeEnd}
+use Rattle.trees.specs.Held.{Held, Progress, moreWanted, accepted, finished, recording, feeding, closing}
 use Rattle.trees.specs.NexusCall.{onText}
 
 -- ---- calls and what they answer
@@ -71,22 +73,27 @@ finals (closedLane a ∷ hs) = closedWith a ∷ finals hs
 
 -- ---- whole texts
 
--- `pending` has, for each lane, every byte fed to it since its last semicolon or closing, however many
+-- `pending` has, for each lane, every byte fed to it since its last text ended or it was closed, however many
+unfoldable pub endsIn : List (List ℕ) → ℕ → List ℕ → Bool
+unfolding hasEnd openAfter
+endsIn pending l p = hasEnd (openAfter false (getD pending l [])) p
+
 unfoldable pub pendingAfter : List (List ℕ) → List Call → List (List ℕ)
-unfolding member
+unfolding endsIn
 pendingAfter pending [] = pending
-pendingAfter pending (feed l p ∷ cs) = pendingAfter (set pending l (if member semicolon p then [] else getD pending l [] ++ p)) cs
+pendingAfter pending (feed l p ∷ cs) = pendingAfter (set pending l (if endsIn pending l p then [] else getD pending l [] ++ p)) cs
 pendingAfter pending (hand t ∷ cs) = pendingAfter pending cs
 pendingAfter pending (close l ∷ cs) = pendingAfter (set pending l []) cs
 
--- A piece with a semicolon ends a text, which is fed whole; one without only adds to the pending bytes. A closing finds them all fed.
+-- A piece that ends a text: the text is fed whole; one that does not only adds to the pending bytes. A closing finds them all fed.
 -- A text that is handed in is whole, and a call to a lane that does not exist stays as it is.
 unfoldable pub textsAfter : List (List ℕ) → List Call → List Call
-unfolding member beforeSemicolon
+unfolding endsIn beforeEnd openAfter
 textsAfter pending [] = []
 textsAfter pending (feed l p ∷ cs) =
     if ltb l (length pending) then
-    if member semicolon p then feed l (getD pending l [] ++ beforeSemicolon p ++ semicolon ∷ []) ∷ textsAfter (set pending l []) cs
+    if endsIn pending l p then
+    feed l (getD pending l [] ++ beforeEnd (openAfter false (getD pending l [])) p ++ semicolon ∷ []) ∷ textsAfter (set pending l []) cs
     else textsAfter (set pending l (getD pending l [] ++ p)) cs
     else feed l p ∷ textsAfter pending cs
 textsAfter pending (hand t ∷ cs) = hand t ∷ textsAfter pending cs

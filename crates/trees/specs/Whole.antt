@@ -34,7 +34,7 @@ goodTree n t = every (proper n) t && (rising t && agreeInPairs t)
 
 -- "each lane's length is in range"
 unfoldable pub goodLane : Lane → Bool
-goodLane overrun = true
+goodLane (overrun q) = true
 goodLane (holding s) = leb (length s) mostText
 
 -- "all numbers and names pass the opening checks"

@@ -3,16 +3,17 @@
 --   widest m i s     of the masks of s that are below m and have taxon i, the greatest; 0 where there is none.
 --                    Masks that agree and share a taxon lie within each other, so it is the widest within m
 --   branches ..      the children of a node with the taxa m, from those that have the taxa r, in order of their smallest taxon
+--   writtenName w    the label that a name is written as
 --   treeOf ns s      the tree that has exactly the splits s
 --   shown t          its bytes
 --   written ns s     and a semicolon
 use Prim.Native.Nat.{ℕ, zero, suc, _+_, _^_}
-use mathlib.Core.Bool.{true, false, _&&_}
-use mathlib.Core.List.{List, [], _∷_, _++_}
+use mathlib.Core.Bool.{Bool, true, false, _&&_, not}
+use mathlib.Core.List.{List, [], _∷_, _++_, map}
 use lib.Dec.{ltb, eqb}
 use lib.ListN.{length, getD}
-use Rattle.trees.specs.Plain.{if_then_else_, byte}
-use Rattle.trees.specs.Text.{semicolon}
+use Rattle.trees.specs.Plain.{if_then_else_, every, member, bytes, byte}
+use Rattle.trees.specs.Text.{semicolon, apostrophe}
 use Rattle.trees.specs.Mask.{has, everyTaxon, without, lowest}
 use Rattle.trees.specs.Tree.{Nodes, nil, leaf, inner}
 
@@ -30,9 +31,28 @@ unfoldable pub widest : ℕ → ℕ → List ℕ → ℕ
 unfolding widestOr
 widest m i s = widestOr 0 m i s
 
+-- every quote twice
+unfoldable pub doubled : List ℕ → List ℕ
+doubled [] = []
+doubled (b ∷ w) = if eqb b apostrophe then b ∷ b ∷ doubled w else b ∷ doubled w
+
+-- "an underscore or one of `( ) [ ] ' : ; ,`"
+unfoldable pub wantsQuotes : ℕ → Bool
+unfolding member bytes
+wantsQuotes b = member b (bytes "_()[]':;,")
+
+-- "otherwise blanks become underscores"
+unfoldable pub underscored : ℕ → ℕ
+underscored b = if eqb b (byte " ") then byte "_" else b
+
+-- "A written name is quoted exactly if it holds an underscore or one of" the marks
+unfoldable pub writtenName : List ℕ → List ℕ
+unfolding every wantsQuotes doubled underscored
+writtenName w = if every (λ b. not (wantsQuotes b)) w then map underscored w else apostrophe ∷ (doubled w ++ apostrophe ∷ [])
+
 -- the child with the smallest taxon i that is left, a leaf or the node of the mask x; then the others. f is more than enough steps
 unfoldable pub branches : ℕ → List (List ℕ) → List ℕ → ℕ → ℕ → Nodes
-unfolding lowest widest without
+unfolding lowest widest without writtenName
 branches zero ns s m r = nil
 branches (suc f) ns s m r =
     let i = lowest r in
@@ -41,7 +61,7 @@ branches (suc f) ns s m r =
       | true ↦ nil
       | false ↦
           elim (eqb x 0) [
-            | true ↦ leaf (getD ns i []) (branches f ns s m (without r (2 ^ i)))
+            | true ↦ leaf (writtenName (getD ns i [])) (branches f ns s m (without r (2 ^ i)))
             | false ↦ inner (branches f ns s x x) (branches f ns s m (without r x))
           ]
     ]

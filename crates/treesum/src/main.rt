@@ -5,7 +5,7 @@ mod input;
 mod output;
 
 fn main() {
-    let mut names = [0u8; 2112];
-    let mut lent = [0u8; 21512];
+    let mut names = [0u8; 4288];
+    let mut lent = [0u8; 22024];
     input::take_all(&mut names, &mut lent);
 }

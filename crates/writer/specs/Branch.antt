@@ -9,12 +9,13 @@
 --   Child n ns s i x         so it can with the child of i and x
 --   Step n ns s m r i x      that child is the first of the branches of m that have the taxa r
 --   Put before at w after e  the bytes w were stored from `at` up to e, as far as there is room
+--   Putting before at w out e v     halfway: the bytes v are left, to be stored from e on
 use Prim.Native.Nat.{ℕ, suc, _+_, _^_, _<_}
 use mathlib.Core.Path.{_≡_}
 use mathlib.Core.Bool.{true}
 use mathlib.Core.List.{List, [], _∷_, _++_}
 use lib.Dec.{eqb}
-use lib.ListN.{length, getD}
+use lib.ListN.{length}
 use lib.Seq.{sets}
 use Rattle.trees.specs.Plain.{if_then_else_}
 use Rattle.trees.specs.Mask.{everyTaxon, lowest}
@@ -23,7 +24,7 @@ use Rattle.trees.specs.Names.{goodNames}
 use Rattle.trees.specs.Whole.{goodTree}
 use Rattle.trees.specs.Written.{widest, branches, shown}
 use Rattle.theorems.specs.BitLaws.{Sub}
-use Rattle.theorems.specs.BranchLaws.{Closed}
+use Rattle.theorems.specs.BranchLaws.{labelOf, Closed}
 
 unfoldable pub grown : List (List ℕ) → List ℕ → ℕ → ℕ → Nodes
 unfolding branches
@@ -38,7 +39,7 @@ childMask i x = if eqb x 0 then 2 ^ i else x
 
 unfoldable pub childText : List (List ℕ) → List ℕ → ℕ → ℕ → List ℕ
 unfolding branchText
-childText ns s i x = if eqb x 0 then getD ns i [] else 40 ∷ (branchText ns s x x ++ 41 ∷ [])
+childText ns s i x = if eqb x 0 then labelOf ns i else 40 ∷ (branchText ns s x x ++ 41 ∷ [])
 
 pub record Ready (n : ℕ) (ns : List (List ℕ)) (s : List ℕ) (m r : ℕ) : Type 0 where
   pub names : goodNames n ns ≡ true
@@ -60,3 +61,8 @@ pub record Step (n : ℕ) (ns : List (List ℕ)) (s : List ℕ) (m r i x : ℕ) 
 pub record Put (before : List ℕ) (at : ℕ) (w after : List ℕ) (e : ℕ) : Type 0 where
   pub stored : after ≡ sets before at w
   pub ends : e ≡ at + length w
+
+pub record Putting (before : List ℕ) (at : ℕ) (w out : List ℕ) (e : ℕ) (v : List ℕ) : Type 0 where
+  pub room : length out ≡ length before
+  pub stored : sets before at w ≡ sets out e v
+  pub ends : at + length w ≡ e + length v

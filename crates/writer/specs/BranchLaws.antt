@@ -13,11 +13,10 @@ use lib.Pow.{pow-pos}
 use mathlib.Core.Path.{_≡_, refl, sym, ap, ap₂, _∙_, subst}
 use mathlib.Core.Logic.{_⊎_, inl, inr}
 use mathlib.Core.Bool.{Bool, true, false}
-use mathlib.Core.List.{List, []}
+use mathlib.Core.List.{List}
 use lib.Dec.{eqb}
 use lib.Bits.{bitXor}
 use lib.Count.{ones}
-use lib.ListN.{getD}
 use borrow.Author.Tests.{eqb-true, eqb-false, eq-eqb, ne-eqb}
 use Rattle.trees.specs.Mask.{everyTaxon, without, lowest}
 use Rattle.trees.specs.Tree.{nil, leaf, inner}
@@ -27,7 +26,7 @@ use Rattle.theorems.specs.BitLaws.{On, Sub, sub-le, less-sub, less-lt}
 use Rattle.theorems.specs.MaskLaws.{on-below, without-sub}
 use Rattle.theorems.specs.OnesLaws.{ones-part, ones-pos, ones-lt}
 use Rattle.theorems.specs.WidestLaws.{Fit, lowest-on, widest-from, widest-top}
-use Rattle.theorems.specs.BranchLaws.{Closed, on-pos, closed-self, leaf-within, leaf-closed, inner-within, inner-closed}
+use Rattle.theorems.specs.BranchLaws.{labelOf, Closed, on-pos, closed-self, leaf-within, leaf-closed, inner-within, inner-closed}
 use Rattle.theorems.specs.TreeOfLaws.{branchesBy, branches-step}
 use Rattle.writer.specs.Branch.{grown, childMask, Ready, Child, Step}
 
@@ -133,10 +132,10 @@ module _ {n : ℕ} {ns : List (List ℕ)} {s : List ℕ} {m r i x : ℕ} (k : St
   branches-by : (f : ℕ) → branches (suc f) ns s m r ≡ branchesBy (eqb r 0) (eqb x 0) f ns s m r i x
   branches-by f = rw (k .wide, k .smallest) (branches-step f ns s m r)
 
-  branches-leaf : (f : ℕ) → x ≡ 0 → branches (suc f) ns s m r ≡ leaf (getD ns i []) (branches f ns s m (without r (childMask i x)))
+  branches-leaf : (f : ℕ) → x ≡ 0 → branches (suc f) ns s m r ≡ leaf (labelOf ns i) (branches f ns s m (without r (childMask i x)))
   branches-leaf f z =
       branches-by f ∙ ap₂ (λ (b c : Bool). branchesBy b c f ns s m r i x) (ne-eqb r 0 (k .some)) (eq-eqb x 0 z)
-      ∙ ap (λ (c : ℕ). leaf (getD ns i []) (branches f ns s m (without r c))) (sym (mask-leaf i x z))
+      ∙ ap (λ (c : ℕ). leaf (labelOf ns i) (branches f ns s m (without r c))) (sym (mask-leaf i x z))
 
   branches-inner : (f : ℕ) → (x ≡ 0 → ⊥)
       → branches (suc f) ns s m r ≡ inner (branches f ns s x x) (branches f ns s m (without r (childMask i x)))
@@ -170,7 +169,7 @@ module _ (n : ℕ) (ns : List (List ℕ)) (s : List ℕ) where
       go : (b : Bool) → eqb x 0 ≡ b → branches (suc f) ns s m r ≡ branches (suc g) ns s m r
       go true e =
           let z = eqb-true x 0 e in
-          branches-leaf k f z ∙ ap (leaf (getD ns i [])) rest ∙ sym (branches-leaf k g z)
+          branches-leaf k f z ∙ ap (leaf (labelOf ns i)) rest ∙ sym (branches-leaf k g z)
       go false e =
           let z = eqb-false x 0 e in
           branches-inner k f z ∙ ap₂ inner (ih x x (child-ready k z) (child-less k z)) rest ∙ sym (branches-inner k g z)
@@ -198,9 +197,9 @@ module _ {n : ℕ} {ns : List (List ℕ)} {s : List ℕ} {m r i x : ℕ} (k : St
       let q = without r (childMask i x) in
       enough n ns s (m + r) (suc (m + q)) m q (rest-ready k refl) (omega (arith, rest-less k refl)) (omega arith)
 
-  pub grown-leaf : x ≡ 0 → grown ns s m r ≡ leaf (getD ns i []) (grown ns s m (without r (childMask i x)))
+  pub grown-leaf : x ≡ 0 → grown ns s m r ≡ leaf (labelOf ns i) (grown ns s m (without r (childMask i x)))
   unfolding grown
-  grown-leaf z = branches-leaf k (m + r) z ∙ ap (leaf (getD ns i [])) rest-grown
+  grown-leaf z = branches-leaf k (m + r) z ∙ ap (leaf (labelOf ns i)) rest-grown
 
   pub grown-inner : (x ≡ 0 → ⊥) → grown ns s m r ≡ inner (grown ns s x x) (grown ns s m (without r (childMask i x)))
   unfolding grown

@@ -9,19 +9,20 @@ use mathlib.Core.Path.{_≡_, refl, sym, ap, _∙_}
 use mathlib.Core.Bool.{Bool, true, false}
 use mathlib.Core.List.{List, [], _∷_, _++_, append-assoc, append-nil}
 use lib.Dec.{eqb}
-use lib.ListN.{length, getD, length-append}
+use lib.ListN.{length, length-append}
 use borrow.Author.Tests.{eqb-true, eqb-false, eq-eqb, ne-eqb}
 use Rattle.trees.specs.Mask.{without}
 use Rattle.trees.specs.Tree.{Nodes, leaf, inner}
 use Rattle.trees.specs.Written.{shown, parted}
 use Rattle.theorems.specs.ListLaws.{if-true, if-false}
+use Rattle.theorems.specs.BranchLaws.{labelOf}
 use Rattle.writer.specs.Branch.{grown, branchText, childMask, childText, Ready, Step}
 use Rattle.writer.specs.BranchLaws.{rest-ready, first-step, grown-none, grown-leaf, grown-inner}
 
 -- ---- a child
 
 module _ (ns : List (List ℕ)) (s : List ℕ) (i x : ℕ) where
-  pub child-leaf : x ≡ 0 → childText ns s i x ≡ getD ns i []
+  pub child-leaf : x ≡ 0 → childText ns s i x ≡ labelOf ns i
   unfolding childText
   child-leaf z = if-true _ _ (eq-eqb x 0 z)
 
@@ -64,7 +65,7 @@ module _ {n : ℕ} {ns : List (List ℕ)} {s : List ℕ} {m r i x : ℕ} (k : St
       go : (b : Bool) → eqb x 0 ≡ b → shown (grown ns s m r) ≡ childText ns s i x ++ parted t (shown t)
       go true e =
           let z = eqb-true x 0 e in
-          ap shown (grown-leaf k z ∙ ap (leaf (getD ns i [])) q) ∙ shown-leaf (getD ns i []) t
+          ap shown (grown-leaf k z ∙ ap (leaf (labelOf ns i)) q) ∙ shown-leaf (labelOf ns i) t
           ∙ ap (λ (l : List ℕ). l ++ parted t (shown t)) (sym (child-leaf ns s i x z))
       go false e =
           let z = eqb-false x 0 e in

@@ -5,6 +5,8 @@ pub mod Branch
 pub mod BranchLaws
 pub mod BranchTextLaws
 pub mod PutLaws
+pub mod Name
+pub mod NameLaws
 pub mod StepLaws
 pub mod RootLaws
 pub mod SearchLaws

@@ -1,16 +1,15 @@
 -- The laws of bytes that are stored one after another. Assumes nothing.
 --
 --   put-none, put-one, put-then     no byte, one byte, and bytes behind others
---   put-copied                      a run of another list's bytes
-use Prim.Native.Nat.{ℕ, suc, _+_, _≤_}
+--   putting-start, putting-more, putting-end     a run, some bytes at a time
+use Prim.Native.Nat.{ℕ, suc, _+_}
 use native.Mathlib.Nat.{add-zero}
 use native.Mathlib.Omega.{arith}
-use mathlib.Core.Path.{_≡_, refl, sym, _∙_}
+use mathlib.Core.Path.{_≡_, refl, ap, sym, _∙_}
 use mathlib.Core.List.{List, [], _∷_, _++_}
-use lib.ListN.{length, set, take, drop, length-append, length-drop}
-use lib.Seq.{sets, length-take-le}
-use Rattle.fields.specs.Run.{copied}
-use Rattle.writer.specs.Branch.{Put}
+use lib.ListN.{length, set, length-append}
+use lib.Seq.{sets, length-sets}
+use Rattle.writer.specs.Branch.{Put, Putting}
 
 sets-then : (v w l : List ℕ) (at : ℕ) → sets l at (v ++ w) ≡ sets (sets l at v) (at + length v) w
 sets-then [] w l at = rw add-zero
@@ -31,9 +30,16 @@ put-then {l} {k} {after} {v} {w} {at} p q =
       ends = omega (arith, p .ends, q .ends, length-append v w);
     }
 
-pub put-copied : (l after s : List ℕ) (at from n : ℕ) → from + n ≤ length s → after ≡ copied l at s from n
-    → Put l at (take n (drop from s)) after (at + n)
-unfolding copied
-put-copied l after s at from n h e =
-    let d = length-drop from s in
-    record { stored = e; ends = omega (arith, length-take-le n (drop from s) (omega arith)) }
+pub putting-start : (before : List ℕ) (at : ℕ) (w : List ℕ) → Putting before at w before at w
+putting-start before at w = record { room = refl; stored = refl; ends = refl }
+
+module _ {before : List ℕ} {at : ℕ} {w out : List ℕ} {e : ℕ} {v : List ℕ} (p : Putting before at w out e v) where
+  pub putting-more : {u r after : List ℕ} {z : ℕ} → v ≡ u ++ r → Put out e u after z → Putting before at w after z r
+  putting-more {u} {r} {after} {z} q k = record {
+    room = ap length (k .stored) ∙ length-sets out e u ∙ p .room;
+    stored = p .stored ∙ ap (sets out e) q ∙ sets-then u r out e ∙ rw (k .stored, k .ends);
+    ends = omega (arith, p .ends, ap length q, length-append u r, k .ends);
+  }
+
+  pub putting-end : v ≡ [] → Put before at w out e
+  putting-end q = record { stored = sym (p .stored ∙ ap (sets out e) q); ends = omega (arith, p .ends, ap length q) }

@@ -58,7 +58,7 @@ module _ (h : List ℕ) (g : goodOpening (openingAt h) ≡ true) where
     unfolding Closed
     all-closed y m l = inl (proper-sub (numbersAt h .taxa) y (split-proper (numbersAt h .taxa) (namesAt h) s names-good splits-good y m))
 
-    root-most : length (written (namesAt h) s) ≤ 2236
+    root-most : length (written (namesAt h) s) ≤ 4349
     root-most = let l = taxa-least in written-length (numbersAt h .taxa) (namesAt h) s names-good splits-good (omega arith) taxa-most
 
     module _ (a : ℕ) (e : a ≡ everyTaxon (numbersAt h .taxa)) where
@@ -68,7 +68,7 @@ module _ (h : List ℕ) (g : goodOpening (openingAt h) ≡ true) where
       root-text : written (namesAt h) s ≡ 40 ∷ (branchText (namesAt h) s a a ++ 41 ∷ 59 ∷ [])
       root-text = rw (e, ← names-length h) (written-text (namesAt h) s)
 
-      pub root-room : length (branchText (namesAt h) s a a) + 3 ≤ 2236
+      pub root-room : length (branchText (namesAt h) s a a) + 3 ≤ 4349
       root-room =
           let l : length (written (namesAt h) s) ≡ length (branchText (namesAt h) s a a) + 3 =
           ap length root-text ∙ omega (arith, length-append (branchText (namesAt h) s a a) (41 ∷ 59 ∷ [])) in

@@ -15,6 +15,7 @@ use lib.Dec.{eqb}
 use lib.ListN.{length, getD, set, length-append}
 use borrow.Author.Tests.{eqb-true, eqb-false}
 use Rattle.trees.specs.Mask.{without}
+use Rattle.trees.specs.Written.{writtenName}
 use Rattle.theorems.specs.OnesLaws.{ones-zero, ones-pos}
 use Rattle.writer.specs.Branch.{branchText, childMask, childText, Step, Put}
 use Rattle.writer.specs.BranchLaws.{positive, child-ones, rest-ones}
@@ -51,7 +52,7 @@ module _ {n : ℕ} {ns : List (List ℕ)} {s : List ℕ} {m r i x : ℕ} (k : St
 -- ---- the child of i and x
 
 module _ (ns : List (List ℕ)) (s : List ℕ) (i x : ℕ) where
-  pub child-leaf-put : {w l after : List ℕ} {at e : ℕ} → x ≡ 0 → getD ns i [] ≡ w → Put l at w after e
+  pub child-leaf-put : {w l after : List ℕ} {at e : ℕ} → x ≡ 0 → getD ns i [] ≡ w → Put l at (writtenName w) after e
       → Put l at (childText ns s i x) after e
   child-leaf-put z q a = rw (child-leaf ns s i x z, q) a
 

@@ -3,7 +3,7 @@
 //
 // Its contracts cite `specs/Text.antt` (`Wrote`), crate trees, `specs/Written.antt` (`widest`,
 // `written`), and crate head, `specs/Head.antt` (`namesAt`, `openingAt`). What the recursion writes
-// is in `specs/Branch.antt` (`branchText`, `childText`).
+// is in `specs/Branch.antt` (`branchText`, `childText`); `names.rt` writes the names.
 ghost use mathlib.Core.Path.{_≡_};
 ghost use Prim.Native.Nat.{_+_, _≤_, _<_};
 ghost use mathlib.Core.Bool.{true};
@@ -11,10 +11,12 @@ ghost use lib.ListN.{length, set, take};
 ghost use Rattle.trees.specs.Opening.{headBytes};
 ghost use Rattle.trees.specs.Written.{wider, widest, written};
 ghost use Rattle.trees.specs.Whole.{goodTree, goodOpening};
-ghost use Rattle.head.specs.Head.{numbersAt, nameAt, namesAt, openingAt};
+ghost use Rattle.head.specs.Head.{numbersAt, namesAt, openingAt};
 ghost use Rattle.writer.specs.Branch.{branchText, childMask, childText, Ready, Child, Put};
 ghost use Rattle.writer.specs.Text.{Wrote};
 use answers::Taxon;
+
+mod names;
 
 // The answer of a writing: how many bytes were written, or that there is no room.
 pub enum Text {
@@ -30,7 +32,7 @@ pub fn write_tree(head: &[u8], list: &[u64], k: usize, out: &mut [u8]) -> Text
     requires { ⌜ goodTree (openingAt (now head) .numbers .taxa) (take k (now list)) ≡ true ⌝ }
     ensures { λ r. ⌜ Wrote (written (namesAt (now (head .entry))) (take k (now (list .entry)))) (now (out .entry)) r (now (out .exit)) ⌝ }
 {
-    let mut text = [0u8; 2240];
+    let mut text = [0u8; 4352];
     let n = write_root(head, list, k, &mut text);
     if out.len() < n {
         return Text::TooShort;
@@ -46,7 +48,7 @@ fn write_root(head: &[u8], list: &[u64], k: usize, out: &mut [u8]) -> usize
     requires { ⌜ k ≤ length (now list) ⌝ }
     requires { ⌜ goodTree (openingAt (now head) .numbers .taxa) (take k (now list)) ≡ true ⌝ }
     ensures { λ e. ⌜ Put (now (out .entry)) 0 (written (namesAt (now (head .entry))) (take k (now (list .entry)))) (now (out .exit)) e ⌝ }
-    ensures { λ e. ⌜ e ≤ 2236 ⌝ }
+    ensures { λ e. ⌜ e ≤ 4349 ⌝ }
 {
     let all = masks::every_taxon(head::taxa(head));
     put_byte(out, 0, b'(');
@@ -104,7 +106,7 @@ fn write_child(
     ensures { λ e. ⌜ Put (now (out .entry)) at (childText (namesAt (now (head .entry))) (take k (now (list .entry))) (i .0) x) (now (out .exit)) e ⌝ }
 {
     if masks::is_empty(x) {
-        return write_name(head, i, out, at);
+        return names::write_name(head, i, out, at);
     }
     put_byte(out, at, b'(');
     let e = write_branches(head, list, k, x, x, out, at + 1);
@@ -153,25 +155,8 @@ fn wider_of(best: u64, x: u64, m: u64, i: Taxon) -> u64
     best
 }
 
-// Writes the name of taxon i, as far as out reaches, and answers where it ends.
-fn write_name(head: &[u8], i: Taxon, out: &mut [u8], at: usize) -> usize
-    requires { ⌜ headBytes ≤ length (now head) ⌝ }
-    requires { ⌜ i .0 < 64 ⌝ }
-    requires { ⌜ at ≤ 65536 ⌝ }
-    ensures { λ e. ⌜ Put (now (out .entry)) at (nameAt (now (head .entry)) (i .0)) (now (out .exit)) e ⌝ }
-{
-    let place = 33 * i.0 as usize;
-    let n = head[16 + place] as usize;
-    let mut j = 0;
-    while j < n {
-        put_byte(out, at + j, head[17 + place + j]);
-        j += 1;
-    }
-    at + n
-}
-
 // Stores b at the place `at`, where out reaches it.
-fn put_byte(out: &mut [u8], at: usize, b: u8)
+pub(crate) fn put_byte(out: &mut [u8], at: usize, b: u8)
     ensures { λ r. ⌜ now (out .exit) ≡ set (now (out .entry)) at b ⌝ }
 {
     if at < out.len() {

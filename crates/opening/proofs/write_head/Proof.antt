@@ -1,7 +1,7 @@
 -- `opening::write_head` meets its contract: the five calls leave the written head, from which the opening is read. Assumes nothing.
 use native.Mathlib.Omega.{arith}
 use borrow.Author.Needs.{needs}
-use Rattle.opening.specs.HeadWritingLaws.{checked, few-names, few-first, few-second, first-fits, written-calls, written-opening, written-none, written-kept, written-length}
+use Rattle.opening.specs.HeadWritingLaws.{checked, few-first, few-second, first-fits, written-calls, written-opening, written-none, written-kept, written-length}
 use Rattle.opening.proofs.write_head.Statement.{statement}
 use Rattle.opening.proofs.write_head.Tie as tie
 
@@ -9,15 +9,15 @@ write-numbers-requires : tie.Need-write-numbers-requires
 write-numbers-requires c κs =
     let back = c .before .before .before .before .before in
     let p = back .before .before .before .before .pre .1 in
-    (omega arith, checked _ _ _ _ (p .0) (p .1 .0) (p .1 .1) .ranges)
+    (omega arith, checked _ _ _ _ (p .0) (p .1 .0) (p .1 .1 .1) .ranges)
 
 write-names-requires : tie.Need-write-names-requires
 write-names-requires c κs =
     let back = c .before .before .before .before .before in
     let far = back .before .before .before .before .before in
     let p = far .before .before .before .pre .1 in
-    let g = checked _ _ _ _ (p .0) (p .1 .0) (p .1 .1) in
-    (omega arith, (few-names _ g, g .named .names))
+    let g = checked _ _ _ _ (p .0) (p .1 .0) (p .1 .1 .1) in
+    (omega arith, (p .1 .1 .0, g .ranges .most-taxa))
 
 write-first-requires : tie.Need-write-first-requires
 write-first-requires c κs =
@@ -25,7 +25,7 @@ write-first-requires c κs =
     let far = back .before .before .before .before .before in
     let first = far .before .before .before .before .before in
     let p = first .before .before .pre .1 in
-    let g = checked _ _ _ _ (p .0) (p .1 .0) (p .1 .1) in
+    let g = checked _ _ _ _ (p .0) (p .1 .0) (p .1 .1 .1) in
     (omega arith, (few-first _ g, first-fits _ g))
 
 write-second-requires : tie.Need-write-second-requires
@@ -35,7 +35,7 @@ write-second-requires c κs =
     let first = far .before .before .before .before .before in
     let start = first .before .before .before .before .before in
     let p = start .before .pre .1 in
-    let g = checked _ _ _ _ (p .0) (p .1 .0) (p .1 .1) in
+    let g = checked _ _ _ _ (p .0) (p .1 .0) (p .1 .1 .1) in
     (omega arith, few-second _ g)
 
 returns : tie.Need-returns
@@ -46,7 +46,7 @@ returns c =
     let start = first .before .before .before .before .before in
     let d = start .before .before .before .before in
     let p = d .pre .1 in
-    let g = checked _ _ _ _ (p .0) (p .1 .0) (p .1 .1) in
+    let g = checked _ _ _ _ (p .0) (p .1 .0) (p .1 .1 .1) in
     let w = c .before .before in
     let v = w .before .before .before .before in
     let u = v .before .before .before .before in

@@ -1,24 +1,15 @@
--- `opening::write_name` meets its contract: the definition at a slice of the list. Assumes nothing.
-use Prim.Native.Nat.{_+_, _*_, _-_}
+-- `opening::write_name` meets its contract: the name and the byte before it, copied. Assumes nothing.
 use mathlib.Core.Path.{_∙_}
 use native.Mathlib.Omega.{arith}
-use lib.ListN.{length-set}
 use borrow.Author.Needs.{needs}
 use Rattle.opening.specs.WritingLaws.{copied-name}
 use Rattle.opening.proofs.write_name.Statement.{statement}
 use Rattle.opening.proofs.write_name.Tie as tie
 
-copy-from-requires : tie.Need-copy-from-requires
-copy-from-requires c κs = (simp length-set (omega arith), omega arith)
-
-same-length : tie.Need-same-length
-same-length c =
-    let back = c .before .before .before .before .before in
-    let a = back .before .args in
-    omega (arith, length-set (a .s .now) (16 + 33 * a .i) (a .e - a .b))
-
 returns : tie.Need-returns
-returns c = c .before .before .copy-from .ensures ∙ copied-name _ _ _ _ _ (omega arith) (omega arith)
+returns c =
+    let k = c .before .before in
+    k .copy-from .ensures ∙ copied-name _ _ _ _ (k .before .before .name-length .ensures .0) (omega arith)
 
 pub write-name-spec : {M : Type 1} → statement M
 write-name-spec =
@@ -26,12 +17,8 @@ write-name-spec =
     (tie.spec
     (λ c. search needs)
     (λ c. search needs)
+    (λ c κs. search needs)
+    (λ c. omega arith)
+    (λ c κs. (omega arith, omega arith))
     (λ c. search needs)
-    (λ c. search needs)
-    (λ c. search needs)
-    (λ c. search needs)
-    (λ c. search needs)
-    (λ c. search needs)
-    copy-from-requires
-    same-length
     returns)

@@ -1,38 +1,43 @@
--- `opening::write_names` meets its contract. The loop's invariant: the names before `at` are written. Assumes nothing.
-use Prim.Native.Nat.{_+_, _-_}
+-- `opening::write_names` meets its contract. The loop's invariant: with the names from i on written behind, all are there. Assumes nothing.
+use Prim.Native.Nat.{_-_, _≤_}
+use mathlib.Core.Path.{_≡_, refl, sym, _∙_}
+use mathlib.Core.List.{[]}
 use native.Mathlib.Omega.{arith}
-use lib.ListN.{length}
-use Rattle.opening.specs.Writing.{Reached}
-use Rattle.opening.specs.WritingLaws.{reached-none, reached-name, reached-more, reached-all}
+use lib.ListN.{length, drop}
+use Rattle.head.specs.Head.{nameAt}
+use Rattle.head.specs.HeadLaws.{upTo-length, upTo-at}
+use Rattle.opening.specs.Places.{firstNames}
+use Rattle.opening.specs.Writing.{withNames}
+use Rattle.opening.specs.WritingLaws.{names-more, names-all}
 use Rattle.opening.proofs.write_names.Statement.{statement}
 use Rattle.opening.proofs.write_names.Tie as tie
 
 abbrev Inv-loop : tie.InvT-loop
-Inv-loop s₀ list at₀ i₀ s at i = Reached list s₀ at i s
+Inv-loop s₀ names n i₀ s i =
+    (i ≤ n) × (length s ≡ length s₀) × (withNames s i (drop i (firstNames n names)) ≡ withNames s₀ 0 (firstNames n names))
 
 abbrev μ-loop : tie.MeasureT-loop
-μ-loop s₀ list at₀ i₀ s at i = length list + 1 - at
-
-loop-holds : tie.Need-loop-holds Inv-loop μ-loop
-loop-holds c = reached-none _ _ (c .before .before .pre .1 .0) (c .before .before .pre .1 .1)
-
-write-name-requires : tie.Need-write-name-requires Inv-loop μ-loop
-write-name-requires c κs =
-    let n = reached-name _ _ _ _ _ _ (c .before .before .before .loop .inv) (c .before .name-end .ensures) in
-    (omega arith, (omega arith, ((omega arith, omega arith), omega arith)))
-
-add-i : tie.Need-add-i Inv-loop μ-loop
-add-i c =
-    let back = c .before .before .before .before .before in
-    omega (arith, back .before .loop .inv .few)
+μ-loop s₀ names n i₀ s i = n - i
 
 loop-again : tie.Need-loop-again Inv-loop μ-loop
 loop-again c =
-    let back = c .before .before .before .before .before in
-    reached-more _ _ _ _ _ _ _ (back .before .loop .inv) (c .before .before .before .before .name-end .ensures) (c .before .before .write-name .ensures)
+    let w = c .before .before in
+    let l = w .before .before .before .loop in
+    let a = w .before .before .before .before .before .before .args in
+    let ns = firstNames (a .n) (a .names .now) in
+    let m = upTo-length (nameAt (a .names .now)) (a .n) in
+    let e = upTo-at (nameAt (a .names .now)) (a .n) (l .i) [] (omega arith) in (
+      omega arith,
+      omega arith,
+      rw (w .write-name .ensures, ← e) (sym (names-more ns (l .s) (l .i) (omega arith)) ∙ l .inv .2),
+    )
 
 returns : tie.Need-returns Inv-loop μ-loop
-returns c = reached-all _ _ _ _ _ (c .before .loop .inv) (omega arith)
+returns c =
+    let l = c .before .loop in
+    let a = c .before .before .before .before .args in
+    let m = upTo-length (nameAt (a .names .now)) (a .n) in
+    sym (names-all (firstNames (a .n) (a .names .now)) (l .s) (l .i) (omega arith)) ∙ l .inv .2
 
 pub write-names-spec : {M : Type 1} → statement M
 write-names-spec =
@@ -40,11 +45,9 @@ write-names-spec =
     (tie.spec
     Inv-loop
     μ-loop
-    loop-holds
-    (λ c κs. omega arith)
-    write-name-requires
+    (λ c. (omega arith, refl, refl))
+    (λ c κs. (omega arith, (omega arith, omega arith)))
     (λ c. omega arith)
-    add-i
     (λ c. omega arith)
     loop-again
     (λ c. omega arith)

@@ -26,7 +26,7 @@ is-blank-requires : tie.Need-is-blank-requires Inv-loop μ-loop
 is-blank-requires c κs = search needs
 
 returns : tie.Need-returns Inv-loop μ-loop
-returns c = record { past = search needs; within = search needs; tokens = c .before .before .before .before .loop .inv .tokens; stop = λ e. eqb-false _ 0 (sym (c .before .is-blank .ensures .1) ∙ not-true _ (c .if1 .taken)) (sym (kind-there _ _ (search needs)) ∙ e) }
+returns c = record { past = search needs; within = search needs; tokens = c .before .before .before .before .loop .inv .tokens; each = c .before .before .before .before .loop .inv .each; stop = λ e. eqb-false _ 0 (sym (c .before .is-blank .ensures .1) ∙ not-true _ (c .if1 .taken)) (sym (kind-there _ _ (search needs)) ∙ e) }
 
 add-at : tie.Need-add-at Inv-loop μ-loop
 add-at c = search needs
@@ -38,7 +38,7 @@ loop-again : tie.Need-loop-again Inv-loop μ-loop
 loop-again c = blanks-more _ _ _ (c .before .before .before .before .loop .inv) (search needs) (kind-is 0 (sym (eqb-true _ 0 (sym (c .before .is-blank .ensures .1) ∙ not-false _ (c .if1 .left)))) (omega arith))
 
 returns-2 : tie.Need-returns-2 Inv-loop μ-loop
-returns-2 c = record { past = search needs; within = search needs; tokens = c .before .loop .inv .tokens; stop = end-stops _ _ (c .loop-test .left) }
+returns-2 c = record { past = search needs; within = search needs; tokens = c .before .loop .inv .tokens; each = c .before .loop .inv .each; stop = end-stops _ _ (c .loop-test .left) }
 
 pub skip-blanks-spec : {M : Type 1} → statement M
 skip-blanks-spec =

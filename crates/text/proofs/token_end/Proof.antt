@@ -1,12 +1,9 @@
 -- `text::token_end` meets its contract. Assumes nothing.
 use Prim.Native.Nat.{_-_}
-use native.Mathlib.Omega.{arith}
 use borrow.Author.Needs.{needs}
-use borrow.Author.Tests.{eqb-true, eqb-false, not-true, not-false}
-use mathlib.Core.Path.{sym, ap, _∙_}
+use borrow.Author.Tests.{not-true, not-false}
+use mathlib.Core.Path.{sym, _∙_}
 use lib.ListN.{length}
-use Rattle.text.specs.Read.{kindNo}
-use Rattle.text.specs.PlaceLaws.{kind-is}
 use Rattle.text.proofs.SymbolLaws.{Run, run-none, run-more, run-stop, run-end}
 use Rattle.text.proofs.token_end.Statement.{statement}
 use Rattle.text.proofs.token_end.Tie as tie
@@ -27,7 +24,7 @@ is-label-byte-requires : tie.Need-is-label-byte-requires Inv-loop μ-loop
 is-label-byte-requires c κs = search needs
 
 returns : tie.Need-returns Inv-loop μ-loop
-returns c = run-stop _ _ _ (c .before .before .before .before .loop .inv) (search needs) (λ e. eqb-false _ 1 (sym (c .before .is-label-byte .ensures .1) ∙ not-true _ (c .if1 .taken)) (ap kindNo e)) (sym (c .before .is-label-byte .ensures .0) ∙ not-true _ (c .if1 .taken))
+returns c = run-stop _ _ _ (c .before .before .before .before .loop .inv) (sym (c .before .is-label-byte .ensures) ∙ not-true _ (c .if1 .taken))
 
 add-end : tie.Need-add-end Inv-loop μ-loop
 add-end c = search needs
@@ -36,7 +33,7 @@ loop-less : tie.Need-loop-less Inv-loop μ-loop
 loop-less c = search needs
 
 loop-again : tie.Need-loop-again Inv-loop μ-loop
-loop-again c = run-more _ _ _ (c .before .before .before .before .loop .inv) (search needs) (kind-is 1 (sym (eqb-true _ 1 (sym (c .before .is-label-byte .ensures .1) ∙ not-false _ (c .if1 .left)))) (omega arith)) (sym (c .before .is-label-byte .ensures .0) ∙ not-false _ (c .if1 .left))
+loop-again c = run-more _ _ _ (c .before .before .before .before .loop .inv) (search needs) (sym (c .before .is-label-byte .ensures) ∙ not-false _ (c .if1 .left))
 
 returns-2 : tie.Need-returns-2 Inv-loop μ-loop
 returns-2 c = run-end _ _ _ (c .before .loop .inv) (search needs)

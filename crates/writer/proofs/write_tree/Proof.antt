@@ -1,4 +1,4 @@
--- `writer::write_tree` meets its contract: the text, made in an array of 2,240 bytes, is copied where there is room. Assumes nothing.
+-- `writer::write_tree` meets its contract: the text, made in an array of 4,352 bytes, is copied where there is room. Assumes nothing.
 use mathlib.Core.Path.{refl}
 use native.Mathlib.Omega.{arith}
 use borrow.Author.Needs.{needs}

@@ -13,14 +13,14 @@ give-both-requires c κs =
     let back = c .before .before .before .before .before in
     let w = back .before .before .before .before .before .before .before .pre in
     let f = rw (c .before .before .before .before .n .given .1) at (back .before .before .write-strict .ensures) in
-    (w, both-some _ w (replicate 2240 0) _ (omega (arith, length-replicate {A = ℕ} 2240 0)) 0 0 _ f .0)
+    (w, both-some _ w (replicate 4352 0) _ (omega (arith, length-replicate {A = ℕ} 4352 0)) 0 0 _ f .0)
 
 returns : tie.Need-returns
 returns c =
     let back = c .before .before .before .before .before in
     let s = back .before .before .before .before in
     let f = rw (c .before .r .given .1) at (c .before .before .before .before .write-strict .ensures) in
-    both-none _ (s .pre) (replicate 2240 0) _ (omega (arith, length-replicate {A = ℕ} 2240 0)) (s .args .strict .now) (s .args .majority .now) _ f
+    both-none _ (s .pre) (replicate 4352 0) _ (omega (arith, length-replicate {A = ℕ} 4352 0)) (s .args .strict .now) (s .args .majority .now) _ f
 
 returns-2 : tie.Need-returns-2
 returns-2 c =
@@ -29,7 +29,7 @@ returns-2 c =
     let s = far .before .before .before .before .before .before .before in
     let a = s .args in
     let f = rw (back .before .before .before .before .n .given .1) at (far .before .before .write-strict .ensures) in
-    let e = both-some _ (s .pre) (replicate 2240 0) _ (omega (arith, length-replicate {A = ℕ} 2240 0)) _ _ _ f .1 in
+    let e = both-some _ (s .pre) (replicate 4352 0) _ (omega (arith, length-replicate {A = ℕ} 4352 0)) _ _ _ f .1 in
     both-as _ (a .strict .now) (a .majority .now) _ e _ _ _ (c .before .before .before .before .give-both .ensures)
 
 pub write-both-spec : {M : Type 1} → statement M

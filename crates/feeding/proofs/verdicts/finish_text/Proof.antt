@@ -1,10 +1,10 @@
 -- `feeding::verdicts::finish_text` meets its contract: 6, the text's own refusal, or the tree if there is room. Assumes nothing.
-use mathlib.Core.Path.{refl, sym, _∙_}
+use mathlib.Core.Path.{refl, _∙_}
 use native.Mathlib.Omega.{arith}
 use borrow.Author.Needs.{needs}
 use Rattle.answers.specs.Answers.{refusalNumber, progressGiven}
-use Rattle.lanes.specs.LaneLaws.{lane-overrun}
-use Rattle.feeding.specs.FinishLaws.{verdict-over, verdict-refused, verdict-room, held-text, judged-refused, judged-gives, opening-kept, front-tree, splits-of, accepts-size, finish-refused, finish-room}
+use Rattle.lanes.specs.LaneLaws.{lane-overrun, lane-holding}
+use Rattle.feeding.specs.FinishLaws.{verdict-over, verdict-refused, verdict-room, judged-refused, judged-gives, opening-kept, front-tree, splits-of, accepts-size, finish-refused, finish-room}
 use Rattle.feeding.proofs.verdicts.finish_text.Statement.{statement}
 use Rattle.feeding.proofs.verdicts.finish_text.Tie as tie
 
@@ -13,8 +13,8 @@ unfolding progressGiven refusalNumber
 returns c =
     let n = c .before .before .before .before .before in
     let d = n .before .before .before in
-    let o = lane-overrun _ (d .pre .0) _ (d .pre .1 .0) (sym (n .lane-length .ensures .0) ∙ c .before .before .before .before .if1 .taken) in
-    finish-refused _ _ (d .pre .1 .0) _ (c .before .before .empty-lane .ensures) _ 6 (verdict-over _ _ o) refl
+    let o = lane-overrun _ (d .pre .0) _ (d .pre .1 .0) _ (n .lane-length .ensures .0) (c .before .before .before .before .if1 .taken) in
+    finish-refused _ _ (d .pre .1 .0) _ (c .before .before .empty-lane .ensures) _ 6 (verdict-over _ _ _ o) refl
 
 judge-lane-requires : tie.Need-judge-lane-requires
 judge-lane-requires c κs =
@@ -31,7 +31,7 @@ returns-2 c =
     let i = far .before in
     let d = i .before .before .before .before in
     let j = judged-refused _ _ _ _ _ (back .before .before .before .judge-lane .ensures) _ (c .before .judged .given .1) in
-    let t = held-text _ (d .pre .0) _ (d .pre .1 .0) _ (i .before .lane-length .ensures .0) (i .if1 .left) in
+    let t = lane-holding _ (d .pre .0) _ (d .pre .1 .0) _ (i .before .lane-length .ensures .0) (i .if1 .left) in
     finish-refused _ _ (d .pre .1 .0) _ (c .before .before .before .before .before .empty-lane2 .ensures) _ _ (verdict-refused _ _ _ _ t j) refl
 
 accept-requires : tie.Need-accept-requires
@@ -52,7 +52,7 @@ returns-3 c =
     let i = first .before in
     let d = i .before .before .before .before in
     let j = judged-gives _ _ _ _ _ (far .before .before .before .judge-lane .ensures) _ (back .before .judged2 .given .1) in
-    let t = held-text _ (d .pre .0) _ (d .pre .1 .0) _ (i .before .lane-length .ensures .0) (i .if1 .left) in
+    let t = lane-holding _ (d .pre .0) _ (d .pre .1 .0) _ (i .before .lane-length .ensures .0) (i .if1 .left) in
     let e = front-tree _ _ _ _ _ (j .2) (j .3) in
     finish-room _ _ (d .pre .1 .0) _ (back .before .before .before .before .before .empty-lane2 .ensures) (j .0) _ _ _ e
     (verdict-room _ _ _ _ t (j .1)) (c .before .before .accept .ensures)

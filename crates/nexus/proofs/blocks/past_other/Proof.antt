@@ -36,7 +36,8 @@ part-ends-other-end : tie.Need-part-ends-other-end Inv-loop μ-loop
 part-ends-other-end c = search needs
 
 ends-other-requires : tie.Need-ends-other-requires Inv-loop μ-loop
-ends-other-requires c κs = search needs
+ends-other-requires c κs =
+    c .before .before .command-end .ensures .paired (omega (arith, c .before .if1 .left, c .before .before .command-end .ensures .within))
 
 add-result-2 : tie.Need-add-result-2 Inv-loop μ-loop
 add-result-2 c = search needs

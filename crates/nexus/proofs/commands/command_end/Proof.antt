@@ -1,5 +1,5 @@
--- `nexus::commands::command_end` meets its contract. The loop's invariant: no comment is open at `at`, no semicolon stands before it
--- outside comments, and no plain byte stands there. Assumes nothing.
+-- `nexus::commands::command_end` meets its contract. The loop's invariant: no comment and no quotes are open at `at`, no semicolon
+-- stands before it outside them, and no plain byte stands there. Assumes nothing.
 use Prim.Native.Nat.{_-_}
 use native.Mathlib.Omega.{arith}
 use borrow.Author.Needs.{needs}
@@ -19,18 +19,20 @@ returns c = command-here _ _ _ (c .before .before .before .loop .inv) (omega ari
 
 returns-2 : tie.Need-returns-2 Inv-loop μ-loop
 returns-2 c =
-    let back = c .before .before in
-    command-open _ _ _ (back .before .before .before .loop .inv) _ (omega arith) (back .if1 .left) (c .before .past-comment .ensures) (omega arith)
+    let back = c .before .before .before .before in
+    command-open _ _ _ (back .before .before .before .loop .inv) _ _ (omega arith) (back .if1 .left) (c .before .before .closing .ensures) (c .before .past-next .ensures)
+    (omega arith)
 
 loop-less : tie.Need-loop-less Inv-loop μ-loop
 loop-less c =
-    let e = c .before .before .past-comment .ensures .closed (omega arith) .0 in
+    let e = c .before .before .past-next .ensures .found (omega arith) .0 in
     omega (arith, e, c .past-plain2 .ensures .past)
 
 loop-again : tie.Need-loop-again Inv-loop μ-loop
 loop-again c =
-    let back = c .before .before .before in
-    passed-more _ _ _ (back .before .before .before .loop .inv) _ _ (omega arith) (back .if1 .left) (c .before .before .past-comment .ensures) (omega arith) (c .past-plain2 .ensures)
+    let back = c .before .before .before .before .before in
+    passed-more _ _ _ (back .before .before .before .loop .inv) _ _ _ (omega arith) (back .if1 .left) (c .before .before .before .closing .ensures)
+    (c .before .before .past-next .ensures) (omega arith) (c .past-plain2 .ensures)
 
 pub command-end-spec : {M : Type 1} → statement M
 command-end-spec =
@@ -43,6 +45,8 @@ command-end-spec =
     (λ c. omega arith)
     returns
     (λ c. omega arith)
+    (λ c. omega arith)
+    (λ c κs. search needs)
     (λ c κs. omega arith)
     returns-2
     (λ c κs. omega arith)

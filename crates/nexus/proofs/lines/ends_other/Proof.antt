@@ -18,7 +18,7 @@ abbrev μ-loop : tie.MeasureT-loop
 μ-loop c at₀ t4 at = length c - at
 
 loop-holds : tie.Need-loop-holds Inv-loop μ-loop
-loop-holds c = passed-first _ _ (c .skip .ensures)
+loop-holds c = passed-first _ _ (c .before .before .pre) (c .skip .ensures)
 
 returns : tie.Need-returns Inv-loop μ-loop
 unfolding bytes

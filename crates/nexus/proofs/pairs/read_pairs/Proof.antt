@@ -23,14 +23,14 @@ loop-holds c = (read-none _ _ _ (c .before .before .pre .0), search needs)
 first-token-requires : tie.Need-first-token-requires Inv-loop μ-loop
 first-token-requires c κs = c .before .loop .inv .0 .here
 
-first-token-requires-2 : tie.Need-first-token-requires-2 Inv-loop μ-loop
-first-token-requires-2 c κs = c .first-token .ensures .within
+first-label-requires : tie.Need-first-label-requires Inv-loop μ-loop
+first-label-requires c κs = c .first-token .ensures .within
 
 returns : tie.Need-returns Inv-loop μ-loop
 returns c =
     let l = c .before .before .before .before .before .loop in
     let k = c .before .before .before .first-token in
-    let v = c .before .before .first-token2 in
+    let v = c .before .before .first-label in
     (read-fault _ _ _ _ _ (l .inv .0) _ (list-none _ _ _ _ (k .ensures) (v .ensures) (c .before .is-none .ensures .none (c .if1 .taken))), l .inv .1)
 
 put-pair-requires : tie.Need-put-pair-requires Inv-loop μ-loop
@@ -43,7 +43,7 @@ put-pair-requires c κs =
 skip-requires : tie.Need-skip-requires Inv-loop μ-loop
 skip-requires c κs =
     let back = c .before .before .before .before .before in
-    back .before .first-token2 .ensures .within
+    back .before .first-label .ensures .within
 
 same-length-2 : tie.Need-same-length-2 Inv-loop μ-loop
 same-length-2 c =
@@ -51,7 +51,7 @@ same-length-2 c =
     let far = back .before .before .before .before .before in
     let l = far .before .loop in
     let k = back .before .before .before .before .first-token in
-    let v = back .before .before .before .first-token2 in
+    let v = back .before .before .before .first-label in
     let put = c .before .before .before .before .put-pair .ensures in
     ap length put ∙ placed-length (l .places) (l .n) (k .result) (v .result) ∙ l .inv .1
 
@@ -61,7 +61,7 @@ returns-2 c =
     let far = back .before .before .before .before .before in
     let l = far .before .loop in
     let k = back .before .before .before .before .first-token in
-    let v = back .before .before .before .first-token2 in
+    let v = back .before .before .before .first-label in
     let put = c .before .before .before .before .put-pair .ensures in
     let two = back .before .before .is-none .ensures .both (back .before .if1 .left) in
     let few : l .n < mostKeys = far .loop-test .taken in
@@ -76,7 +76,7 @@ same-length-3 c =
     let far = back .before .before .before .before .before in
     let l = far .before .before .before .loop in
     let k = far .before .first-token in
-    let v = far .first-token2 in
+    let v = far .first-label in
     let put = back .before .put-pair .ensures in
     ap length put ∙ placed-length (l .places) (l .n) (k .result) (v .result) ∙ l .inv .1
 
@@ -86,10 +86,11 @@ returns-3 c =
     let far = back .before .before .before .before .before in
     let l = far .before .before .before .loop in
     let k = far .before .first-token in
-    let v = far .first-token2 in
-    let put = back .before .put-pair .ensures in (
+    let v = far .first-label in
+    let put = back .before .put-pair .ensures in
+    let two = back .before .before .before .before .is-none .ensures .both (back .before .before .before .if1 .left) in (
       read-fault _ _ _ _ _ (l .inv .0) _
-          (list-stray _ _ _ _ (k .ensures) (v .ensures) _ (c .before .before .before .skip .ensures) (search needs) (c .if3 .taken)),
+          (list-stray _ _ _ _ (k .ensures) (v .ensures) two _ (c .before .before .before .skip .ensures) (search needs) (c .if3 .taken)),
       ap length put ∙ placed-length (l .places) (l .n) (k .result) (v .result) ∙ l .inv .1,
     )
 
@@ -100,7 +101,7 @@ loop-again c =
     let first = far .before .before .before .before .before in
     let l = far .before .before .before .loop in
     let k = far .before .first-token in
-    let v = far .first-token2 in
+    let v = far .first-label in
     let put = back .before .put-pair .ensures in
     let two = back .before .before .before .before .is-none .ensures .both (back .before .before .before .if1 .left) in
     let few : l .n < mostKeys = far .before .before .loop-test .taken in
@@ -121,7 +122,7 @@ read-pairs-spec =
     μ-loop
     loop-holds
     first-token-requires
-    first-token-requires-2
+    first-label-requires
     (λ c κs. search needs)
     (λ c. c .before .before .before .before .before .loop .inv .1)
     returns

@@ -8,14 +8,19 @@ use Rattle.nexus.proofs.plain.past_marked.Tie as tie
 
 returns : tie.Need-returns
 returns c =
-    kept-marked _ _ _ _ (omega arith) (sym (c .before .before .is-mark .ensures) ∙ c .before .if1 .taken)
-    (kept-behind _ _ _ _ refl (c .past-kept .ensures))
+    let k = c .past-kept .ensures in (
+      kept-marked _ _ _ _ (omega arith) (sym (c .before .before .is-mark .ensures) ∙ c .before .if1 .taken) (kept-behind _ _ _ _ refl k),
+      λ e. omega (arith, k .run .past),
+    )
 
 returns-2 : tie.Need-returns-2
-returns-2 c = kept-none _ _ _ (omega arith)
+returns-2 c = let q = c .past-quotes .ensures in (q .kept _, λ e. q .past)
 
 returns-3 : tie.Need-returns-3
-returns-3 c = kept-behind _ _ _ _ (c .before .if2 .left) (c .past-kept2 .ensures)
+returns-3 c = (kept-none _ _ _ (omega arith), λ e. absurd (c .before .if2 .left e))
+
+returns-4 : tie.Need-returns-4
+returns-4 c = (kept-behind _ _ _ _ (c .before .if3 .left) (c .past-kept2 .ensures), λ e. absurd (c .before .before .if2 .left e))
 
 pub past-marked-spec : {M : Type 1} → statement M
 past-marked-spec =
@@ -26,6 +31,8 @@ past-marked-spec =
     (λ c. search needs)
     (λ c κs. search needs)
     returns
-    returns-2
     (λ c κs. search needs)
-    returns-3)
+    returns-2
+    returns-3
+    (λ c κs. search needs)
+    returns-4)

@@ -22,7 +22,7 @@ abbrev μ-loop : tie.MeasureT-loop
 put-run-requires : tie.Need-put-run-requires Inv-loop μ-loop
 put-run-requires c κs =
     let v = c .before .before .before .before .loop .inv in
-    let y = c .before .before .kept-end .ensures in
+    let y = c .before .before .kept-end .ensures .0 in
     (y .past, (y .within, (v .few, v .size)))
 
 put-token-requires : tie.Need-put-token-requires Inv-loop μ-loop
@@ -44,11 +44,11 @@ stepped : (c : tie.Joined1 Inv-loop μ-loop) →
 stepped c =
     ⊎-elim
     (λ w. rw (w .7, w .8, w .9, w .10)
-    (kept-step _ _ _ _ _ _ _ _ _ _ (c .before .kept-end .ensures) (w .0 .taken) (w .2 .ensures) (ap not (w .6 .ensures))))
+    (kept-step _ _ _ _ _ _ _ _ _ _ (c .before .kept-end .ensures .0) (w .0 .taken) (w .2 .ensures) (ap not (w .6 .ensures))))
     (⊎-elim
     (λ w. rw (w .7, w .8, w .9, w .10) (token-step _ _ _ _ _ _ _ _ _ (w .1 .ensures) (w .2 .taken) (w .4 .ensures)))
     (λ w. rw (w .10, w .11, w .12, w .13)
-    (byte-step _ _ _ _ _ _ _ _ _ (w .1 .ensures) _ _ _ (w .2 .left) (w .3 .ensures) (w .9 .ensures) (w .5 .ensures) (w .8 .ensures))))
+    (byte-step _ _ _ _ _ _ _ _ _ (w .1 .ensures) _ _ _ (w .2 .left) (λ q. omega (arith, c .before .kept-end .ensures .1 q, w .0 .left)) (w .3 .ensures) (w .9 .ensures) (w .5 .ensures) (w .8 .ensures))))
     (c .if1 .came)
 
 returns : tie.Need-returns Inv-loop μ-loop
@@ -86,7 +86,7 @@ write-text-spec =
     (λ c κs. omega arith)
     put-run-requires
     (λ c. omega (arith, c .before .before .before .before .if1 .taken))
-    (λ c. omega (arith, c .before .before .before .before .before .if1 .taken, c .before .before .before .before .before .before .kept-end .ensures .within))
+    (λ c. omega (arith, c .before .before .before .before .before .if1 .taken, c .before .before .before .before .before .before .kept-end .ensures .0 .within))
     (λ c κs. tt)
     (λ c κs. c .before .before .before .loop .inv .within)
     put-token-requires

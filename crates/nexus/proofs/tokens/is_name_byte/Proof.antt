@@ -9,7 +9,7 @@ returns : tie.Need-returns
 returns c = sym (name-equals _ (c .if1 .taken))
 
 returns-2 : tie.Need-returns-2
-returns-2 c = c .is-label-byte .ensures .0 ∙ sym (name-label _ (c .before .if1 .left))
+returns-2 c = c .is-label-byte .ensures ∙ sym (name-label _ (c .before .if1 .left))
 
 pub is-name-byte-spec : {M : Type 1} → statement M
 is-name-byte-spec = tie.close (tie.spec returns (λ c κs. search needs) returns-2)

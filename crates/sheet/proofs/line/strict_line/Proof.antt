@@ -13,7 +13,7 @@ unfolding bytes
 tree-line-requires c κs =
     let m = c .before .before .before .before .write-strict .ensures in
     let back = c .before .before .before .before .before in
-    strict-shown _ (back .before .before .before .pre) (replicate 2240 0) _ _ (m .0) (m .1) (omega (arith, length-replicate {A = ℕ} 2240 0))
+    strict-shown _ (back .before .before .before .pre) (replicate 4352 0) _ _ (m .0) (m .1) (omega (arith, length-replicate {A = ℕ} 4352 0))
 
 returns : tie.Need-returns
 unfolding bytes
@@ -22,7 +22,7 @@ returns c =
     let m = back .before .before .write-strict .ensures in
     let t = c .before .before .tree-line .ensures in
     let far = back .before .before .before .before .before in
-    (strict-put _ (far .before .pre) (replicate 2240 0) _ _ (m .0) (m .1) (omega (arith, length-replicate {A = ℕ} 2240 0)) (t .0), t .1)
+    (strict-put _ (far .before .pre) (replicate 4352 0) _ _ (m .0) (m .1) (omega (arith, length-replicate {A = ℕ} 4352 0)) (t .0), t .1)
 
 pub strict-line-spec : {M : Type 1} → statement M
 strict-line-spec =

@@ -22,15 +22,16 @@ returns-2 c =
 
 names-good-requires : tie.Need-names-good-requires
 names-good-requires c κs =
-    let a = passed _ _ (c .before .before .before .numbers-good .ensures) (c .before .before .if1 .left) in
-    (c .before .before .before .before .before .pre, in-range _ a .most-taxa)
+    let d = c .before in
+    let a = passed _ _ (d .before .before .before .numbers-good .ensures) (d .before .before .if1 .left) in
+    (d .before .before .before .before .before .pre, rw (c .taxa .ensures .0) (in-range _ a .most-taxa))
 
 returns-3 : tie.Need-returns-3
 returns-3 c =
-    let d = c .before in
+    let d = c .before .before in
     let a = passed _ _ (d .before .before .before .numbers-good .ensures) (d .before .before .if1 .left) in
     let b = passed _ _ (d .before .constants-good .ensures) (d .if2 .left) in
-    c .names-good .ensures ∙ sym (opening-names _ a b)
+    c .names-good .ensures ∙ sym (opening-names _ a b _ (c .before .taxa .ensures .0))
 
 pub opening-good-spec : {M : Type 1} → statement M
 opening-good-spec =
@@ -40,5 +41,6 @@ opening-good-spec =
     returns
     constants-good-requires
     returns-2
+    (λ c κs. search needs)
     names-good-requires
     returns-3)

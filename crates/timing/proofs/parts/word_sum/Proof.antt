@@ -5,10 +5,10 @@ use Rattle.timing.proofs.parts.word_sum.Statement.{statement}
 use Rattle.timing.proofs.parts.word_sum.Tie as tie
 
 abbrev Inv-loop : tie.InvT-loop
-Inv-loop s sum₀ i₀ sum i = i ≤ 31745
+Inv-loop s sum₀ i₀ sum i = i ≤ 31809
 
 abbrev μ-loop : tie.MeasureT-loop
-μ-loop s sum₀ i₀ sum i = 31745 - i
+μ-loop s sum₀ i₀ sum i = 31809 - i
 
 pub word-sum-spec : {M : Type 1} → statement M
 word-sum-spec =

@@ -1,0 +1,100 @@
+// Calls whose answer is bytes: `strict`, `majority`, `both`, `write` and `peek`.
+use crate::State;
+use crate::kinds;
+use crate::output;
+use crate::parse::Call;
+use crate::parts;
+use crate::replies;
+use answers::Both;
+use answers::Number;
+use answers::Tree;
+
+// Answers `strict`, `majority`, `both` and `write`.
+pub(crate) fn trees(lent: &[u8], call: Call, out: &mut [u8], state: State) -> State {
+    if call.kind == kinds::BOTH {
+        return both(lent, out, state);
+    }
+    tree(lent, call, out, state)
+}
+
+// The calls that write one tree. The longest text has 4,349 bytes.
+fn tree(lent: &[u8], call: Call, out: &mut [u8], state: State) -> State {
+    let mut text = [0u8; 4352];
+    let answer = written(lent, call, state.room, &mut text);
+    told(&text, answer, out, state)
+}
+
+// Answers `peek AT N`.
+pub(crate) fn peek(lent: &[u8], at: usize, n: usize, out: &mut [u8], state: State) -> State {
+    if lent.len() < at {
+        return replies::line(out, replies::bad_line(), state);
+    }
+    if lent.len() - at < n {
+        return replies::line(out, replies::bad_line(), state);
+    }
+    let end = at + n;
+    shown(&lent[at..end], out, state)
+}
+
+// The answer of `peek`.
+fn shown(bytes: &[u8], out: &mut [u8], state: State) -> State {
+    let begun = output::bytes(out, b"bytes ", state);
+    let told = output::hex(out, bytes, begun);
+    output::byte(out, 10, told)
+}
+
+// Writes a tree into this buffer, of which `room` bytes are lent.
+fn written(lent: &[u8], call: Call, room: usize, text: &mut [u8]) -> Number {
+    let n = parts::least(room, text.len());
+    let kind = call.kind;
+    match kind {
+        kinds::STRICT => consensus::strict(lent, &mut text[..n]),
+        kinds::MAJORITY => consensus::majority(lent, &mut text[..n]),
+        _ => consensus::write_accepted(lent, Tree(call.a), &mut text[..n]),
+    }
+}
+
+// The answer of a call that writes a tree: the bytes of the text as they are.
+fn told(text: &[u8], answer: Number, out: &mut [u8], state: State) -> State {
+    match answer {
+        Number::Refused(r) => replies::line(out, replies::refused(r), state),
+        Number::Gives(k) => {
+            let n = parts::least(k, text.len());
+            output::line(out, b"text ", &text[..n], state)
+        }
+    }
+}
+
+// Answers `both`.
+fn both(lent: &[u8], out: &mut [u8], state: State) -> State {
+    let mut strict = [0u8; 4352];
+    let mut majority = [0u8; 4352];
+    let answer = both_written(lent, state.room, &mut strict, &mut majority);
+    both_told(&strict, &majority, answer, out, state)
+}
+
+// Writes both consensus trees into these buffers, of which `room` bytes each are lent.
+fn both_written(lent: &[u8], room: usize, strict: &mut [u8], majority: &mut [u8]) -> Both {
+    let n = parts::least(room, strict.len());
+    let m = parts::least(room, majority.len());
+    consensus::both(lent, &mut strict[..n], &mut majority[..m])
+}
+
+// The answer of `both`.
+fn both_told(strict: &[u8], majority: &[u8], answer: Both, out: &mut [u8], state: State) -> State {
+    match answer {
+        Both::Refused(r) => replies::line(out, replies::refused(r), state),
+        Both::Gives(a, b) => {
+            let n = parts::least(a, strict.len());
+            let m = parts::least(b, majority.len());
+            both_line(&strict[..n], &majority[..m], out, state)
+        }
+    }
+}
+
+// The line of two texts, with a space between.
+fn both_line(strict: &[u8], majority: &[u8], out: &mut [u8], state: State) -> State {
+    let begun = output::bytes(out, b"both ", state);
+    let told = output::bytes(out, strict, begun);
+    output::line(out, b" ", majority, told)
+}
