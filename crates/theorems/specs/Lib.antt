@@ -48,6 +48,7 @@ pub mod FaultLaws
 pub mod RefusingLaws
 pub mod RefusalNumberLaws
 pub mod EdgeLaws
+pub mod EdgeLengthLaws
 pub mod PermLaws
 pub mod Unrooted
 pub mod UnrootedLaws

@@ -7,6 +7,7 @@ pub mod Grammar
 pub mod Reading
 pub mod Names
 pub mod Splits
+pub mod Lengths
 pub mod Verdict
 pub mod Distance
 pub mod Consensus
