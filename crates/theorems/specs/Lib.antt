@@ -67,3 +67,10 @@ pub mod NexusCallLaws
 pub mod NexusFile
 pub mod NexusFileLaws
 pub mod NexusWrittenLaws
+pub mod Size
+pub mod SizeLaws
+pub mod FloatLaws
+pub mod NearestLaws
+pub mod ProperDoubleLaws
+pub mod ValueLaws
+pub mod LengthSumLaws

@@ -2,6 +2,7 @@ pub mod Plain
 pub mod Mask
 pub mod Text
 pub mod Length
+pub mod Value
 pub mod Tree
 pub mod Grammar
 pub mod Reading
@@ -24,6 +25,7 @@ pub mod NexusCall
 pub mod Runs
 pub mod Samples
 pub mod FurtherTexts
+pub mod FurtherLengths
 pub mod FurtherOpenings
 pub mod FurtherCalls
 pub mod FurtherFiles
