@@ -2,6 +2,7 @@ pub mod Plain
 pub mod Mask
 pub mod Text
 pub mod Length
+pub mod Value
 pub mod Tree
 pub mod Grammar
 pub mod Reading
@@ -10,6 +11,8 @@ pub mod Splits
 pub mod Verdict
 pub mod Distance
 pub mod Consensus
+pub mod Sums
+pub mod Weighted
 pub mod Hash
 pub mod Written
 pub mod Opening
@@ -27,3 +30,4 @@ pub mod FurtherOpenings
 pub mod FurtherCalls
 pub mod FurtherFiles
 pub mod FurtherQuestions
+pub mod FurtherSums
