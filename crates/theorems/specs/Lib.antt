@@ -66,3 +66,9 @@ pub mod NexusCallLaws
 pub mod NexusFile
 pub mod NexusFileLaws
 pub mod NexusWrittenLaws
+pub mod Size
+pub mod SizeLaws
+pub mod OrderLaws
+pub mod GapLaws
+pub mod WeightedLaws
+pub mod SumLaws
