@@ -74,3 +74,7 @@ pub mod NearestLaws
 pub mod ProperDoubleLaws
 pub mod ValueLaws
 pub mod LengthSumLaws
+pub mod OrderLaws
+pub mod GapLaws
+pub mod WeightedLaws
+pub mod SumLaws

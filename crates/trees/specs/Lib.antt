@@ -12,6 +12,8 @@ pub mod Lengths
 pub mod Verdict
 pub mod Distance
 pub mod Consensus
+pub mod Sums
+pub mod Weighted
 pub mod Hash
 pub mod Written
 pub mod Opening
@@ -30,3 +32,4 @@ pub mod FurtherOpenings
 pub mod FurtherCalls
 pub mod FurtherFiles
 pub mod FurtherQuestions
+pub mod FurtherSums
