@@ -26,7 +26,7 @@ pub fn put_length(s: &mut [u8], at: usize, x: Length)
 {
     match x {
         Length::Absent => fields::put64(s, at, 0xffff_ffff_ffff_ffff),
-        Length::Given(d) => put_double(s, at, d),
+        Length::Given(d) => fields::put64(s, at, f64::to_bits(d)),
     }
 }
 
