@@ -18,6 +18,9 @@ pub enum Length {
     Given(f64),
 }
 
+// The bits that stand for no length: those of no double that may be stored.
+const NO_LENGTH: u64 = 0xffff_ffff_ffff_ffff;
+
 // Puts x into the 8 bytes of s from at.
 pub fn put_length(s: &mut [u8], at: usize, x: Length)
     requires { ⌜ at + 8 ≤ length (now s) ⌝ }
@@ -25,8 +28,8 @@ pub fn put_length(s: &mut [u8], at: usize, x: Length)
     ensures { λ r. ⌜ now (s .exit) ≡ putLength (now (s .entry)) at (branchGiven x) ⌝ }
 {
     match x {
-        Length::Absent => fields::put64(s, at, 0xffff_ffff_ffff_ffff),
-        Length::Given(d) => put_double(s, at, d),
+        Length::Absent => fields::put64(s, at, NO_LENGTH),
+        Length::Given(d) => fields::put64(s, at, f64::to_bits(d)),
     }
 }
 
@@ -37,7 +40,7 @@ pub fn get_length(s: &[u8], at: usize) -> Length
     ensures { λ r. ⌜ branchGiven r ≡ lengthAt (now (s .entry)) at ⌝ }
 {
     let bits = fields::get64(s, at);
-    if bits == 0xffff_ffff_ffff_ffff {
+    if bits == NO_LENGTH {
         return Length::Absent;
     }
     Length::Given(f64::from_bits(bits))
@@ -48,11 +51,11 @@ pub fn holds_length(s: &[u8], at: usize) -> bool
     requires { ⌜ at + 8 ≤ length (now s) ⌝ }
     ensures { λ r. ⌜ r ≡ goodLengthAt (now (s .entry)) at ⌝ }
 {
-    let bits = fields::get64(s, at);
-    if bits == 0xffff_ffff_ffff_ffff {
+    let held = fields::get64(s, at);
+    if held == NO_LENGTH {
         return true;
     }
-    is_proper(bits)
+    is_proper(held)
 }
 
 // Puts x, which is no NaN, into the 8 bytes of s from at.

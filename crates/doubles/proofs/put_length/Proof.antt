@@ -3,15 +3,14 @@ use mathlib.Core.Path.{_≡_, subst}
 use mathlib.Core.Bool.{true}
 use borrow.Author.Needs.{needs}
 use Rattle.theorems.specs.ProperDoubleLaws.{proper-number}
+use Rattle.doubles.specs.Double.{putDouble}
 use Rattle.doubles.specs.Stored.{branchGiven, goodLength, putLength}
 use Rattle.doubles.proofs.put_length.Statement.{statement}
 use Rattle.doubles.proofs.put_length.Tie as tie
 
-number : tie.Need-put-double-requires
+number : tie.Need-float-to-bits-put64
 unfolding branchGiven goodLength
-number c κs =
-    let base = c .before .before .before .before .before in
-    (search needs, proper-number _ (subst (λ q. goodLength (branchGiven q) ≡ true) (c .before .before .x .given .1) (base .pre .1)))
+number c = proper-number _ (subst (λ q. goodLength (branchGiven q) ≡ true) (c .before .before .x .given .1) (c .before .before .before .before .before .pre .1))
 
 returns : tie.Need-returns
 unfolding branchGiven putLength
@@ -20,10 +19,10 @@ returns c =
     rw (call .before .before .enum-told .given .1) (call .put64 .ensures)
 
 returns-2 : tie.Need-returns-2
-unfolding branchGiven putLength
+unfolding branchGiven putLength putDouble
 returns-2 c =
     let call = c .before .before in
-    rw (call .before .before .before .x .given .1) (call .put-double .ensures)
+    rw (call .before .before .before .x .given .1) (call .put642 .ensures)
 
 pub put-length-spec : {M : Type 1} → statement M
 put-length-spec =
@@ -33,6 +32,7 @@ put-length-spec =
     (λ c κs. search needs)
     (λ c. search needs)
     number
+    (λ c κs. search needs)
     (λ c. search needs)
     returns
     (λ c. search needs)
