@@ -33,3 +33,4 @@ pub mod FurtherCalls
 pub mod FurtherFiles
 pub mod FurtherQuestions
 pub mod FurtherSums
+pub mod FurtherBranches
