@@ -15,11 +15,13 @@ use Rattle.trees.specs.Plain.{if_then_else_}
 abbrev pub plusZero : Float
 plusZero = fin false 0 (pos 0)
 
+-- "the shortest .. length over the trees having it": the first that no other is below
 unfoldable pub shortest : Float → List Float → Float
 unfolding lt
 shortest x [] = x
 shortest x (y ∷ ys) = shortest (if lt y x then y else x) ys
 
+-- likewise the longest: the first that is below no other
 unfoldable pub longest : Float → List Float → Float
 unfolding lt
 longest x [] = x
@@ -31,6 +33,7 @@ unfolding add
 added t [] = t
 added t (x ∷ xs) = added (add binary64 t x) xs
 
+-- "the shortest, longest and summed length"
 pub record Sums : Type 0 where
   pub shortest : Float
   pub longest : Float

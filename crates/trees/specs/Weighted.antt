@@ -29,6 +29,7 @@ unfoldable pub gap : Float → Float → Float
 unfolding lt sub
 gap x y = if lt x y then sub binary64 y x else sub binary64 x y
 
+-- what one mask adds
 unfoldable pub gapAt : List ℕ → List Float → List ℕ → List Float → ℕ → Float
 unfolding gap lengthIn
 gapAt av xs bv ys m = gap (lengthIn m av xs) (lengthIn m bv ys)

@@ -10,6 +10,7 @@ use Rattle.weighing.specs.declared.Lengths.{Lengths}
 unfoldable pub sumsGiven : Lengths → Sums
 sumsGiven l = record { shortest = l .shortest; longest = l .longest; sum = l .sum }
 
+-- each of the three goes on where it stands
 unfoldable pub withLength : Sums → Float → Sums
 unfolding shortest longest added
 withLength s x = record { shortest = shortest (s .shortest) (x ∷ []); longest = longest (s .longest) (x ∷ []); sum = added (s .sum) (x ∷ []) }
