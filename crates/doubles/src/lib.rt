@@ -1,15 +1,12 @@
-// A double in 8 bytes of a slice, as its 64 bits, the lowest byte first; and a branch's length, or none, in as many.
+// A branch's length in 8 bytes of a slice: a double as its 64 bits, the lowest byte first, or none.
 //
-// Its contracts cite `specs/Double.antt` (`doubleAt`, `putDouble`) and `specs/Stored.antt` (`lengthAt`, `putLength`);
-// the laws that callers use stand in `DoubleLaws` and `StoredLaws` beside them.
+// Its contracts cite `specs/Stored.antt` (`lengthAt`, `putLength`); the laws that callers use stand in `StoredLaws` beside it.
 ghost use mathlib.Core.Path.{_≡_};
-ghost use mathlib.Core.Bool.{true, not};
+ghost use mathlib.Core.Bool.{true};
 ghost use Prim.Native.Nat.{_+_, _≤_};
-ghost use lib.Dec.{T};
 ghost use lib.ListN.{length};
-ghost use lib.Ieee.{binary64, ofBits, isNan};
+ghost use lib.Ieee.{binary64, ofBits};
 ghost use Rattle.trees.specs.Value.{proper};
-ghost use Rattle.doubles.specs.Double.{doubleAt, putDouble};
 ghost use Rattle.doubles.specs.Stored.{branchGiven, goodLength, lengthAt, goodLengthAt, putLength};
 
 // A branch has a length or has none.
@@ -56,32 +53,6 @@ pub fn holds_length(s: &[u8], at: usize) -> bool
         return true;
     }
     is_proper(held)
-}
-
-// Puts x, which is no NaN, into the 8 bytes of s from at.
-pub fn put_double(s: &mut [u8], at: usize, x: f64)
-    requires { ⌜ at + 8 ≤ length (now s) ⌝ }
-    requires { ⌜ T (not (isNan x)) ⌝ }
-    ensures { λ r. ⌜ now (s .exit) ≡ putDouble (now (s .entry)) at x ⌝ }
-{
-    fields::put64(s, at, f64::to_bits(x));
-}
-
-// The double in the 8 bytes of s from at, which is finite and not minus zero.
-pub fn get_double(s: &[u8], at: usize) -> f64
-    requires { ⌜ at + 8 ≤ length (now s) ⌝ }
-    requires { ⌜ proper (doubleAt (now s) at) ≡ true ⌝ }
-    ensures { λ r. ⌜ r ≡ doubleAt (now (s .entry)) at ⌝ }
-{
-    f64::from_bits(fields::get64(s, at))
-}
-
-// Whether the 8 bytes of s from at hold a double that is finite and not minus zero.
-pub fn holds_proper(s: &[u8], at: usize) -> bool
-    requires { ⌜ at + 8 ≤ length (now s) ⌝ }
-    ensures { λ r. ⌜ r ≡ proper (doubleAt (now (s .entry)) at) ⌝ }
-{
-    is_proper(fields::get64(s, at))
 }
 
 // Whether the bits are those of a double that is finite and not minus zero.
