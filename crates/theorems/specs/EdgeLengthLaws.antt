@@ -1,7 +1,7 @@
 -- Laws of a tree's edges with their lengths, and of the lengths in it.
 --
 --   Edge, cluster      an edge with its length; the taxa on its far side
---   edges-clusters     the edges are those whose clusters are the splits of the tree
+--   edges-clusters     the edges are those of the clusters, in their order
 --   edges-beside, tokens-beside     the edges and the lengths of nodes, and of nodes behind them
 --   tree-tokens        every length of a tree of the grammar is a length
 use Prim.Native.Nat.{ℕ}
