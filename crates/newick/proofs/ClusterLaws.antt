@@ -11,6 +11,7 @@ use mathlib.Core.Path.{_≡_, refl, ap, sym, _∙_, subst}
 use mathlib.Core.Logic.{_⊎_, inl, inr, ⊎-map}
 use mathlib.Core.Bool.{true}
 use mathlib.Core.List.{List, [], _∷_, _++_}
+use mathlib.Core.Option.{Option}
 use lib.Bits.{or-zero-r}
 use lib.ListN.{length}
 use Rattle.trees.specs.Mask.{everyTaxon, side, proper}
@@ -31,15 +32,15 @@ use Rattle.theorems.specs.SplitLaws.{counted-mem, mem-counted, counted-rising}
 unfoldable pub inners : List (List ℕ) → Nodes → List ℕ
 unfolding taxa
 inners ns nil = []
-inners ns (leaf w r) = inners ns r
-inners ns (inner c r) = inners ns c ++ (taxa ns c ∷ inners ns r)
+inners ns (leaf w e r) = inners ns r
+inners ns (inner c e r) = inners ns c ++ (taxa ns c ∷ inners ns r)
 
 module _ (ns : List (List ℕ)) where
   inners-clusters : (t : Nodes) (x : ℕ) → Mem x (inners ns t) → Mem x (clusters ns t)
   unfolding inners clusters
   inners-clusters nil x h = h
-  inners-clusters (leaf w r) x h = inr (inners-clusters r x h)
-  inners-clusters (inner c r) x h =
+  inners-clusters (leaf w l r) x h = inr (inners-clusters r x h)
+  inners-clusters (inner c l r) x h =
       go (mem-cases x (inners ns c) (taxa ns c ∷ inners ns r) h) (inners-clusters c x) (inners-clusters r x)
     where
       go : Mem x (inners ns c) ⊎ ((x ≡ taxa ns c) ⊎ Mem x (inners ns r)) → (Mem x (inners ns c) → Mem x (clusters ns c))
@@ -56,9 +57,9 @@ module _ (ns : List (List ℕ)) where
   clusters-inners : (t : Nodes) (x : ℕ) → Mem x (clusters ns t) → Mem x (inners ns t) ⊎ OfLeaf x
   unfolding inners clusters
   clusters-inners nil x h = inl h
-  clusters-inners (leaf w r) x (inl e) = inr (w, e)
-  clusters-inners (leaf w r) x (inr h) = clusters-inners r x h
-  clusters-inners (inner c r) x h =
+  clusters-inners (leaf w l r) x (inl e) = inr (w, e)
+  clusters-inners (leaf w l r) x (inr h) = clusters-inners r x h
+  clusters-inners (inner c l r) x h =
       go (mem-cases x (clusters ns c) (taxa ns c ∷ clusters ns r) h) (clusters-inners c x) (clusters-inners r x)
     where
       go : Mem x (clusters ns c) ⊎ ((x ≡ taxa ns c) ⊎ Mem x (clusters ns r)) → (Mem x (clusters ns c) → Mem x (inners ns c) ⊎ OfLeaf x)
@@ -102,13 +103,13 @@ module _ (o : Opening) (g : GoodOpening o) (c : Nodes) (all : taxa (o .names) c 
       go x (inl k) p = mem-left x (inners (o .names) c) (taxa (o .names) c ∷ []) k
       go x (inr q) p = absurd (leaf-never (o .names) (q .0) (ap (λ (z : ℕ). proper n (side n z)) (sym (q .1)) ∙ p))
 
-  inner-splits : counted n (inners (o .names) (inner c nil)) ≡ splitsOf (o .names) (inner c nil)
+  inner-splits : (e : Option (List ℕ)) → counted n (inners (o .names) (inner c e nil)) ≡ splitsOf (o .names) (inner c e nil)
   unfolding splitsOf children inners
-  inner-splits =
+  inner-splits e =
       rising-same (counted n masks) (counted n (clusters (o .names) c)) (counted-rising n masks) (counted-rising n (clusters (o .names) c)) right left
 
 pub inners-splits : (o : Opening) → GoodOpening o → {d : ℕ} {ss : List Symbol} {t : Nodes} → IsNode d ss t → taxa (o .names) t ≡ everyTaxon (length (o .names))
     → counted (length (o .names)) (inners (o .names) t) ≡ splitsOf (o .names) t
 unfolding splitsOf children clusters inners counted taxa
 inners-splits o g (is-leaf e) all = refl
-inners-splits o g (is-inner {c = c} z n h l e) all = inner-splits o g c (sym (or-zero-r (taxa (o .names) c)) ∙ all)
+inners-splits o g (is-inner {c = c} {x = x} z n h l e) all = inner-splits o g c (sym (or-zero-r (taxa (o .names) c)) ∙ all) x

@@ -99,7 +99,7 @@ all-seen ns t z =
 -- the leaves with the labels ws, side by side
 unfoldable flat : List (List ℕ) → Nodes
 flat [] = nil
-flat (w ∷ ws) = leaf w (flat ws)
+flat (w ∷ ws) = leaf w none (flat ws)
 
 flat-leaves : (ws : List (List ℕ)) → leaves (flat ws) ≡ ws
 unfolding flat leaves

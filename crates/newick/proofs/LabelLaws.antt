@@ -43,8 +43,8 @@ module _ (ns : List (List ℕ)) where
   pub leaves-taxa : (t : Nodes) → labelTaxa ns (leaves t) ≡ taxa ns t
   unfolding labelTaxa leaves taxa
   leaves-taxa nil = refl
-  leaves-taxa (leaf w r) = ap (bitOr (taxon ns w)) (leaves-taxa r)
-  leaves-taxa (inner c r) = taxa-append (leaves c) (leaves r) ∙ ap₂ bitOr (leaves-taxa c) (leaves-taxa r)
+  leaves-taxa (leaf w e r) = ap (bitOr (taxon ns w)) (leaves-taxa r)
+  leaves-taxa (inner c e r) = taxa-append (leaves c) (leaves r) ∙ ap₂ bitOr (leaves-taxa c) (leaves-taxa r)
 
 -- ---- fewer leaves and more
 

@@ -13,13 +13,13 @@ use native.Mathlib.Omega.{arith}
 use mathlib.Core.Path.{_≡_, refl, ap, ap₂, sym, _∙_, subst}
 use mathlib.Core.Bool.{Bool, true, false}
 use mathlib.Core.List.{List, [], _∷_, _++_, append-assoc, append-nil}
-use mathlib.Core.Option.{none as nothing, some}
+use mathlib.Core.Option.{Option, none as nothing, some}
 use lib.Dec.{leb}
 use lib.ListN.{length, set, length-append}
 use lib.Seq.{slice, sets}
 use borrow.Author.Tests.{leb-true, leb-false}
 use Rattle.trees.specs.Text.{Symbol, openBracket, closeBracket, comma, colon, stray, token, ended}
-use Rattle.trees.specs.Tree.{Nodes, nil, leaf, inner, beside, width, leaves}
+use Rattle.trees.specs.Tree.{Nodes, nil, leaf, inner, leafWith, beside, width, leaves}
 use Rattle.trees.specs.Reading.{Read, readLength, bracketed, joined, readComma, followed, readNode, readNodes, alone, reading}
 use Rattle.theorems.specs.TextLaws.{symbols-end}
 use Rattle.theorems.specs.FewLaws.{width-beside, leaves-beside}
@@ -67,8 +67,8 @@ comma-front t (token w ∷ r) more h = refl
 beside-assoc : (t u v : Nodes) → beside (beside t u) v ≡ beside t (beside u v)
 unfolding beside
 beside-assoc nil u v = refl
-beside-assoc (leaf w r) u v = ap (leaf w) (beside-assoc r u v)
-beside-assoc (inner c r) u v = ap (inner c) (beside-assoc r u v)
+beside-assoc (leaf w e r) u v = ap (leaf w e) (beside-assoc r u v)
+beside-assoc (inner c e r) u v = ap (inner c e) (beside-assoc r u v)
 
 joined-nil : (x : Read) → joined nil x ≡ x
 unfolding joined beside
@@ -83,8 +83,8 @@ joined-beside t u (some p) = ap (λ (v : Nodes). some (v, p .1)) (sym (beside-as
 spans-beside : (t u : Nodes) (i : ℕ) → spans i (beside t u) ≡ spans i t ++ spans (i + length (leaves t)) u
 unfolding spans beside leaves
 spans-beside nil u i = ap (λ (j : ℕ). spans j u) (sym (add-zero i))
-spans-beside (leaf w r) u i = spans-beside r u (i + 1) ∙ ap (λ (j : ℕ). spans (i + 1) r ++ spans j u) (omega arith)
-spans-beside (inner c r) u i =
+spans-beside (leaf w e r) u i = spans-beside r u (i + 1) ∙ ap (λ (j : ℕ). spans (i + 1) r ++ spans j u) (omega arith)
+spans-beside (inner c e r) u i =
     let j : ℕ = i + length (leaves c) in
     ap (λ l. spans i c ++ (i ∷ j ∷ l)) (spans-beside r u j ∙ ap (λ (k : ℕ). spans j r ++ spans k u) (omega (arith, length-append (leaves c) (leaves r))))
     ∙ sym (append-assoc (spans i c) (i ∷ j ∷ spans j r) (spans (i + length (leaves c ++ leaves r)) u))
@@ -123,13 +123,13 @@ module _ (s : List ℕ) (tokens nodes : List ℕ) where
       twice : {ts : List ℕ} → Labels s ts (leaves t) → 2 * (c .leaves + length (leaves t)) ≡ 2 * c .leaves + length ts
       twice r = omega (arith, twice-length r)
 
-inner-leaves : (t : Nodes) → leaves t ≡ leaves (inner t nil)
+inner-leaves : (t : Nodes) (x : Option (List ℕ)) → leaves t ≡ leaves (inner t x nil)
 unfolding leaves
-inner-leaves t = sym (append-nil (leaves t))
+inner-leaves t x = sym (append-nil (leaves t))
 
-inner-spans : (i j : ℕ) (t : Nodes) → j ≡ i + length (leaves t) → spans i t ++ (i ∷ j ∷ []) ≡ spans i (inner t nil)
+inner-spans : (i j : ℕ) (t : Nodes) (x : Option (List ℕ)) → j ≡ i + length (leaves t) → spans i t ++ (i ∷ j ∷ []) ≡ spans i (inner t x nil)
 unfolding spans
-inner-spans i j t e = ap (λ (k : ℕ). spans i t ++ (i ∷ k ∷ [])) e
+inner-spans i j t x e = ap (λ (k : ℕ). spans i t ++ (i ∷ k ∷ [])) e
 
 -- ---- a node
 
@@ -157,8 +157,8 @@ module _ (s : List ℕ) (d : ℕ) (c : Mark) (tokens nodes : List ℕ) where
       record {
         good = λ h.
             let q = b .good h in (
-              leaf (slice a e s) nil,
-              record { reads = λ f g. first f g v ∙ q .0 (leaf (slice a e s) nil); one = refl; past = omega (arith, p .past, w .past, q .1); stop = q .2 },
+              leaf (slice a e s) (q .0) nil,
+              record { reads = λ f g. first f g v ∙ q .1 (leafWith (slice a e s)); one = refl; past = omega (arith, p .past, w .past, q .2); stop = q .3 },
               record {
                 ends = a ∷ e ∷ [];
                 labels = one {b = a} {e = e} (w .past) m none;
@@ -166,14 +166,14 @@ module _ (s : List ℕ) (d : ℕ) (c : Mark) (tokens nodes : List ℕ) where
                 spanned = refl;
                 leaved = refl;
                 nested = sym (add-zero (2 * c .inner));
-                few-leaves = omega (arith, p .past, w .past, q .1, z .few-leaves);
-                few-inner = omega (arith, p .past, w .past, q .1, z .few-inner);
+                few-leaves = omega (arith, p .past, w .past, q .2, z .few-leaves);
+                few-inner = omega (arith, p .past, w .past, q .2, z .few-inner);
               },
             );
-        fault = λ h f g. first f g v ∙ b .fault h .1 (leaf (slice a e s) nil);
+        fault = λ h f g. first f g v ∙ b .fault h .1 (leafWith (slice a e s));
       }
     where
-      first : (f : ℕ) → 2 * (length s - c .at) < f → symbolsAt s (c .at) ≡ token (slice a e s) ∷ symbolsAt s e → readNode f d (symbolsAt s (c .at)) ≡ readLength (leaf (slice a e s) nil) (symbolsAt s e)
+      first : (f : ℕ) → 2 * (length s - c .at) < f → symbolsAt s (c .at) ≡ token (slice a e s) ∷ symbolsAt s e → readNode f d (symbolsAt s (c .at)) ≡ readLength (leafWith (slice a e s)) (symbolsAt s e)
       first zero g v = absurd (omega arith)
       first (suc f) g v = ap (readNode (suc f) d) v
 
@@ -325,8 +325,8 @@ module _ (s : List ℕ) (d : ℕ) (c : Mark) (tokens nodes : List ℕ) where
     pub last-small : (a : ℕ) → Ready s c → ClosingBehind s (r .at) (k + 1) a → a ≤ length s → (2 * r .inner + 2 < 2 ^ 64) × (c .leaves < 2 ^ 16) × (r .leaves < 2 ^ 16)
     last-small a z b l =
         let j = b .good l in
-        let n = q .good (omega (arith, j .1)) .2 in
-        (omega (arith, n .few-inner, j .1, z .short), omega (arith, z .few-leaves, z .within, z .short), omega (arith, n .few-leaves, j .1, z .short))
+        let n = q .good (omega (arith, j .2)) .2 in
+        (omega (arith, n .few-inner, j .2, z .short), omega (arith, z .few-leaves, z .within, z .short), omega (arith, n .few-leaves, j .2, z .short))
 
     -- the closing bracket and what may follow it, up to a
     pub children-read : (a : ℕ) (nodes₃ : List ℕ) → (kindAt s (r .at) ≡ 4 → ⊥) → ClosingBehind s (r .at) (k + 1) a → a ≤ length s → nodes₃ ≡ sets nodes₂ (2 * r .inner) (c .leaves ∷ r .leaves ∷ [])
@@ -334,24 +334,24 @@ module _ (s : List ℕ) (d : ℕ) (c : Mark) (tokens nodes : List ℕ) where
     unfolding bracketed width
     children-read a nodes₃ z b l w =
         let j = b .good l in
-        let h : r .at ≤ length s = omega (arith, j .1) in
+        let h : r .at ≤ length s = omega (arith, j .2) in
         let g = q .good h in
         let t = beside (p .tree) (g .0) in
         let n = noted-beside s tokens nodes (p .tree) (g .0) c e r tokens₁ nodes₁ tokens₂ nodes₂ (p .noted) (g .2) in
-        let x : spans (c .leaves) t ++ (c .leaves ∷ r .leaves ∷ []) ≡ spans (c .leaves) (inner t nil) = inner-spans (c .leaves) (r .leaves) t (n .leaved) in
+        let x : spans (c .leaves) t ++ (c .leaves ∷ r .leaves ∷ []) ≡ spans (c .leaves) (inner t (j .0) nil) = inner-spans (c .leaves) (r .leaves) t (j .0) (n .leaved) in
         record {
           good = λ _. (
-            inner t nil,
-            record { reads = λ f y. ap bracketed (all-read h z f y) ∙ j .0 t (all-width h); one = refl; past = omega (arith, p .past, g .1 .past, j .1); stop = j .2 },
+            inner t (j .0) nil,
+            record { reads = λ f y. ap bracketed (all-read h z f y) ∙ j .1 t (all-width h); one = refl; past = omega (arith, p .past, g .1 .past, j .2); stop = j .3 },
             record {
               ends = n .ends;
-              labels = subst (Labels s (n .ends)) (inner-leaves t) (n .labels);
+              labels = subst (Labels s (n .ends)) (inner-leaves t (j .0)) (n .labels);
               tokened = n .tokened;
               spanned = w ∙ ap₂ (λ y (i : ℕ). sets y i (c .leaves ∷ r .leaves ∷ [])) (n .spanned) (n .nested) ∙ sym (sets-append (spans (c .leaves) t) nodes (2 * c .inner) (c .leaves ∷ r .leaves ∷ [])) ∙ ap (sets nodes (2 * c .inner)) x;
-              leaved = n .leaved ∙ ap (λ y. c .leaves + length y) (inner-leaves t);
+              leaved = n .leaved ∙ ap (λ y. c .leaves + length y) (inner-leaves t (j .0));
               nested = omega (arith, n .nested, ap length x, length-append (spans (c .leaves) t) (c .leaves ∷ r .leaves ∷ []));
-              few-leaves = omega (arith, n .few-leaves, j .1);
-              few-inner = omega (arith, n .few-inner, j .1);
+              few-leaves = omega (arith, n .few-leaves, j .2);
+              few-inner = omega (arith, n .few-inner, j .2);
             },
           );
           fault = λ y. absurd (omega arith);

@@ -36,22 +36,22 @@ use Rattle.newick.proofs.ClusterLaws.{inners}
 
 unfoldable pub innerNodes : Nodes → ℕ
 innerNodes nil = 0
-innerNodes (leaf w r) = innerNodes r
-innerNodes (inner c r) = innerNodes c + suc (innerNodes r)
+innerNodes (leaf w e r) = innerNodes r
+innerNodes (inner c e r) = innerNodes c + suc (innerNodes r)
 
 pub spans-length : (i : ℕ) (t : Nodes) → length (spans i t) ≡ 2 * innerNodes t
 unfolding spans innerNodes
 spans-length i nil = refl
-spans-length i (leaf w r) = spans-length (i + 1) r
-spans-length i (inner c r) =
+spans-length i (leaf w e r) = spans-length (i + 1) r
+spans-length i (inner c e r) =
     omega
     (arith, length-append (spans i c) (i ∷ (i + length (leaves c)) ∷ spans (i + length (leaves c)) r), spans-length i c, spans-length (i + length (leaves c)) r)
 
 inners-beside : (t k : Nodes) → innerNodes (beside t k) ≡ innerNodes t + innerNodes k
 unfolding innerNodes beside
 inners-beside nil k = omega arith
-inners-beside (leaf w r) k = inners-beside r k
-inners-beside (inner c r) k = omega (arith, inners-beside r k)
+inners-beside (leaf w e r) k = inners-beside r k
+inners-beside (inner c e r) k = omega (arith, inners-beside r k)
 
 abbrev Few : Nodes → Type 0
 Few t = innerNodes t + width t ≤ length (leaves t)
@@ -119,8 +119,8 @@ pub spans-within : (l : List ℕ) (i : ℕ) (t : Nodes) (xs ys : List ℕ) (p : 
     → (j : ℕ) → p ≤ j → j < p + innerNodes t → Lies l (i + length (leaves t)) j
 unfolding spans innerNodes leaves
 spans-within l i nil xs ys p n e j a b = absurd (omega arith)
-spans-within l i (leaf w r) xs ys p n e j a b = let q = spans-within l (i + 1) r xs ys p n e j a b in (q .0, omega (arith, q .1))
-spans-within l i (inner c r) xs ys p n e j a b =
+spans-within l i (leaf w x r) xs ys p n e j a b = let q = spans-within l (i + 1) r xs ys p n e j a b in (q .0, omega (arith, q .1))
+spans-within l i (inner c x r) xs ys p n e j a b =
     go (spans-within l i c xs (i ∷ (i + length (leaves c)) ∷ (spans (i + length (leaves c)) r ++ ys)) p n (children-lie l i c r xs ys p n e) j a)
     (spans-within l (i + length (leaves c)) r ((xs ++ spans i c) ++ (i ∷ (i + length (leaves c)) ∷ [])) ys (suc (p + innerNodes c)) (rest-place l i c r xs ys p n e) (rest-lies l i c r xs ys p n e) j)
     (compare j (p + innerNodes c))
@@ -142,8 +142,8 @@ spans-within l i (inner c r) xs ys p n e j a b =
 unfoldable spanTaxa : (ℕ → ℕ) → ℕ → Nodes → List ℕ
 unfolding without leaves
 spanTaxa m i nil = []
-spanTaxa m i (leaf w r) = spanTaxa m (i + 1) r
-spanTaxa m i (inner c r) = spanTaxa m i c ++ (without (m (i + length (leaves c))) (m i) ∷ spanTaxa m (i + length (leaves c)) r)
+spanTaxa m i (leaf w e r) = spanTaxa m (i + 1) r
+spanTaxa m i (inner c e r) = spanTaxa m i c ++ (without (m (i + length (leaves c))) (m i) ∷ spanTaxa m (i + length (leaves c)) r)
 
 module _ (u l : List ℕ) where
   abbrev mask : ℕ → ℕ
@@ -153,8 +153,8 @@ module _ (u l : List ℕ) where
       → spanMasks u l (p + innerNodes t) ≡ spanMasks u l p ++ spanTaxa mask i t
   unfolding spans innerNodes spanTaxa spanMasks
   masks-lie i nil xs ys p n e = ap (spanMasks u l) (add-zero p) ∙ sym (append-nil (spanMasks u l p))
-  masks-lie i (leaf w r) xs ys p n e = masks-lie (i + 1) r xs ys p n e
-  masks-lie i (inner c r) xs ys p n e =
+  masks-lie i (leaf w o r) xs ys p n e = masks-lie (i + 1) r xs ys p n e
+  masks-lie i (inner c o r) xs ys p n e =
       let low = masks-lie i c xs (i ∷ (i + length (leaves c)) ∷ (spans (i + length (leaves c)) r ++ ys)) p n (children-lie l i c r xs ys p n e) in
       let high = masks-lie (i + length (leaves c)) r ((xs ++ spans i c) ++ (i ∷ (i + length (leaves c)) ∷ [])) ys (suc (p + innerNodes c)) (rest-place l i c r xs ys p n e) (rest-lies l i c r xs ys p n e) in
       let at = parent-at l i c r xs ys p n e in
@@ -181,10 +181,10 @@ module _ (ns ws : List (List ℕ)) (m : ℕ → ℕ)
   span-inners : (t : Nodes) (xs zs : List (List ℕ)) → ws ≡ xs ++ (leaves t ++ zs) → spanTaxa m (length xs) t ≡ inners ns t
   unfolding spanTaxa inners leaves
   span-inners nil xs zs e = refl
-  span-inners (leaf w r) xs zs e =
+  span-inners (leaf w l r) xs zs e =
       ap (λ (n : ℕ). spanTaxa m n r) (sym (length-append xs (w ∷ [])))
       ∙ span-inners r (xs ++ (w ∷ [])) zs (e ∙ sym (append-assoc xs (w ∷ []) (leaves r ++ zs)))
-  span-inners (inner c r) xs zs e =
+  span-inners (inner c l r) xs zs e =
       let f : ws ≡ xs ++ (leaves c ++ (leaves r ++ zs)) = e ∙ ap (λ z. xs ++ z) (append-assoc (leaves c) (leaves r) zs) in
       let g : ws ≡ (xs ++ leaves c) ++ (leaves r ++ zs) = f ∙ sym (append-assoc xs (leaves c) (leaves r ++ zs)) in
       let n : length (xs ++ leaves c) ≡ length xs + length (leaves c) = length-append xs (leaves c) in

@@ -26,8 +26,8 @@ pub data Labels (s : List ℕ) : List ℕ → List (List ℕ) → Type 0 where
 unfoldable pub spans : ℕ → Nodes → List ℕ
 unfolding leaves
 spans i nil = []
-spans i (leaf w r) = spans (i + 1) r
-spans i (inner c r) = spans i c ++ (i ∷ (i + length (leaves c)) ∷ spans (i + length (leaves c)) r)
+spans i (leaf w e r) = spans (i + 1) r
+spans i (inner c e r) = spans i c ++ (i ∷ (i + length (leaves c)) ∷ spans (i + length (leaves c)) r)
 
 -- ---- the readers
 

@@ -18,6 +18,7 @@ pub mod FileOutcomes
 pub mod SheetOutcomes
 pub mod TextsOutcomes
 pub mod EqualOutcomes
+pub mod LengthOutcomes
 pub mod ReadOutcomes
 pub mod InnerOutcomes
 pub mod StoreOutcomes

@@ -17,13 +17,12 @@ use borrow.Author.Tests.{leb-true, le-leb, lt-leb, eqb-true, eqb-false, ltb-true
 use Rattle.trees.specs.Plain.{if_then_else_}
 use Rattle.trees.specs.Text.{Symbol, label, kind, kindIn, apostrophe, isLabelByte, openAfter, isLabel, colon, stray, token, symbolsAfter, ended}
 use Rattle.trees.specs.Length.{isDigit}
-use Rattle.trees.specs.Tree.{Nodes}
 use Rattle.trees.specs.Reading.{readLength}
 use Rattle.theorems.specs.ListLaws.{and-right, less-or-not}
 use Rattle.theorems.specs.LabelLaws.{quote-kind}
 use Rattle.theorems.specs.TextLaws.{byKind, symbols-step}
 use Rattle.text.specs.Automaton.{byteClass, move, run, isEnd}
-use Rattle.text.specs.Read.{kindAt, NoBlank, hasByte, hasLabelByte, symbolsAt, RunEnd, DigitsEnd, NumberBehind}
+use Rattle.text.specs.Read.{kindAt, NoBlank, hasByte, hasLabelByte, symbolsAt, RunEnd, DigitsEnd, Unmeasured, NumberBehind}
 use Rattle.text.specs.PlaceLaws.{front-not, run-front}
 use Rattle.text.specs.SliceLaws.{slice-more}
 use Rattle.text.proofs.ByteLaws.{at}
@@ -99,19 +98,19 @@ run-snoc q [] x = refl
 run-snoc q (b ∷ w) x = run-snoc (move q (byteClass b)) w x
 
 -- behind a colon: a stray symbol, and a run that begins with an apostrophe
-stray-reads : (l : List Symbol) → StrayFirst l → (t : Nodes) → readLength t (colon ∷ l) ≡ none
+stray-reads : (l : List Symbol) → StrayFirst l → (t : Unmeasured) → readLength t (colon ∷ l) ≡ none
 unfolding readLength
 stray-reads l p t = ap (λ x. readLength t (colon ∷ x)) (p .1)
 
-ended-reads : (w : List ℕ) (ss : List Symbol) (t : Nodes) → readLength t (colon ∷ ended (apostrophe ∷ w) ss) ≡ none
+ended-reads : (w : List ℕ) (ss : List Symbol) (t : Unmeasured) → readLength t (colon ∷ ended (apostrophe ∷ w) ss) ≡ none
 unfolding readLength ended
 ended-reads w ss t = go (isLabel (apostrophe ∷ w))
   where
     go : (c : Bool) → readLength t (colon ∷ (if c then token (apostrophe ∷ w) else stray) ∷ ss) ≡ none
-    go true = ap (λ (x : Bool). if x then some (t, ss) else none) (quote-length w)
+    go true = ap (λ (x : Bool). if x then some (t (some (apostrophe ∷ w)), ss) else none) (quote-length w)
     go false = refl
 
-quote-reads : (s : List ℕ) (b : ℕ) → b < length s → getD s b 0 ≡ apostrophe → (t : Nodes) → readLength t (colon ∷ symbolsAt s b) ≡ none
+quote-reads : (s : List ℕ) (b : ℕ) → b < length s → getD s b 0 ≡ apostrophe → (t : Unmeasured) → readLength t (colon ∷ symbolsAt s b) ≡ none
 unfolding byKind kindIn openAfter
 quote-reads s b h e t =
     let r = run-front apostrophe [] (drop (b + 1) s) in
@@ -175,22 +174,22 @@ module _ (s : List ℕ) (b : ℕ) where
     pub number-quote : hasByte s i apostrophe ≡ true → NumberBehind s b (length s + 1)
     number-quote e = record { good = λ l. absurd (omega arith); fault = λ l. (refl, go (less-or-not b i)) }
       where
-        go : (b < i) ⊎ (i ≤ b) → (t : Nodes) → readLength t (colon ∷ symbolsAt s b) ≡ none
+        go : (b < i) ⊎ (i ≤ b) → (t : Unmeasured) → readLength t (colon ∷ symbolsAt s b) ≡ none
         go (inl h) = stray-reads (symbolsAt s b) (run-odd s b i walked-end h (quote-there s i e .0) (quote-there s i e .1))
         go (inr h) = let p = quote-at s b i walked-end e h in quote-reads s b (p .0) (p .1)
 
     module _ (clear : hasByte s i apostrophe ≡ false) where
-      number-reads : b < i → (t : Nodes) → readLength t (colon ∷ symbolsAt s b) ≡ (if isEnd q then some (t, symbolsAt s i) else none)
+      number-reads : b < i → (t : Unmeasured) → readLength t (colon ∷ symbolsAt s b) ≡ (if isEnd q then some (t (some (slice b i s)), symbolsAt s i) else none)
       unfolding readLength
       number-reads h t =
           ap (λ x. readLength t (colon ∷ x)) (token-at s b i (w .past) (w .within) (run-label s b i walked-end h) (run-stops s b i walked-end clear))
-          ∙ ap (λ (c : Bool). if c then some (t, symbolsAt s i) else none) (sym (run-length (slice b i s)))
-          ∙ ap (λ (x : ℕ). if isEnd x then some (t, symbolsAt s i) else none) (w .state)
+          ∙ ap (λ (c : Bool). if c then some (t (some (slice b i s)), symbolsAt s i) else none) (sym (run-length (slice b i s)))
+          ∙ ap (λ (x : ℕ). if isEnd x then some (t (some (slice b i s)), symbolsAt s i) else none) (w .state)
 
       pub number-good : isEnd q ≡ true → NumberBehind s b i
       unfolding run
       number-good e = record {
-        good = λ l. ((λ t. number-reads begun t ∙ ap (λ x. if x then some (t, symbolsAt s i) else none) e), w .past, parted-label s b i (run-label s b i walked-end begun) (run-stops s b i walked-end clear));
+        good = λ l. ((λ t. number-reads begun t ∙ ap (λ x. if x then some (t (some (slice b i s)), symbolsAt s i) else none) e), w .past, parted-label s b i (run-label s b i walked-end begun) (run-stops s b i walked-end clear));
         fault = λ l. absurd (omega (arith, w .within));
       }
         where
@@ -207,8 +206,8 @@ module _ (s : List ℕ) (b : ℕ) where
       pub number-odd : NoBlank s b → isEnd q ≡ false → NumberBehind s b (length s + 1)
       number-odd f e = record { good = λ l. absurd (omega arith); fault = λ l. (refl, go (less-or-not b i)) }
         where
-          go : (b < i) ⊎ (i ≤ b) → (t : Nodes) → readLength t (colon ∷ symbolsAt s b) ≡ none
-          go (inl h) = λ t. number-reads h t ∙ ap (λ x. if x then some (t, symbolsAt s i) else none) e
+          go : (b < i) ⊎ (i ≤ b) → (t : Unmeasured) → readLength t (colon ∷ symbolsAt s b) ≡ none
+          go (inl h) = λ t. number-reads h t ∙ ap (λ x. if x then some (t (some (slice b i s)), symbolsAt s i) else none) e
           go (inr h) =
               let z : i ≡ b = omega (arith, w .past) in
               λ t. colon-front t (symbolsAt s b) (front-not s b 1 (λ n. omega arith) f (subst (λ (x : ℕ). kindAt s x ≡ 1 → ⊥) z (run-stops s b i walked-end clear)))

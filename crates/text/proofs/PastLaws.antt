@@ -12,18 +12,18 @@ use lib.ListN.{length, getD}
 use lib.Seq.{slice}
 use Rattle.trees.specs.Plain.{if_then_else_}
 use Rattle.trees.specs.Text.{Symbol, kind, apostrophe, openAfter, isLabel, openBracket, closeBracket, comma, colon, stray, token}
-use Rattle.trees.specs.Tree.{Nodes, nil, inner, width}
+use Rattle.trees.specs.Tree.{Nodes, innerWith, width}
 use Rattle.trees.specs.Reading.{readLength, readLabel, readClosing}
 use Rattle.theorems.specs.ListLaws.{less-or-not}
 use Rattle.theorems.specs.QuoteLaws.{open-append, no-quote-open}
 use Rattle.theorems.specs.LabelLaws.{label-closed, quote-kind}
-use Rattle.text.specs.Read.{kindNo, kindAt, NoBlank, symbolsAt, Skipped, LabelEnd, Parted, NumberBehind, Behind, ClosingBehind}
+use Rattle.text.specs.Read.{kindNo, kindAt, NoBlank, symbolsAt, Skipped, LabelEnd, Parted, Unmeasured, NumberBehind, Behind, ClosingBehind}
 use Rattle.text.specs.PlaceLaws.{front, front-not, mark-at, kind-there, behind}
 use Rattle.text.specs.SliceLaws.{slice-parts, every-slice}
 
 -- ---- by the first symbol
 
-length-front : (t : Nodes) (ss : List Symbol) → (front ss ≡ 5 → ⊥) → readLength t ss ≡ some (t, ss)
+length-front : (t : Unmeasured) (ss : List Symbol) → (front ss ≡ 5 → ⊥) → readLength t ss ≡ some (t none, ss)
 unfolding readLength
 length-front t [] h = refl
 length-front t (openBracket ∷ r) h = refl
@@ -33,7 +33,7 @@ length-front t (colon ∷ r) h = absurd (h refl)
 length-front t (stray ∷ r) h = refl
 length-front t (token w ∷ r) h = refl
 
-pub colon-front : (t : Nodes) (ss : List Symbol) → (front ss ≡ 1 → ⊥) → readLength t (colon ∷ ss) ≡ none
+pub colon-front : (t : Unmeasured) (ss : List Symbol) → (front ss ≡ 1 → ⊥) → readLength t (colon ∷ ss) ≡ none
 unfolding readLength
 colon-front t [] h = refl
 colon-front t (openBracket ∷ r) h = refl
@@ -43,7 +43,7 @@ colon-front t (colon ∷ r) h = refl
 colon-front t (stray ∷ r) h = refl
 colon-front t (token w ∷ r) h = absurd (h refl)
 
-label-front : (t : Nodes) (ss : List Symbol) → (front ss ≡ 1 → ⊥) → readLabel t ss ≡ readLength t ss
+label-front : (t : Unmeasured) (ss : List Symbol) → (front ss ≡ 1 → ⊥) → readLabel t ss ≡ readLength t ss
 unfolding readLabel readLength
 label-front t [] h = refl
 label-front t (openBracket ∷ r) h = refl
@@ -53,11 +53,11 @@ label-front t (colon ∷ r) h = refl
 label-front t (stray ∷ r) h = refl
 label-front t (token w ∷ r) h = absurd (h refl)
 
-token-front : (t : Nodes) (w : List ℕ) (ss : List Symbol) → readLabel t (token w ∷ ss) ≡ readLength t ss
+token-front : (t : Unmeasured) (w : List ℕ) (ss : List Symbol) → readLabel t (token w ∷ ss) ≡ readLength t ss
 unfolding readLabel
 token-front t w ss = refl
 
-stray-front : (t : Nodes) (ss : List Symbol) → readLabel t (stray ∷ ss) ≡ some (t, stray ∷ ss)
+stray-front : (t : Unmeasured) (ss : List Symbol) → readLabel t (stray ∷ ss) ≡ some (t none, stray ∷ ss)
 unfolding readLabel readLength
 stray-front t ss = refl
 
@@ -103,7 +103,7 @@ module _ (s : List ℕ) (i : ℕ) where
   -- ---- a colon and a length, or nothing
   pub length-none : (a : ℕ) → Skipped s i a → (kindAt s a ≡ 5 → ⊥) → Behind readLength s i a
   length-none a p h = record {
-    good = λ l. ((λ t. ap (readLength t) (p .tokens) ∙ length-front t (symbolsAt s a) (front-not s a 5 (λ n. omega arith) (p .stop) h)), p .past, p .stop, parted-skip s i a p);
+    good = λ l. (none, (λ t. ap (readLength t) (p .tokens) ∙ length-front t (symbolsAt s a) (front-not s a 5 (λ n. omega arith) (p .stop) h)), p .past, p .stop, parted-skip s i a p);
     fault = λ l. absurd (omega (arith, p .within));
   }
 
@@ -118,7 +118,7 @@ module _ (s : List ℕ) (i : ℕ) where
 
   pub length-past : (a b e r : ℕ) → Skipped s i a → kindAt s a ≡ 5 → Skipped s (a + 1) b → NumberBehind s b e → e ≤ length s → Skipped s e r → Behind readLength s i r
   length-past a b e r p h q n l w = record {
-    good = λ z. ((λ t. ap (readLength t) (colon-then a b p h q) ∙ n .good l .0 t ∙ ap (λ x. some (t, x)) (w .tokens)), omega (arith, p .past, q .past, n .good l .1, w .past), w .stop, parted);
+    good = λ z. (some (slice b e s), (λ t. ap (readLength t) (colon-then a b p h q) ∙ n .good l .0 t ∙ ap (λ x. some (t (some (slice b e s)), x)) (w .tokens)), omega (arith, p .past, q .past, n .good l .1, w .past), w .stop, parted);
     fault = λ z. absurd (omega (arith, w .within));
   }
     where
@@ -133,13 +133,14 @@ module _ (s : List ℕ) (i : ℕ) where
   pub label-past : (a e r : ℕ) → Skipped s i a → LabelEnd s a e → e ≤ length s → Behind readLength s e r → Behind readLabel s i r
   label-past a e r p w h b = go (less-or-not a e)
     where
-      to : ((t : Nodes) → readLabel t (symbolsAt s i) ≡ readLength t (symbolsAt s e)) → Parted s a e → Behind readLabel s i r
+      to : ((t : Unmeasured) → readLabel t (symbolsAt s i) ≡ readLength t (symbolsAt s e)) → Parted s a e → Behind readLabel s i r
       to v d = record {
         good = λ l. (
-          (λ t. v t ∙ b .good l .0 t),
-          omega (arith, p .past, w .past, b .good l .1),
-          b .good l .2,
-          parted-join s i a r (p .past) (omega (arith, w .past, b .good l .1)) l (parted-skip s i a p) (parted-join s a e r (w .past) (b .good l .1) l d (b .good l .3)),
+          b .good l .0,
+          (λ t. v t ∙ b .good l .1 t),
+          omega (arith, p .past, w .past, b .good l .2),
+          b .good l .3,
+          parted-join s i a r (p .past) (omega (arith, w .past, b .good l .2)) l (parted-skip s i a p) (parted-join s a e r (w .past) (b .good l .2) l d (b .good l .4)),
         );
         fault = λ l. (b .fault l .0, λ t. v t ∙ b .fault l .1 t);
       }
@@ -156,7 +157,7 @@ module _ (s : List ℕ) (i : ℕ) where
   label-fault a e p w h =
       let g = w .fault h in
       record {
-        good = λ l. ((λ t. ap (readLabel t) (p .tokens ∙ g .3) ∙ stray-front t (g .2) ∙ ap (λ x. some (t, x)) (sym (g .3))), p .past, p .stop, parted-skip s i a p);
+        good = λ l. (none, (λ t. ap (readLabel t) (p .tokens ∙ g .3) ∙ stray-front t (g .2) ∙ ap (λ x. some (t none, x)) (sym (g .3))), p .past, p .stop, parted-skip s i a p);
         fault = λ l. absurd (omega (arith, p .within));
       }
 
@@ -171,15 +172,15 @@ module _ (s : List ℕ) (i : ℕ) where
   unfolding readClosing
   closing-few n k l = record {
     good = λ h. absurd (omega arith);
-    fault = λ h. (refl, λ t z. ap (readClosing t) (bracket-then k) ∙ ap (λ x. if x then readLabel (inner t nil) (symbolsAt s (i + 1)) else none) (lt-leb 2 (width t) (subst (λ (x : ℕ). x < 2) (sym z) l)));
+    fault = λ h. (refl, λ t z. ap (readClosing t) (bracket-then k) ∙ ap (λ x. if x then readLabel (innerWith t) (symbolsAt s (i + 1)) else none) (lt-leb 2 (width t) (subst (λ (x : ℕ). x < 2) (sym z) l)));
   }
 
   pub closing-past : (n r : ℕ) → kindAt s i ≡ 3 → 2 ≤ n → Behind readLabel s (i + 1) r → ClosingBehind s i n r
   unfolding readClosing
   closing-past n r k l b =
-      let v : (t : Nodes) → width t ≡ n → readClosing t (symbolsAt s i) ≡ readLabel (inner t nil) (symbolsAt s (i + 1)) =
-      λ t z. ap (readClosing t) (bracket-then k) ∙ ap (λ x. if x then readLabel (inner t nil) (symbolsAt s (i + 1)) else none) (le-leb 2 (width t) (subst (λ (x : ℕ). 2 ≤ x) (sym z) l)) in
+      let v : (t : Nodes) → width t ≡ n → readClosing t (symbolsAt s i) ≡ readLabel (innerWith t) (symbolsAt s (i + 1)) =
+      λ t z. ap (readClosing t) (bracket-then k) ∙ ap (λ x. if x then readLabel (innerWith t) (symbolsAt s (i + 1)) else none) (le-leb 2 (width t) (subst (λ (x : ℕ). 2 ≤ x) (sym z) l)) in
       record {
-        good = λ h. ((λ t z. v t z ∙ b .good h .0 (inner t nil)), omega (arith, b .good h .1), b .good h .2, parted-join s i (i + 1) r (omega arith) (b .good h .1) h (parted-mark s i 3 k (omega arith) (omega arith)) (b .good h .3));
-        fault = λ h. (b .fault h .0, λ t z. v t z ∙ b .fault h .1 (inner t nil));
+        good = λ h. (b .good h .0, (λ t z. v t z ∙ b .good h .1 (innerWith t)), omega (arith, b .good h .2), b .good h .3, parted-join s i (i + 1) r (omega arith) (b .good h .2) h (parted-mark s i 3 k (omega arith) (omega arith)) (b .good h .4));
+        fault = λ h. (b .fault h .0, λ t z. v t z ∙ b .fault h .1 (innerWith t));
       }

@@ -23,7 +23,7 @@ use Rattle.theorems.specs.ListLaws.{less-or-not}
 use Rattle.theorems.specs.QuoteLaws.{open-append}
 use Rattle.theorems.specs.TextLaws.{byKind, symbols-step}
 use Rattle.theorems.specs.LabelLaws.{quote-kind, Ends}
-use Rattle.text.specs.Read.{kindNo, kindAt, NoBlank, symbolsAt, Skipped, RunEnd, QuotedEnd, LabelEnd, Parted, Behind, ClosingBehind}
+use Rattle.text.specs.Read.{kindNo, kindAt, NoBlank, symbolsAt, Skipped, RunEnd, QuotedEnd, LabelEnd, Parted, Unmeasured, Behind, ClosingBehind}
 use Rattle.text.specs.PlaceLaws.{front, kind-there, ends-at}
 use Rattle.text.specs.SliceLaws.{slice-parts}
 
@@ -282,9 +282,9 @@ module _ (s : List ℕ) (i : ℕ) where
 
 -- ---- what may follow some nodes
 
--- x, which reads t from i on, or nothing, says up to where
-record Stops (x : Read) (t : Nodes) (s : List ℕ) (i q : ℕ) : Type 0 where
-  good : q ≤ length s → (x ≡ some (t, symbolsAt s q)) × Place s i q
+-- x, which reads nodes from i on, or nothing, says up to where
+record Stops (x : Read) (s : List ℕ) (i q : ℕ) : Type 0 where
+  good : q ≤ length s → (t : Nodes) × (x ≡ some (t, symbolsAt s q)) × Place s i q
   fault : length s < q → (q ≡ length s + 1) × (x ≡ none)
 
 after : Read → List Symbol
@@ -295,29 +295,36 @@ found : Read → ℕ
 found none = 0
 found (some p) = 1
 
-stops-once : (x : Read) (t : Nodes) (s : List ℕ) (i q r : ℕ) → Stops x t s i q → Stops x t s i r → q ≡ r
+stops-once : (x : Read) (s : List ℕ) (i q r : ℕ) → Stops x s i q → Stops x s i r → q ≡ r
 unfolding after found
-stops-once x t s i q r a b = go (leb q (length s)) (leb r (length s)) refl refl
+stops-once x s i q r a b = go (leb q (length s)) (leb r (length s)) refl refl
   where
     go : (c d : Bool) → leb q (length s) ≡ c → leb r (length s) ≡ d → q ≡ r
     go true true y z =
         let h = leb-true q (length s) y in
         let l = leb-true r (length s) z in
-        place-once s i q r h l (a .good h .1) (b .good l .1) (ap after (sym (a .good h .0) ∙ b .good l .0))
-    go true false y z = absurd (omega (arith, ap found (sym (a .good (leb-true q (length s) y) .0) ∙ b .fault (leb-false r (length s) z) .1)))
-    go false true y z = absurd (omega (arith, ap found (sym (b .good (leb-true r (length s) z) .0) ∙ a .fault (leb-false q (length s) y) .1)))
+        place-once s i q r h l (a .good h .2) (b .good l .2) (ap after (sym (a .good h .1) ∙ b .good l .1))
+    go true false y z = absurd (omega (arith, ap found (sym (a .good (leb-true q (length s) y) .1) ∙ b .fault (leb-false r (length s) z) .1)))
+    go false true y z = absurd (omega (arith, ap found (sym (b .good (leb-true r (length s) z) .1) ∙ a .fault (leb-false q (length s) y) .1)))
     go false false y z = a .fault (leb-false q (length s) y) .0 ∙ sym (b .fault (leb-false r (length s) z) .0)
 
-pub behind-once : (F : Nodes → List Symbol → Read) (s : List ℕ) (i q r : ℕ) → Behind F s i q → Behind F s i r → q ≡ r
-behind-once F s i q r a b = stops-once (F nil (symbolsAt s i)) nil s i q r (stops q a) (stops r b)
+-- no nodes, whatever the length
+nothing : Unmeasured
+nothing x = nil
+
+pub behind-once : (F : Unmeasured → List Symbol → Read) (s : List ℕ) (i q r : ℕ) → Behind F s i q → Behind F s i r → q ≡ r
+behind-once F s i q r a b = stops-once (F nothing (symbolsAt s i)) s i q r (stops q a) (stops r b)
   where
-    stops : (j : ℕ) → Behind F s i j → Stops (F nil (symbolsAt s i)) nil s i j
-    stops j c = record { good = λ h. let g = c .good h in (g .0 nil, record { from = g .1; stop = g .2; parted = g .3 }); fault = λ h. (c .fault h .0, c .fault h .1 nil) }
+    stops : (j : ℕ) → Behind F s i j → Stops (F nothing (symbolsAt s i)) s i j
+    stops j c = record {
+      good = λ h. let g = c .good h in (nothing (g .0), g .1 nothing, record { from = g .2; stop = g .3; parted = g .4 });
+      fault = λ h. (c .fault h .0, c .fault h .1 nothing);
+    }
 
 -- n nodes, whatever they are
 wide : ℕ → Nodes
 wide zero = nil
-wide (suc n) = leaf [] (wide n)
+wide (suc n) = leaf [] none (wide n)
 
 wide-width : (n : ℕ) → width (wide n) ≡ n
 unfolding width wide
@@ -325,10 +332,10 @@ wide-width zero = refl
 wide-width (suc n) = ap suc (wide-width n)
 
 pub closing-once : (s : List ℕ) (i n q r : ℕ) → ClosingBehind s i n q → ClosingBehind s i n r → q ≡ r
-closing-once s i n q r a b = stops-once (readClosing (wide n) (symbolsAt s i)) (inner (wide n) nil) s i q r (stops q a) (stops r b)
+closing-once s i n q r a b = stops-once (readClosing (wide n) (symbolsAt s i)) s i q r (stops q a) (stops r b)
   where
-    stops : (j : ℕ) → ClosingBehind s i n j → Stops (readClosing (wide n) (symbolsAt s i)) (inner (wide n) nil) s i j
+    stops : (j : ℕ) → ClosingBehind s i n j → Stops (readClosing (wide n) (symbolsAt s i)) s i j
     stops j c = record {
-      good = λ h. let g = c .good h in (g .0 (wide n) (wide-width n), record { from = omega (arith, g .1); stop = g .2; parted = g .3 });
+      good = λ h. let g = c .good h in (inner (wide n) (g .0) nil, g .1 (wide n) (wide-width n), record { from = omega (arith, g .2); stop = g .3; parted = g .4 });
       fault = λ h. (c .fault h .0, c .fault h .1 (wide n) (wide-width n));
     }

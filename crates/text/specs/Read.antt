@@ -12,12 +12,13 @@
 --   DigitsEnd          the end of a run of digits
 --   NumberBehind       a length behind a colon
 --   Parted s i r       no symbol of s from i on reaches over r
---   Behind F, ClosingBehind     what may follow some nodes, read from i up to r; r is past the text where it is a fault
+--   Unmeasured         a node, by its length
+--   Behind F, ClosingBehind     what may follow some nodes, read from i up to r, and the length in it; r is past the text where it is a fault
 use Prim.Native.Nat.{ℕ, _+_, _≤_, _<_}
 use mathlib.Core.Path.{_≡_}
 use mathlib.Core.Bool.{Bool, true, false, _&&_, _||_}
 use mathlib.Core.List.{List, _∷_}
-use mathlib.Core.Option.{none, some}
+use mathlib.Core.Option.{Option, none, some}
 use lib.Dec.{eqb, ltb}
 use lib.ListN.{length, getD, drop}
 use lib.Seq.{slice}
@@ -97,17 +98,21 @@ pub record Parted (s : List ℕ) (i r : ℕ) : Type 0 where
   pub closed : openAfter false (slice i r s) ≡ false
   pub ends : (j : ℕ) → i ≤ j → j + 1 ≡ r → kindAt s j ≡ 1 → kindAt s r ≡ 1 → ⊥
 
--- behind a colon: the token at i is a length and ends at r, or a fault
+-- "A branch has a length or has none"
+abbrev pub Unmeasured : Type 0
+Unmeasured = Option (List ℕ) → Nodes
+
+-- behind a colon: the token from i up to r is a length, or a fault
 pub record NumberBehind (s : List ℕ) (i r : ℕ) : Type 0 where
-  pub good : r ≤ length s → ((t : Nodes) → readLength t (colon ∷ symbolsAt s i) ≡ some (t, symbolsAt s r)) × (i ≤ r) × Parted s i r
-  pub fault : length s < r → (r ≡ length s + 1) × ((t : Nodes) → readLength t (colon ∷ symbolsAt s i) ≡ none)
+  pub good : r ≤ length s → ((t : Unmeasured) → readLength t (colon ∷ symbolsAt s i) ≡ some (t (some (slice i r s)), symbolsAt s r)) × (i ≤ r) × Parted s i r
+  pub fault : length s < r → (r ≡ length s + 1) × ((t : Unmeasured) → readLength t (colon ∷ symbolsAt s i) ≡ none)
 
--- F is what may follow the nodes t: up to r, where no blank stands, or a fault
-pub record Behind (F : Nodes → List Symbol → Read) (s : List ℕ) (i r : ℕ) : Type 0 where
-  pub good : r ≤ length s → ((t : Nodes) → F t (symbolsAt s i) ≡ some (t, symbolsAt s r)) × (i ≤ r) × NoBlank s r × Parted s i r
-  pub fault : length s < r → (r ≡ length s + 1) × ((t : Nodes) → F t (symbolsAt s i) ≡ none)
+-- F is what may follow the node t: the length x or none, up to r, where no blank stands, or a fault
+pub record Behind (F : Unmeasured → List Symbol → Read) (s : List ℕ) (i r : ℕ) : Type 0 where
+  pub good : r ≤ length s → (x : Option (List ℕ)) × ((t : Unmeasured) → F t (symbolsAt s i) ≡ some (t x, symbolsAt s r)) × (i ≤ r) × NoBlank s r × Parted s i r
+  pub fault : length s < r → (r ≡ length s + 1) × ((t : Unmeasured) → F t (symbolsAt s i) ≡ none)
 
--- the closing bracket behind n children, and what may follow it
+-- the closing bracket behind n children, and what may follow it, a length x or none
 pub record ClosingBehind (s : List ℕ) (i n r : ℕ) : Type 0 where
-  pub good : r ≤ length s → ((k : Nodes) → width k ≡ n → readClosing k (symbolsAt s i) ≡ some (inner k nil, symbolsAt s r)) × (i < r) × NoBlank s r × Parted s i r
+  pub good : r ≤ length s → (x : Option (List ℕ)) × ((k : Nodes) → width k ≡ n → readClosing k (symbolsAt s i) ≡ some (inner k x nil, symbolsAt s r)) × (i < r) × NoBlank s r × Parted s i r
   pub fault : length s < r → (r ≡ length s + 1) × ((k : Nodes) → width k ≡ n → readClosing k (symbolsAt s i) ≡ none)

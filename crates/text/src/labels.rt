@@ -40,7 +40,7 @@ pub fn read_up_to(text: &[u8], b: usize, e: usize, out: &mut [u8], at: usize, mo
     read_unquoted(text, b, e, out, at, most)
 }
 
-// Whether the label from b up to e reads as its own bytes. It is tested to its end, so that many bytes are at once.
+// Whether the label from b up to e reads as its own bytes.
 pub fn is_plain_label(text: &[u8], b: usize, e: usize) -> bool
     requires { ⌜ b ≤ e ⌝ }
     requires { ⌜ e ≤ length (now text) ⌝ }
@@ -49,13 +49,14 @@ pub fn is_plain_label(text: &[u8], b: usize, e: usize) -> bool
     if opens_quotes(text, b, e) {
         return false;
     }
-    let mut plain = true;
     let mut i = b;
     while i < e {
-        plain = still_plain(plain, text[i]);
+        if text[i] == b'_' {
+            return false;
+        }
         i += 1;
     }
-    plain
+    true
 }
 
 // Whether the bytes from b up to e begin with a quote.
@@ -135,14 +136,4 @@ fn closes(inside: bool, b: u8) -> bool
         return b == b'\'';
     }
     false
-}
-
-// Whether a label without quotes reads as its own bytes up to b, where it does before b if `plain`.
-fn still_plain(plain: bool, b: u8) -> bool
-    ensures { λ r. ⌜ r ≡ plain && eqb (spacedByte b) b ⌝ }
-{
-    if b == b'_' {
-        return false;
-    }
-    plain
 }

@@ -17,7 +17,7 @@ use mathlib.Core.Path.{_≡_, refl, ap, ap₂, sym, _∙_, subst}
 use mathlib.Core.Logic.{_⊎_, inl, inr}
 use mathlib.Core.Bool.{Bool, true, false}
 use mathlib.Core.List.{List, [], _∷_, _++_, append-assoc}
-use mathlib.Core.Option.{some}
+use mathlib.Core.Option.{none, some}
 use lib.Count.{ones}
 use lib.Dec.{eqb}
 use lib.Bits.{bitOr, bitXor}
@@ -61,8 +61,8 @@ lt-or-eq {a} {b} h = go (eqb a b) refl
 pub parted-length : (t : Nodes) (l : List ℕ) → 1 ≤ width t → length (parted t l) ≡ suc (length l)
 unfolding parted width
 parted-length nil l h = absurd (omega arith)
-parted-length (leaf w r) l h = refl
-parted-length (inner c r) l h = refl
+parted-length (leaf w e r) l h = refl
+parted-length (inner c e r) l h = refl
 
 -- ---- a byte more for one taxon
 
@@ -203,7 +203,7 @@ module _ (n : ℕ) (ns : List (List ℕ)) (s : List ℕ) (names : goodNames n ns
       leaf-taxon : taxon ns (labelOf ns i) ≡ 2 ^ i
       leaf-taxon = taxon-named ns (labelOf ns i) i leaf-found
 
-      leaf-built : Built ns s m r (leaf (labelOf ns i) t)
+      leaf-built : Built ns s m r (leaf (labelOf ns i) none t)
       unfolding taxa clusters
       leaf-built = record { masked = ap₂ bitOr leaf-taxon (d .built .masked) ∙ less-or r (2 ^ i) leaf-within; sound = from; complete = λ y a b p. inr (d .built .complete y a b (leaf-rest y a b p)) }
         where
@@ -214,7 +214,7 @@ module _ (n : ℕ) (ns : List (List ℕ)) (s : List ℕ) (names : goodNames n ns
       leaf-many : 2 ≤ ones r → 1 ≤ width t
       leaf-many h = d .wide .one (pos-of-ones (bitXor r (2 ^ i)) (omega (arith, leaf-ones)))
 
-      leaf-wide : Wide s m r (leaf (labelOf ns i) t)
+      leaf-wide : Wide s m r (leaf (labelOf ns i) none t)
       unfolding width
       leaf-wide = record {
         one = λ h. omega arith;
@@ -223,17 +223,17 @@ module _ (n : ℕ) (ns : List (List ℕ)) (s : List ℕ) (names : goodNames n ns
         three = λ h o f. let w = d .wide .two (omega (arith, leaf-ones)) (λ y a b p. omega (arith, f y a, leaf-ones)) in omega arith;
       }
 
-      leaf-faultless : (seen : ℕ) (ws : List (List ℕ)) → Dis seen r → leafFault ns seen (leaves (leaf (labelOf ns i) t) ++ ws) ≡ leafFault ns (seen + r) ws
+      leaf-faultless : (seen : ℕ) (ws : List (List ℕ)) → Dis seen r → leafFault ns seen (leaves (leaf (labelOf ns i) none t) ++ ws) ≡ leafFault ns (seen + r) ws
       unfolding leaves
       leaf-faultless seen ws x =
           leaf-new ns seen (labelOf ns i) (leaves t ++ ws) i leaf-found (λ o. x i o oi)
           ∙ d .faultless (seen + 2 ^ i) ws (dis-more seen r (2 ^ i) leaf-within x) ∙ ap (λ (z : ℕ). leafFault ns z ws) (omega (arith, less-add r (2 ^ i) leaf-within))
 
-      leaf-short : length (parted (leaf (labelOf ns i) t) (shown (leaf (labelOf ns i) t))) + 2 * width (leaf (labelOf ns i) t) ≤ 68 * ones r + extra (quotesAt ns) r
+      leaf-short : length (parted (leaf (labelOf ns i) none t) (shown (leaf (labelOf ns i) none t))) + 2 * width (leaf (labelOf ns i) none t) ≤ 68 * ones r + extra (quotesAt ns) r
       unfolding parted shown width
       leaf-short = omega (arith, length-append (labelOf ns i) (parted t (shown t)), named-length i leaf-named, d .short, leaf-ones, extra-part (quotesAt ns) (2 ^ i) r leaf-within)
 
-      pub leaf-done : Done ns s m r (leaf (labelOf ns i) t)
+      pub leaf-done : Done ns s m r (leaf (labelOf ns i) none t)
       leaf-done = record {
         built = leaf-built;
         wide = leaf-wide;
@@ -275,7 +275,7 @@ module _ (n : ℕ) (ns : List (List ℕ)) (s : List ℕ) (names : goodNames n ns
         go (inl p) (inr q) = inl (λ j a. on-xor r x j (p j a) (q j a))
 
     module _ (k t : Nodes) (rm : Sub r m) (dk : Done ns s x x k) (dt : Done ns s m (bitXor r x) t) where
-      inner-built : Built ns s m r (inner k t)
+      inner-built : Built ns s m r (inner k none t)
       unfolding taxa clusters
       inner-built = record {
         masked = ap₂ bitOr (dk .built .masked) (dt .built .masked) ∙ less-or r x inner-within;
@@ -300,7 +300,7 @@ module _ (n : ℕ) (ns : List (List ℕ)) (s : List ℕ) (names : goodNames n ns
       inner-first : On r 0 → On (bitXor r x) 0
       inner-first o = on-xor r x 0 o (no-first x mx)
 
-      inner-wide : Wide s m r (inner k t)
+      inner-wide : Wide s m r (inner k none t)
       unfolding width
       inner-wide = record {
         one = λ h. omega arith;
@@ -313,19 +313,19 @@ module _ (n : ℕ) (ns : List (List ℕ)) (s : List ℕ) (names : goodNames n ns
       inner-pair : 2 ≤ width k
       inner-pair = dk .wide .two (two-ones x mx) (λ y a l p. ones-lt y x p l)
 
-      inner-readable : (d : ℕ) → ones m ≤ d + 2 → Readable d (inner k t)
+      inner-readable : (d : ℕ) → ones m ≤ d + 2 → Readable d (inner k none t)
       inner-readable zero h = absurd (omega (arith, ones-lt x m (λ j u. rm j (inner-within j u)) (fx .0), two-ones x mx))
       inner-readable (suc d) h = readable-inner inner-pair (dk .readable d (omega (arith, ones-lt x m (λ j u. rm j (inner-within j u)) (fx .0)))) (dt .readable (suc d) h)
 
-      inner-faultless : (seen : ℕ) (ws : List (List ℕ)) → Dis seen r → leafFault ns seen (leaves (inner k t) ++ ws) ≡ leafFault ns (seen + r) ws
+      inner-faultless : (seen : ℕ) (ws : List (List ℕ)) → Dis seen r → leafFault ns seen (leaves (inner k none t) ++ ws) ≡ leafFault ns (seen + r) ws
       unfolding leaves
       inner-faultless seen ws d =
           ap (leafFault ns seen) (append-assoc (leaves k) (leaves t) ws) ∙ dk .faultless seen (leaves t ++ ws) (λ j u v. d j u (inner-within j v))
           ∙ dt .faultless (seen + x) ws (dis-more seen r x inner-within d) ∙ ap (λ (z : ℕ). leafFault ns z ws) (omega (arith, less-add r x inner-within))
 
-      inner-short : length (parted (inner k t) (shown (inner k t))) + 2 * width (inner k t) ≤ 68 * ones r + extra (quotesAt ns) r
+      inner-short : length (parted (inner k none t) (shown (inner k none t))) + 2 * width (inner k none t) ≤ 68 * ones r + extra (quotesAt ns) r
       unfolding parted shown width
       inner-short = omega (arith, length-append (shown k) (41 ∷ parted t (shown t)), parted-length k (shown k) (omega (arith, inner-pair)), inner-pair, dk .short, dt .short, inner-ones, extra-part (quotesAt ns) x r inner-within)
 
-      pub inner-done : Done ns s m r (inner k t)
+      pub inner-done : Done ns s m r (inner k none t)
       inner-done = record { built = inner-built; wide = inner-wide; readable = inner-readable; faultless = inner-faultless; short = inner-short }

@@ -40,14 +40,14 @@ use Rattle.theorems.specs.VerdictLaws.{leaf-unknown, leaf-again, leaf-ne
 pub width-beside : (t k : Nodes) → width (beside t k) ≡ width t + width k
 unfolding width beside
 width-beside nil k = omega arith
-width-beside (leaf w r) k = omega (arith, width-beside r k)
-width-beside (inner c r) k = omega (arith, width-beside r k)
+width-beside (leaf w e r) k = omega (arith, width-beside r k)
+width-beside (inner c e r) k = omega (arith, width-beside r k)
 
 pub leaves-beside : (t k : Nodes) → leaves (beside t k) ≡ leaves t ++ leaves k
 unfolding leaves beside
 leaves-beside nil k = refl
-leaves-beside (leaf w r) k = ap (λ l. w ∷ l) (leaves-beside r k)
-leaves-beside (inner c r) k = ap (λ l. leaves c ++ l) (leaves-beside r k) ∙ sym (append-assoc (leaves c) (leaves r) (leaves k))
+leaves-beside (leaf w e r) k = ap (λ l. w ∷ l) (leaves-beside r k)
+leaves-beside (inner c e r) k = ap (λ l. leaves c ++ l) (leaves-beside r k) ∙ sym (append-assoc (leaves c) (leaves r) (leaves k))
 
 -- ---- leaves and taxa
 
@@ -95,14 +95,14 @@ leaf-never ns w p = go (taxonOf ns w) refl
 
 unfoldable inners : Nodes → ℕ
 inners nil = 0
-inners (leaf w r) = inners r
-inners (inner c r) = suc (inners c + inners r)
+inners (leaf w e r) = inners r
+inners (inner c e r) = suc (inners c + inners r)
 
 inners-beside : (t k : Nodes) → inners (beside t k) ≡ inners t + inners k
 unfolding inners beside
 inners-beside nil k = omega arith
-inners-beside (leaf w r) k = inners-beside r k
-inners-beside (inner c r) k = omega (arith, inners-beside r k)
+inners-beside (leaf w e r) k = inners-beside r k
+inners-beside (inner c e r) k = omega (arith, inners-beside r k)
 
 abbrev Few : Nodes → Type 0
 Few t = inners t + width t ≤ length (leaves t)
@@ -161,9 +161,9 @@ keep-not p x l f = by-test (λ (z : List ℕ). length z ≤ length (keep p l)) (
 clusters-most : (ns : List (List ℕ)) (t : Nodes) → length (keep (counts (length ns)) (clusters ns t)) ≤ inners t
 unfolding clusters inners keep
 clusters-most ns nil = omega arith
-clusters-most ns (leaf w r) =
+clusters-most ns (leaf w e r) =
     omega (arith, keep-not (counts (length ns)) (taxon ns w) (clusters ns r) (unfold counts in leaf-never ns w), clusters-most ns r)
-clusters-most ns (inner c r) =
+clusters-most ns (inner c e r) =
     omega
     (arith, keep-both (counts (length ns)) (clusters ns c) (taxa ns c ∷ clusters ns r), keep-more (counts (length ns)) (taxa ns c) (clusters ns r), clusters-most ns c, clusters-most ns r)
 

@@ -19,15 +19,15 @@ use borrow.Author.Tests.{leb-true, le-leb}
 use Rattle.trees.specs.Plain.{if_then_else_}
 use Rattle.trees.specs.Text.{Symbol, openBracket, closeBracket, comma, colon, stray, token, symbols}
 use Rattle.trees.specs.Length.{isLength}
-use Rattle.trees.specs.Tree.{Nodes, nil, leaf, inner, beside, width, nesting}
+use Rattle.trees.specs.Tree.{Nodes, nil, leaf, inner, leafWith, innerWith, beside, width, nesting}
 use Rattle.trees.specs.Grammar.{MayHaveLength, no-length, a-length, MayHaveLabel, no-label, a-label, IsNode, is-leaf, is-inner, IsNodes, is-one, is-more, IsTree}
 use Rattle.trees.specs.Reading.{Read, readLength, readLabel, readClosing, bracketed, joined, readComma, followed, readNode, readNodes, alone, reading}
 use Rattle.theorems.specs.TextLaws.{symbols-length}
 
 -- ---- sound: what the parser reads is a node, and it stops right behind it
-abbrev LengthOk : Nodes → List Symbol → Read → Type 0
+abbrev LengthOk : (Option (List ℕ) → Nodes) → List Symbol → Read → Type 0
 LengthOk t ts none = Unit {0}
-LengthOk t ts (some p) = (us : List Symbol) × (ts ≡ us ++ p .1) × MayHaveLength us × (p .0 ≡ t)
+LengthOk t ts (some p) = (us : List Symbol) × (x : Option (List ℕ)) × (ts ≡ us ++ p .1) × MayHaveLength us x × (p .0 ≡ t x)
 
 abbrev NodeOk : ℕ → List Symbol → Read → Type 0
 NodeOk d ts none = Unit {0}
@@ -37,18 +37,18 @@ abbrev NodesOk : ℕ → List Symbol → Read → Type 0
 NodesOk d ts none = Unit {0}
 NodesOk d ts (some p) = (us : List Symbol) × (ts ≡ us ++ p .1) × IsNodes d us (p .0)
 
-keep-sound : (t : Nodes) (w : List ℕ) (r : List Symbol) (b : Bool) → isLength w ≡ b → LengthOk t (colon ∷ token w ∷ r) (if b then some (t, r) else none)
-keep-sound t w r true e = (colon ∷ token w ∷ [], refl, a-length e, refl)
+keep-sound : (t : Option (List ℕ) → Nodes) (w : List ℕ) (r : List Symbol) (b : Bool) → isLength w ≡ b → LengthOk t (colon ∷ token w ∷ r) (if b then some (t (some w), r) else none)
+keep-sound t w r true e = (colon ∷ token w ∷ [], some w, refl, a-length e, refl)
 keep-sound t w r false e = tt
 
-length-sound : (t : Nodes) (ts : List Symbol) → LengthOk t ts (readLength t ts)
+length-sound : (t : Option (List ℕ) → Nodes) (ts : List Symbol) → LengthOk t ts (readLength t ts)
 unfolding readLength
-length-sound t [] = ([], refl, no-length, refl)
-length-sound t (openBracket ∷ r) = ([], refl, no-length, refl)
-length-sound t (closeBracket ∷ r) = ([], refl, no-length, refl)
-length-sound t (comma ∷ r) = ([], refl, no-length, refl)
-length-sound t (stray ∷ r) = ([], refl, no-length, refl)
-length-sound t (token w ∷ r) = ([], refl, no-length, refl)
+length-sound t [] = ([], none, refl, no-length, refl)
+length-sound t (openBracket ∷ r) = ([], none, refl, no-length, refl)
+length-sound t (closeBracket ∷ r) = ([], none, refl, no-length, refl)
+length-sound t (comma ∷ r) = ([], none, refl, no-length, refl)
+length-sound t (stray ∷ r) = ([], none, refl, no-length, refl)
+length-sound t (token w ∷ r) = ([], none, refl, no-length, refl)
 length-sound t (colon ∷ []) = tt
 length-sound t (colon ∷ openBracket ∷ r) = tt
 length-sound t (colon ∷ closeBracket ∷ r) = tt
@@ -58,19 +58,19 @@ length-sound t (colon ∷ stray ∷ r) = tt
 length-sound t (colon ∷ token w ∷ r) = keep-sound t w r (isLength w) refl
 
 -- what follows the closing bracket
-abbrev LabelOk : Nodes → List Symbol → Read → Type 0
+abbrev LabelOk : (Option (List ℕ) → Nodes) → List Symbol → Read → Type 0
 LabelOk t ts none = Unit {0}
-LabelOk t ts (some p) = (l us : List Symbol) × (ts ≡ l ++ (us ++ p .1)) × MayHaveLabel l × MayHaveLength us × (p .0 ≡ t)
+LabelOk t ts (some p) = (l us : List Symbol) × (x : Option (List ℕ)) × (ts ≡ l ++ (us ++ p .1)) × MayHaveLabel l × MayHaveLength us x × (p .0 ≡ t x)
 
-plain : (t : Nodes) (ts : List Symbol) (p : Read) → LengthOk t ts p → LabelOk t ts p
+plain : (t : Option (List ℕ) → Nodes) (ts : List Symbol) (p : Read) → LengthOk t ts p → LabelOk t ts p
 plain t ts none h = tt
-plain t ts (some p) h = ([], h .0, h .1, no-label, h .2, h .3)
+plain t ts (some p) h = ([], h .0, h .1, h .2, no-label, h .3, h .4)
 
-after-label : (t : Nodes) (w : List ℕ) (ts : List Symbol) (p : Read) → LengthOk t ts p → LabelOk t (token w ∷ ts) p
+after-label : (t : Option (List ℕ) → Nodes) (w : List ℕ) (ts : List Symbol) (p : Read) → LengthOk t ts p → LabelOk t (token w ∷ ts) p
 after-label t w ts none h = tt
-after-label t w ts (some p) h = (token w ∷ [], h .0, ap (λ x. token w ∷ x) (h .1), a-label, h .2, h .3)
+after-label t w ts (some p) h = (token w ∷ [], h .0, h .1, ap (λ x. token w ∷ x) (h .2), a-label, h .3, h .4)
 
-label-sound : (t : Nodes) (ts : List Symbol) → LabelOk t ts (readLabel t ts)
+label-sound : (t : Option (List ℕ) → Nodes) (ts : List Symbol) → LabelOk t ts (readLabel t ts)
 unfolding readLabel readLength
 label-sound t [] = plain t [] (readLength t []) (length-sound t [])
 label-sound t (openBracket ∷ r) = plain t (openBracket ∷ r) (readLength t (openBracket ∷ r)) (length-sound t (openBracket ∷ r))
@@ -81,16 +81,16 @@ label-sound t (stray ∷ r) = plain t (stray ∷ r) (readLength t (stray ∷ r))
 label-sound t (token w ∷ r) = after-label t w r (readLength t r) (length-sound t r)
 
 module _ (d : ℕ) (us : List Symbol) (k : Nodes) (n : IsNodes d us k) where
-  inner-ok : (r : List Symbol) (p : Read) → 2 ≤ width k → LabelOk (inner k nil) r p → NodeOk (suc d) (openBracket ∷ (us ++ (closeBracket ∷ r))) p
+  inner-ok : (r : List Symbol) (p : Read) → 2 ≤ width k → LabelOk (innerWith k) r p → NodeOk (suc d) (openBracket ∷ (us ++ (closeBracket ∷ r))) p
   inner-ok r none c h = tt
   inner-ok r (some p) c h = (
     openBracket ∷ (us ++ (closeBracket ∷ (h .0 ++ h .1))),
-    ap (λ x. openBracket ∷ x) (ap (λ x. us ++ (closeBracket ∷ x)) (h .2 ∙ sym (append-assoc (h .0) (h .1) (p .1))) ∙ sym (append-assoc us (closeBracket ∷ (h .0 ++ h .1)) (p .1))),
-    subst (IsNode (suc d) (openBracket ∷ (us ++ (closeBracket ∷ (h .0 ++ h .1))))) (sym (h .5)) (is-inner refl n c (h .3) (h .4)),
+    ap (λ x. openBracket ∷ x) (ap (λ x. us ++ (closeBracket ∷ x)) (h .3 ∙ sym (append-assoc (h .0) (h .1) (p .1))) ∙ sym (append-assoc us (closeBracket ∷ (h .0 ++ h .1)) (p .1))),
+    subst (IsNode (suc d) (openBracket ∷ (us ++ (closeBracket ∷ (h .0 ++ h .1))))) (sym (h .6)) (is-inner refl n c (h .4) (h .5)),
   )
 
-  kept : (r : List Symbol) (b : Bool) → leb 2 (width k) ≡ b → NodeOk (suc d) (openBracket ∷ (us ++ (closeBracket ∷ r))) (if b then readLabel (inner k nil) r else none)
-  kept r true e = inner-ok r (readLabel (inner k nil) r) (leb-true 2 (width k) e) (label-sound (inner k nil) r)
+  kept : (r : List Symbol) (b : Bool) → leb 2 (width k) ≡ b → NodeOk (suc d) (openBracket ∷ (us ++ (closeBracket ∷ r))) (if b then readLabel (innerWith k) r else none)
+  kept r true e = inner-ok r (readLabel (innerWith k) r) (leb-true 2 (width k) e) (label-sound (innerWith k) r)
   kept r false e = tt
 
   closing-sound : (ts : List Symbol) → NodeOk (suc d) (openBracket ∷ (us ++ ts)) (readClosing k ts)
@@ -108,9 +108,9 @@ unfolding bracketed
 bracketed-sound d r none h = tt
 bracketed-sound d r (some p) h = subst (λ x. NodeOk (suc d) (openBracket ∷ x) (readClosing (p .0) (p .1))) (sym (h .1)) (closing-sound d (h .0) (p .0) (h .2) (p .1))
 
-leaf-sound : (d : ℕ) (w : List ℕ) (r : List Symbol) (p : Read) → LengthOk (leaf w nil) r p → NodeOk d (token w ∷ r) p
+leaf-sound : (d : ℕ) (w : List ℕ) (r : List Symbol) (p : Read) → LengthOk (leafWith w) r p → NodeOk d (token w ∷ r) p
 leaf-sound d w r none h = tt
-leaf-sound d w r (some p) h = (token w ∷ h .0, ap (λ x. token w ∷ x) (h .1), subst (IsNode d (token w ∷ h .0)) (sym (h .3)) (is-leaf (h .2)))
+leaf-sound d w r (some p) h = (token w ∷ h .0, ap (λ x. token w ∷ x) (h .2), subst (IsNode d (token w ∷ h .0)) (sym (h .4)) (is-leaf (h .3)))
 
 one-ok : (d : ℕ) (ts : List Symbol) (p : Nodes × List Symbol) → NodeOk d ts (some p) → NodesOk d ts (some p)
 one-ok d ts p h = (h .0, h .1, is-one (h .2))
@@ -145,7 +145,7 @@ mutual
   node-sound (suc f) d (comma ∷ r) = tt
   node-sound (suc f) d (colon ∷ r) = tt
   node-sound (suc f) d (stray ∷ r) = tt
-  node-sound (suc f) d (token w ∷ r) = leaf-sound d w r (readLength (leaf w nil) r) (length-sound (leaf w nil) r)
+  node-sound (suc f) d (token w ∷ r) = leaf-sound d w r (readLength (leafWith w) r) (length-sound (leafWith w) r)
   node-sound (suc f) zero (openBracket ∷ r) = tt
   node-sound (suc f) (suc d) (openBracket ∷ r) = bracketed-sound d r (readNodes f d r) (nodes-sound f d r)
 
@@ -167,14 +167,14 @@ weak : {r : List Symbol} → Stop⁻ r → Stop r
 weak at-end⁻ = at-end
 weak at-close⁻ = at-close
 
-length-complete : (t : Nodes) {e r : List Symbol} → MayHaveLength e → Stop r → readLength t (e ++ r) ≡ some (t, r)
+length-complete : (t : Option (List ℕ) → Nodes) {e r : List Symbol} {x : Option (List ℕ)} → MayHaveLength e x → Stop r → readLength t (e ++ r) ≡ some (t x, r)
 unfolding readLength
 length-complete t no-length at-end = refl
 length-complete t no-length at-close = refl
 length-complete t no-length at-comma = refl
-length-complete t {r = r} (a-length {w = w} h) s = ap (λ b. if b then some (t, r) else none) h
+length-complete t {r = r} (a-length {w = w} h) s = ap (λ b. if b then some (t (some w), r) else none) h
 
-label-complete : (t : Nodes) {l e r : List Symbol} → MayHaveLabel l → MayHaveLength e → Stop r → readLabel t (l ++ (e ++ r)) ≡ some (t, r)
+label-complete : (t : Option (List ℕ) → Nodes) {l e r : List Symbol} {x : Option (List ℕ)} → MayHaveLabel l → MayHaveLength e x → Stop r → readLabel t (l ++ (e ++ r)) ≡ some (t x, r)
 unfolding readLabel
 label-complete t no-label no-length at-end = refl
 label-complete t no-label no-length at-close = length-complete t no-length at-close
@@ -192,14 +192,14 @@ mutual
 
   pub node-complete : {d : ℕ} {us : List Symbol} {t : Nodes} → IsNode d us t → (r : List Symbol) → Stop r → (f : ℕ) → 2 * length us < f → readNode f d (us ++ r) ≡ some (t, r)
   node-complete (is-leaf e) r s zero h = absurd (omega arith)
-  node-complete (is-leaf {w = w} e) r s (suc f) h = length-complete (leaf w nil) e s
+  node-complete (is-leaf {w = w} e) r s (suc f) h = length-complete (leafWith w) e s
   node-complete (is-inner z n c l e) r s zero h = absurd (omega arith)
   node-complete (is-inner {d = d} {us = us} {ss = ts} {l = lt} {e = et} {c = k} z n c l e) r s (suc f) h =
       let b : length us ≡ length ts + suc (length (lt ++ et)) = ap length z ∙ length-append ts (closeBracket ∷ (lt ++ et)) in
       let q : readNodes f d (ts ++ (closeBracket ∷ ((lt ++ et) ++ r))) ≡ some (k, closeBracket ∷ ((lt ++ et) ++ r)) = nodes-complete n (closeBracket ∷ ((lt ++ et) ++ r)) at-close⁻ f (omega arith) in
       ap (λ x. bracketed (readNodes f d x)) (ap (λ x. x ++ r) z ∙ append-assoc ts (closeBracket ∷ (lt ++ et)) r) ∙ ap bracketed q
-      ∙ ap (λ b. if b then readLabel (inner k nil) ((lt ++ et) ++ r) else none) (le-leb 2 (width k) c)
-      ∙ ap (readLabel (inner k nil)) (append-assoc lt et r) ∙ label-complete (inner k nil) l e s
+      ∙ ap (λ b. if b then readLabel (innerWith k) ((lt ++ et) ++ r) else none) (le-leb 2 (width k) c)
+      ∙ ap (readLabel (innerWith k)) (append-assoc lt et r) ∙ label-complete (innerWith k) l e s
 
   pub nodes-complete : {d : ℕ} {us : List Symbol} {t : Nodes} → IsNodes d us t → (r : List Symbol) → Stop⁻ r → (f : ℕ) → 2 * length us + 1 < f → readNodes f d (us ++ r) ≡ some (t, r)
   nodes-complete (is-one n) r s zero h = absurd (omega arith)
@@ -268,8 +268,8 @@ reading-symbols v w q = go (reading w) refl
 pub nesting-beside : (t k : Nodes) → nesting (beside t k) ≡ max (nesting t) (nesting k)
 unfolding nesting beside
 nesting-beside nil k = omega arith
-nesting-beside (leaf w r) k = nesting-beside r k
-nesting-beside (inner c r) k = omega (arith, nesting-beside r k)
+nesting-beside (leaf w e r) k = nesting-beside r k
+nesting-beside (inner c e r) k = omega (arith, nesting-beside r k)
 
 mutual
   unfolding nesting

@@ -48,6 +48,7 @@ pub mod FaultLaws
 pub mod RefusingLaws
 pub mod RefusalNumberLaws
 pub mod EdgeLaws
+pub mod EdgeLengthLaws
 pub mod PermLaws
 pub mod Unrooted
 pub mod UnrootedLaws
@@ -66,3 +67,14 @@ pub mod NexusCallLaws
 pub mod NexusFile
 pub mod NexusFileLaws
 pub mod NexusWrittenLaws
+pub mod Size
+pub mod SizeLaws
+pub mod FloatLaws
+pub mod NearestLaws
+pub mod ProperDoubleLaws
+pub mod ValueLaws
+pub mod LengthSumLaws
+pub mod OrderLaws
+pub mod GapLaws
+pub mod WeightedLaws
+pub mod SumLaws

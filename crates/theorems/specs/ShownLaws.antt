@@ -1,6 +1,6 @@
 -- What is shown of a tree reads back as that tree.
 --
---   Readable d t         the leaves of t are labels, its inner nodes have two children or more, at most d brackets are open at once
+--   Readable d t         the leaves of t are labels, its inner nodes have two children or more, no node has a length, at most d brackets are open at once
 --   symbolsOf t          the symbols of t, as a tree
 --   shown-symbols        what is shown of t has the symbols of t
 --   shown-reading        what is shown of a tree reads back as it
@@ -16,7 +16,7 @@ use mathlib.Core.Path.{_≡_, refl, ap, sym, _∙_, subst}
 use mathlib.Core.Logic.{inl, inr}
 use mathlib.Core.Bool.{Bool, true, false, _||_}
 use mathlib.Core.List.{List, [], _∷_, _++_, append-assoc, append-nil}
-use mathlib.Core.Option.{some}
+use mathlib.Core.Option.{none, some}
 use lib.Dec.{eqb}
 use Rattle.trees.specs.Plain.{byte}
 use Rattle.trees.specs.Text.{Symbol, mark, kind, kindIn, openBracket, closeBracket, comma, token, symbols, symbolsAfter, ended, isLabelByte, isLabel, apostrophe, turned, openAfter, hasEnd}
@@ -34,21 +34,21 @@ use Rattle.theorems.specs.LabelLaws.{outside, outside-append, end-outsid
 
 pub data Readable : ℕ → Nodes → Type 0 where
   readable-nil : {d : ℕ} → Readable d nil
-  readable-leaf : {d : ℕ} {w : List ℕ} {r : Nodes} → isLabel w ≡ true → Readable d r → Readable d (leaf w r)
-  readable-inner : {d : ℕ} {c r : Nodes} → 2 ≤ width c → Readable d c → Readable (suc d) r → Readable (suc d) (inner c r)
+  readable-leaf : {d : ℕ} {w : List ℕ} {r : Nodes} → isLabel w ≡ true → Readable d r → Readable d (leaf w none r)
+  readable-inner : {d : ℕ} {c r : Nodes} → 2 ≤ width c → Readable d c → Readable (suc d) r → Readable (suc d) (inner c none r)
 
 -- ---- the symbols of a tree
 
 partedSymbols : Nodes → List Symbol → List Symbol
 partedSymbols nil ss = ss
-partedSymbols (leaf w r) ss = comma ∷ ss
-partedSymbols (inner c r) ss = comma ∷ ss
+partedSymbols (leaf w e r) ss = comma ∷ ss
+partedSymbols (inner c e r) ss = comma ∷ ss
 
 symbolsOf : Nodes → List Symbol
 unfolding partedSymbols
 symbolsOf nil = []
-symbolsOf (leaf w r) = token w ∷ partedSymbols r (symbolsOf r)
-symbolsOf (inner c r) = openBracket ∷ (symbolsOf c ++ (closeBracket ∷ partedSymbols r (symbolsOf r)))
+symbolsOf (leaf w e r) = token w ∷ partedSymbols r (symbolsOf r)
+symbolsOf (inner c e r) = openBracket ∷ (symbolsOf c ++ (closeBracket ∷ partedSymbols r (symbolsOf r)))
 
 -- they are the nodes by the grammar
 symbols-nodes : {d : ℕ} {t : Nodes} → Readable d t → 0 < width t → IsNodes d (symbolsOf t) t
@@ -56,21 +56,21 @@ unfolding symbolsOf partedSymbols width beside
 symbols-nodes readable-nil h = absurd (omega arith)
 symbols-nodes (readable-leaf l readable-nil) h = is-one (is-leaf no-length)
 symbols-nodes (readable-leaf {w = w} l (readable-leaf {w = w′} {r = r} l′ g)) h =
-    is-more {ss = token w ∷ []} {t = leaf w nil} refl refl (is-leaf no-length) (symbols-nodes (readable-leaf {w = w′} {r = r} l′ g) (omega arith))
+    is-more {ss = token w ∷ []} {t = leaf w none nil} refl refl (is-leaf no-length) (symbols-nodes (readable-leaf {w = w′} {r = r} l′ g) (omega arith))
 symbols-nodes (readable-leaf {w = w} l (readable-inner k g g′)) h =
-    is-more {ss = token w ∷ []} {t = leaf w nil} refl refl (is-leaf no-length) (symbols-nodes (readable-inner k g g′) (omega arith))
+    is-more {ss = token w ∷ []} {t = leaf w none nil} refl refl (is-leaf no-length) (symbols-nodes (readable-inner k g g′) (omega arith))
 symbols-nodes (readable-inner {c = c} k g readable-nil) h = is-one (is-inner {ss = symbolsOf c} {l = []} {e = []} refl (symbols-nodes g (omega arith)) k no-label no-length)
 symbols-nodes (readable-inner {c = c} k g (readable-leaf {w = w} {r = r} l g′)) h =
-    is-more {ss = openBracket ∷ (symbolsOf c ++ (closeBracket ∷ []))} {t = inner c nil}
-    (ap (λ x. openBracket ∷ x) (sym (append-assoc (symbolsOf c) (closeBracket ∷ []) (comma ∷ symbolsOf (leaf w r))))) refl
+    is-more {ss = openBracket ∷ (symbolsOf c ++ (closeBracket ∷ []))} {t = inner c none nil}
+    (ap (λ x. openBracket ∷ x) (sym (append-assoc (symbolsOf c) (closeBracket ∷ []) (comma ∷ symbolsOf (leaf w none r))))) refl
     (is-inner {ss = symbolsOf c} {l = []} {e = []} refl (symbols-nodes g (omega arith)) k no-label no-length) (symbols-nodes (readable-leaf {w = w} {r = r} l g′) (omega arith))
 symbols-nodes (readable-inner {c = c} k g (readable-inner {c = c′} {r = r} k′ g′ g″)) h =
-    is-more {ss = openBracket ∷ (symbolsOf c ++ (closeBracket ∷ []))} {t = inner c nil}
-    (ap (λ x. openBracket ∷ x) (sym (append-assoc (symbolsOf c) (closeBracket ∷ []) (comma ∷ symbolsOf (inner c′ r))))) refl
+    is-more {ss = openBracket ∷ (symbolsOf c ++ (closeBracket ∷ []))} {t = inner c none nil}
+    (ap (λ x. openBracket ∷ x) (sym (append-assoc (symbolsOf c) (closeBracket ∷ []) (comma ∷ symbolsOf (inner c′ none r))))) refl
     (is-inner {ss = symbolsOf c} {l = []} {e = []} refl (symbols-nodes g (omega arith)) k no-label no-length) (symbols-nodes (readable-inner k′ g′ g″) (omega arith))
 
 -- a tree is one inner node
-symbols-node : {d : ℕ} {c : Nodes} → Readable d (inner c nil) → IsNode d (symbolsOf (inner c nil)) (inner c nil)
+symbols-node : {d : ℕ} {c : Nodes} → Readable d (inner c none nil) → IsNode d (symbolsOf (inner c none nil)) (inner c none nil)
 unfolding symbolsOf partedSymbols
 symbols-node (readable-inner {c = c} k g g′) = is-inner {ss = symbolsOf c} {l = []} {e = []} refl (symbols-nodes g (omega arith)) k no-label no-length
 
@@ -95,14 +95,14 @@ close-kind = refl
 parted-ends : (r : Nodes) (s : List ℕ) → Ends s → Ends (parted r (shown r) ++ s)
 unfolding parted shown
 parted-ends nil s h = h
-parted-ends (leaf w r) s h = ends-mark 44 (shown (leaf w r) ++ s) comma comma-kind
-parted-ends (inner c r) s h = ends-mark 44 (shown (inner c r) ++ s) comma comma-kind
+parted-ends (leaf w e r) s h = ends-mark 44 (shown (leaf w e r) ++ s) comma comma-kind
+parted-ends (inner c e r) s h = ends-mark 44 (shown (inner c e r) ++ s) comma comma-kind
 
 parted-symbols : (r : Nodes) (s : List ℕ) → symbols (shown r ++ s) ≡ symbolsOf r ++ symbols s → symbols (parted r (shown r) ++ s) ≡ partedSymbols r (symbolsOf r) ++ symbols s
 unfolding parted shown partedSymbols symbolsOf
 parted-symbols nil s h = h
-parted-symbols (leaf w r) s h = symbols-mark 44 comma (shown (leaf w r) ++ s) comma-kind ∙ ap (λ x. comma ∷ x) h
-parted-symbols (inner c r) s h = symbols-mark 44 comma (shown (inner c r) ++ s) comma-kind ∙ ap (λ x. comma ∷ x) h
+parted-symbols (leaf w e r) s h = symbols-mark 44 comma (shown (leaf w e r) ++ s) comma-kind ∙ ap (λ x. comma ∷ x) h
+parted-symbols (inner c e r) s h = symbols-mark 44 comma (shown (inner c e r) ++ s) comma-kind ∙ ap (λ x. comma ∷ x) h
 
 shown-symbols : {d : ℕ} {t : Nodes} → Readable d t → (s : List ℕ) → Ends s → symbols (shown t ++ s) ≡ symbolsOf t ++ symbols s
 unfolding shown symbolsOf Ends
@@ -120,11 +120,11 @@ shown-symbols (readable-inner {c = c} {r = r} k g g′) s h =
 
 -- ---- what is shown reads back
 
-pub shown-reading : (c : Nodes) → Readable 63 (inner c nil) → reading (shown (inner c nil)) ≡ some (inner c nil)
+pub shown-reading : (c : Nodes) → Readable 63 (inner c none nil) → reading (shown (inner c none nil)) ≡ some (inner c none nil)
 unfolding symbolsAfter
 shown-reading c g =
-    reading-complete (shown (inner c nil)) (inner c nil)
-    (subst (λ x. IsNode 63 x (inner c nil)) (sym (ap symbols (sym (append-nil (shown (inner c nil)))) ∙ shown-symbols g [] ends-nil ∙ append-nil (symbolsOf (inner c nil)))) (symbols-node g))
+    reading-complete (shown (inner c none nil)) (inner c none nil)
+    (subst (λ x. IsNode 63 x (inner c none nil)) (sym (ap symbols (sym (append-nil (shown (inner c none nil)))) ∙ shown-symbols g [] ends-nil ∙ append-nil (symbolsOf (inner c none nil)))) (symbols-node g))
 
 -- ---- what holds of what is shown
 
@@ -133,8 +133,8 @@ module _ (P : List ℕ → Type 0) (none : P []) (marks : (b : ℕ) → Mem b (4
   parted-made : (r : Nodes) → P (shown r) → P (parted r (shown r))
   unfolding parted
   parted-made nil h = h
-  parted-made (leaf w r) h = joined (44 ∷ []) (shown (leaf w r)) (marks 44 (inr (inr (inl refl)))) h
-  parted-made (inner c r) h = joined (44 ∷ []) (shown (inner c r)) (marks 44 (inr (inr (inl refl)))) h
+  parted-made (leaf w e r) h = joined (44 ∷ []) (shown (leaf w e r)) (marks 44 (inr (inr (inl refl)))) h
+  parted-made (inner c e r) h = joined (44 ∷ []) (shown (inner c e r)) (marks 44 (inr (inr (inl refl)))) h
 
   pub shown-made : {d : ℕ} {t : Nodes} → Readable d t → P (shown t)
   unfolding shown

@@ -54,15 +54,15 @@ or-sub a b r f g i h = ⊎-elim (λ n. g i (or-on a b i h n)) (λ o. f i o) (on?
 pub taxa-sub : (ns : List (List ℕ)) (t : Nodes) → Sub (taxa ns t) (everyTaxon (length ns))
 unfolding taxa
 taxa-sub ns nil = λ i h. absurd (off-zero i h)
-taxa-sub ns (leaf w r) = or-sub (taxon ns w) (taxa ns r) (everyTaxon (length ns)) (taxon-sub ns w) (taxa-sub ns r)
-taxa-sub ns (inner c r) = or-sub (taxa ns c) (taxa ns r) (everyTaxon (length ns)) (taxa-sub ns c) (taxa-sub ns r)
+taxa-sub ns (leaf w e r) = or-sub (taxon ns w) (taxa ns r) (everyTaxon (length ns)) (taxon-sub ns w) (taxa-sub ns r)
+taxa-sub ns (inner c e r) = or-sub (taxa ns c) (taxa ns r) (everyTaxon (length ns)) (taxa-sub ns c) (taxa-sub ns r)
 
 -- ---- clusters
 
 abbrev pub Distinct : List (List ℕ) → Nodes → Type 0
 Distinct ns nil = Unit {0}
-Distinct ns (leaf w r) = Dis (taxon ns w) (taxa ns r) × Distinct ns r
-Distinct ns (inner c r) = Dis (taxa ns c) (taxa ns r) × Distinct ns c × Distinct ns r
+Distinct ns (leaf w e r) = Dis (taxon ns w) (taxa ns r) × Distinct ns r
+Distinct ns (inner c e r) = Dis (taxa ns c) (taxa ns r) × Distinct ns c × Distinct ns r
 
 -- a cluster of an inner node and the nodes behind it: below the node, its own, or behind it
 inner-cases : (ns : List (List ℕ)) (c r : Nodes) (x : ℕ) → Mem x (clusters ns c ++ (taxa ns c ∷ clusters ns r)) → (Mem x (clusters ns c) ⊎ (x ≡ taxa ns c)) ⊎ Mem x (clusters ns r)
@@ -78,9 +78,9 @@ sub-eq e i h = subst (λ (z : ℕ). On z i) e h
 
 pub cluster-sub : (ns : List (List ℕ)) (t : Nodes) (x : ℕ) → Mem x (clusters ns t) → Sub x (taxa ns t)
 unfolding clusters taxa
-cluster-sub ns (leaf w r) x (inl e) i h = on-or-l (taxon ns w) (taxa ns r) i (sub-eq e i h)
-cluster-sub ns (leaf w r) x (inr k) i h = on-or-r (taxon ns w) (taxa ns r) i (cluster-sub ns r x k i h)
-cluster-sub ns (inner c r) x k i h =
+cluster-sub ns (leaf w l r) x (inl e) i h = on-or-l (taxon ns w) (taxa ns r) i (sub-eq e i h)
+cluster-sub ns (leaf w l r) x (inr k) i h = on-or-r (taxon ns w) (taxa ns r) i (cluster-sub ns r x k i h)
+cluster-sub ns (inner c l r) x k i h =
     ⊎-elim (λ p. on-or-l (taxa ns c) (taxa ns r) i (⊎-elim (λ q. cluster-sub ns c x q i h) (λ e. sub-eq e i h) p)) (λ q. on-or-r (taxa ns c) (taxa ns r) i (cluster-sub ns r x q i h))
     (inner-cases ns c r x k)
 
@@ -89,11 +89,11 @@ dis-parts x y a b f g d i h k = d i (f i h) (g i k)
 
 pub clusters-agree : (ns : List (List ℕ)) (t : Nodes) → Distinct ns t → (x y : ℕ) → Mem x (clusters ns t) → Mem y (clusters ns t) → Ag x y
 unfolding clusters
-clusters-agree ns (leaf w r) d x y (inl e) (inl f) = inr (inl (sub-eq (e ∙ sym f)))
-clusters-agree ns (leaf w r) d x y (inl e) (inr k) = inl (dis-parts x y (taxon ns w) (taxa ns r) (sub-eq e) (cluster-sub ns r y k) (d .0))
-clusters-agree ns (leaf w r) d x y (inr h) (inl f) = ag-sym y x (inl (dis-parts y x (taxon ns w) (taxa ns r) (sub-eq f) (cluster-sub ns r x h) (d .0)))
-clusters-agree ns (leaf w r) d x y (inr h) (inr k) = clusters-agree ns r (d .1) x y h k
-clusters-agree ns (inner c r) d x y h k = go (inner-cases ns c r x h) (inner-cases ns c r y k) (λ p q. clusters-agree ns c (d .1) x y p q) (λ p q. clusters-agree ns r (d .2) x y p q)
+clusters-agree ns (leaf w l r) d x y (inl e) (inl f) = inr (inl (sub-eq (e ∙ sym f)))
+clusters-agree ns (leaf w l r) d x y (inl e) (inr k) = inl (dis-parts x y (taxon ns w) (taxa ns r) (sub-eq e) (cluster-sub ns r y k) (d .0))
+clusters-agree ns (leaf w l r) d x y (inr h) (inl f) = ag-sym y x (inl (dis-parts y x (taxon ns w) (taxa ns r) (sub-eq f) (cluster-sub ns r x h) (d .0)))
+clusters-agree ns (leaf w l r) d x y (inr h) (inr k) = clusters-agree ns r (d .1) x y h k
+clusters-agree ns (inner c l r) d x y h k = go (inner-cases ns c r x h) (inner-cases ns c r y k) (λ p q. clusters-agree ns c (d .1) x y p q) (λ p q. clusters-agree ns r (d .2) x y p q)
   where
     low : (z : ℕ) → Mem z (clusters ns c) ⊎ (z ≡ taxa ns c) → Sub z (taxa ns c)
     low z (inl p) = cluster-sub ns c z p
@@ -168,5 +168,5 @@ counted-good ns t d =
 pub splits-good : (ns : List (List ℕ)) (t : Nodes) → Distinct ns t → goodTree (length ns) (splitsOf ns t) ≡ true
 unfolding splitsOf children
 splits-good ns nil d = counted-good ns nil tt
-splits-good ns (leaf w r) d = counted-good ns nil tt
-splits-good ns (inner c r) d = counted-good ns c (d .1)
+splits-good ns (leaf w e r) d = counted-good ns nil tt
+splits-good ns (inner c e r) d = counted-good ns c (d .1)

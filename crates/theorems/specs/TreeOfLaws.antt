@@ -10,6 +10,7 @@ use mathlib.Core.Path.{_≡_, refl, sym, subst}
 use mathlib.Core.Logic.{_⊎_, inl, inr}
 use mathlib.Core.Bool.{Bool, true, false}
 use mathlib.Core.List.{List}
+use mathlib.Core.Option.{none}
 use lib.Dec.{eqb}
 use lib.Bits.{bitXor}
 use borrow.Author.Tests.{eqb-true, eqb-false}
@@ -29,8 +30,8 @@ use Rattle.theorems.specs.BranchLaws.{labelOf, Closed, Done, on-pos, spl
 
 abbrev pub branchesBy : Bool → Bool → ℕ → List (List ℕ) → List ℕ → ℕ → ℕ → ℕ → ℕ → Nodes
 branchesBy true c f ns s m r i x = nil
-branchesBy false true f ns s m r i x = leaf (labelOf ns i) (branches f ns s m (without r (2 ^ i)))
-branchesBy false false f ns s m r i x = inner (branches f ns s x x) (branches f ns s m (without r x))
+branchesBy false true f ns s m r i x = leaf (labelOf ns i) none (branches f ns s m (without r (2 ^ i)))
+branchesBy false false f ns s m r i x = inner (branches f ns s x x) none (branches f ns s m (without r x))
 
 pub branches-step : (f : ℕ) (ns : List (List ℕ)) (s : List ℕ) (m r : ℕ)
     → branches (suc f) ns s m r ≡ branchesBy (eqb r 0) (eqb (widest m (lowest r) s) 0) f ns s m r (lowest r) (widest m (lowest r) s)
@@ -42,8 +43,8 @@ branches-step f ns s m r = go (eqb r 0) (eqb (widest m (lowest r) s) 0)
           | true ↦ nil
           | false ↦
               elim c as (λ _. Nodes) [
-                | true ↦ leaf (labelOf ns (lowest r)) (branches f ns s m (without r (2 ^ lowest r)))
-                | false ↦ inner (branches f ns s (widest m (lowest r) s) (widest m (lowest r) s)) (branches f ns s m (without r (widest m (lowest r) s)))
+                | true ↦ leaf (labelOf ns (lowest r)) none (branches f ns s m (without r (2 ^ lowest r)))
+                | false ↦ inner (branches f ns s (widest m (lowest r) s) (widest m (lowest r) s)) none (branches f ns s m (without r (widest m (lowest r) s)))
               ]
         ] ≡ branchesBy b c f ns s m r (lowest r) (widest m (lowest r) s)
     go true c = refl
@@ -64,13 +65,13 @@ module _ (n : ℕ) (ns : List (List ℕ)) (s : List ℕ) (names : goodNames n ns
       (ih m (bitXor r x) (omega (arith, less-lt r x wi p)) (λ j a. rm j (less-sub r x wi j a)) (λ j a. rn j (less-sub r x wi j a)) cl)
 
   module _ (f m r i x : ℕ) (ih : Made f) (h : m + r < suc f) (rm : Sub r m) (rn : Sub r (everyTaxon n)) (cl : Closed s m r) (oi : On r i) (top : (y : ℕ) → Mem y s → Fit m i y → y ≤ x) where
-    made-leaf : x ≡ 0 → Done ns s m r (leaf (labelOf ns i) (branches f ns s m (without r (2 ^ i))))
+    made-leaf : x ≡ 0 → Done ns s m r (leaf (labelOf ns i) none (branches f ns s m (without r (2 ^ i))))
     made-leaf z = leaf-done n ns s names good m r i oi nofit cl (branches f ns s m (without r (2 ^ i))) rn (made-rest f m r (2 ^ i) ih h rm rn (leaf-within n ns s names good m r i oi nofit cl) (pow-pos i) (leaf-closed n ns s names good m r i oi nofit cl))
       where
         nofit : (y : ℕ) → Mem y s → Fit m i y → ⊥
         nofit y a b = omega (arith, top y a b, on-pos y i (b .1))
 
-    made-inner : Mem x s → Fit m i x → Done ns s m r (inner (branches f ns s x x) (branches f ns s m (without r x)))
+    made-inner : Mem x s → Fit m i x → Done ns s m r (inner (branches f ns s x x) none (branches f ns s m (without r x)))
     unfolding Made
     made-inner mx fx =
         let wi : Sub x r = inner-within n ns s names good m r i x oi mx fx top cl in

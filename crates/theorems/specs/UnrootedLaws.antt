@@ -10,9 +10,10 @@
 --   unrooted-accepts     so a collection that accepts a text of it accepts any other, with the same splits
 use Prim.Native.Nat.{ℕ, zero, suc, _+_, _-_, _^_, _≤_, _<_}
 use native.Mathlib.Omega.{arith}
-use mathlib.Core.Path.{_≡_, refl, ap, sym, _∙_, subst}
+use mathlib.Core.Path.{_≡_, refl, ap, ap₂, sym, _∙_, subst}
 use mathlib.Core.Logic.{_⊎_, inl, inr, ⊎-elim}
 use mathlib.Core.List.{List, [], _∷_, _++_, append-nil, append-assoc}
+use mathlib.Core.Option.{Option}
 use lib.Bits.{bitOr, or-disjoint, or-zero-r}
 use lib.ListN.{length}
 use Rattle.trees.specs.Mask.{everyTaxon, side, proper}
@@ -33,7 +34,7 @@ use Rattle.theorems.specs.FaultLaws.{fault-numbers-only, faultless-exact
 use Rattle.theorems.specs.Refusing.{Fault, Accepts}
 use Rattle.theorems.specs.EdgeLaws.{Hangs, a-leaf, a-node, below, behind-leaf, behind-node, taxa-at, at-taxa, hangs-cluster}
 use Rattle.theorems.specs.PermLaws.{Perm, perm-same, perm-swap, perm-behind, perm-onward, perm-back, perm-equal, perm-mem, perm-groups, perm-front, perm-end}
-use Rattle.theorems.specs.Unrooted.{Reordered, swapped, past-leaf, past-node, at-depth, SameUnrooted, reordered, moved, dissolved, itself, back, onward}
+use Rattle.theorems.specs.Unrooted.{Reordered, swapped, past-leaf, past-node, at-depth, ButLengths, no-nodes, same-leaf, same-node, SameUnrooted, reordered, lengthened, moved, dissolved, itself, back, onward}
 
 -- ---- leaves in another order
 
@@ -89,8 +90,8 @@ module _ (ns : List (List ℕ)) where
   clusters-beside : (t k : Nodes) → clusters ns (beside t k) ≡ clusters ns t ++ clusters ns k
   unfolding clusters beside
   clusters-beside nil k = refl
-  clusters-beside (leaf w r) k = ap (λ (l : List ℕ). taxon ns w ∷ l) (clusters-beside r k)
-  clusters-beside (inner c r) k =
+  clusters-beside (leaf w e r) k = ap (λ (l : List ℕ). taxon ns w ∷ l) (clusters-beside r k)
+  clusters-beside (inner c e r) k =
       ap (λ (l : List ℕ). clusters ns c ++ (taxa ns c ∷ l)) (clusters-beside r k) ∙ sym (append-assoc (clusters ns c) (taxa ns c ∷ clusters ns r) (clusters ns k))
 
   -- ---- any order of children
@@ -125,20 +126,42 @@ module _ (ns : List (List ℕ)) where
       perm-onward (perm-end (taxa ns c ∷ clusters ns r) (reordered-clusters q))
       (perm-equal (ap (λ (m : ℕ). clusters ns d ++ (m ∷ clusters ns r)) (perm-taxa c d (reordered-leaves q))))
 
-  reordered-splits : {c d : Nodes} → Reordered c d → splitsOf ns (inner c nil) ≡ splitsOf ns (inner d nil)
+  reordered-splits : {c d : Nodes} (x : Option (List ℕ)) → Reordered c d → splitsOf ns (inner c x nil) ≡ splitsOf ns (inner d x nil)
   unfolding splitsOf children
-  reordered-splits {c} {d} q =
+  reordered-splits {c} {d} x q =
       counted-same (length ns) (clusters ns c) (clusters ns d) (λ x h. (x, perm-mem (reordered-clusters q) x h, refl))
       (λ x h. (x, perm-mem (perm-back (reordered-clusters q)) x h, refl))
+
+  -- ---- any lengths
+
+  lengthened-leaves : {t u : Nodes} → ButLengths t u → leaves t ≡ leaves u
+  unfolding leaves
+  lengthened-leaves no-nodes = refl
+  lengthened-leaves (same-leaf {w} q) = ap (λ l. w ∷ l) (lengthened-leaves q)
+  lengthened-leaves (same-node p q) = ap₂ _++_ (lengthened-leaves p) (lengthened-leaves q)
+
+  lengthened-clusters : {t u : Nodes} → ButLengths t u → clusters ns t ≡ clusters ns u
+  unfolding clusters
+  lengthened-clusters no-nodes = refl
+  lengthened-clusters (same-leaf {w} q) = ap (λ (l : List ℕ). taxon ns w ∷ l) (lengthened-clusters q)
+  lengthened-clusters (same-node {c} {d} {t} {u} p q) =
+      ap₂ (λ (l k : List ℕ). l ++ (taxa ns c ∷ k)) (lengthened-clusters p) (lengthened-clusters q)
+      ∙ ap (λ (m : ℕ). clusters ns d ++ (m ∷ clusters ns u)) (perm-taxa c d (perm-equal (lengthened-leaves p)))
+
+  lengthened-splits : {t u : Nodes} → ButLengths t u → splitsOf ns t ≡ splitsOf ns u
+  unfolding splitsOf children
+  lengthened-splits no-nodes = refl
+  lengthened-splits (same-leaf q) = refl
+  lengthened-splits (same-node p q) = ap (counted (length ns)) (lengthened-clusters p)
 
   -- ---- any root
 
   -- the children c of an inner node beside the other children r of the root, of a tree whose leaves have no fault
-  module _ (c r : Nodes) (few : 0 < length ns) (z : leafFault ns 0 (leaves (inner (inner c r) nil)) ≡ 0) where
+  module _ (c r : Nodes) (e x : Option (List ℕ)) (few : 0 < length ns) (z : leafFault ns 0 (leaves (inner (inner c e r) x nil)) ≡ 0) where
     all-there : taxa ns c + taxa ns r ≡ everyTaxon (length ns)
     unfolding leafFault taxa
     all-there =
-        let d = leaves-distinct ns (inner (inner c r) nil) 0 [] (ap (leafFault ns 0) (append-nil (leaves (inner (inner c r) nil))) ∙ z) in
+        let d = leaves-distinct ns (inner (inner c e r) x nil) 0 [] (ap (leafFault ns 0) (append-nil (leaves (inner (inner c e r) x nil))) ∙ z) in
         let e : 0 + bitOr (bitOr (taxa ns c) (taxa ns r)) 0 ≡ everyTaxon (length ns) = none-missing _ (length ns) (d .2) in
         let f : bitOr (taxa ns c) (taxa ns r) ≡ taxa ns c + taxa ns r = or-disjoint (taxa ns c) (taxa ns r) (dis-and (taxa ns c) (taxa ns r) (d .1 .1 .0)) in
         sym f ∙ sym (or-zero-r (bitOr (taxa ns c) (taxa ns r))) ∙ omega (arith, e)
@@ -164,16 +187,16 @@ module _ (ns : List (List ℕ)) where
 
     -- the children c, and behind them nodes k with the clusters of r and the taxa of r
     rooted-there : (k : Nodes) → ((x : ℕ) → Mem x (clusters ns r) → Mem x (clusters ns k)) → Mem (taxa ns r) (clusters ns k)
-        → ((x : ℕ) → Mem x (clusters ns k) → Mem x (clusters ns r) ⊎ (x ≡ taxa ns r)) → splitsOf ns (inner (inner c r) nil) ≡ splitsOf ns (inner (beside c k) nil)
+        → ((x : ℕ) → Mem x (clusters ns k) → Mem x (clusters ns r) ⊎ (x ≡ taxa ns r)) → splitsOf ns (inner (inner c e r) x nil) ≡ splitsOf ns (inner (beside c k) x nil)
     unfolding splitsOf children clusters
     rooted-there k f m g =
         counted-same (length ns) (clusters ns c ++ (taxa ns c ∷ clusters ns r)) (clusters ns c ++ clusters ns k) (merged (clusters ns k) f m) (unmerged (clusters ns k) g)
         ∙ ap (counted (length ns)) (sym (clusters-beside c k))
 
-    moved-splits : splitsOf ns (inner (inner c r) nil) ≡ splitsOf ns (inner (beside c (inner r nil)) nil)
+    moved-splits : splitsOf ns (inner (inner c e r) x nil) ≡ splitsOf ns (inner (beside c (inner r e nil)) x nil)
     unfolding clusters
     moved-splits =
-        rooted-there (inner r nil) (λ x h. mem-left x (clusters ns r) (taxa ns r ∷ []) h) (mem-right (taxa ns r) (clusters ns r) (taxa ns r ∷ []) (inl refl))
+        rooted-there (inner r e nil) (λ x h. mem-left x (clusters ns r) (taxa ns r ∷ []) h) (mem-right (taxa ns r) (clusters ns r) (taxa ns r ∷ []) (inl refl))
         (λ x h. ⊎-elim (λ k. inl k) (λ k. inr (only x k)) (mem-cases x (clusters ns r) (taxa ns r ∷ []) h))
       where
         only : (x : ℕ) → (x ≡ taxa ns r) ⊎ ⊥ → x ≡ taxa ns r
@@ -183,23 +206,24 @@ module _ (ns : List (List ℕ)) where
     one-cluster : (k : Nodes) → width k ≡ 1 → Mem (taxa ns k) (clusters ns k)
     unfolding width
     one-cluster nil e = absurd (omega arith)
-    one-cluster (leaf w nil) e = hangs-cluster ns a-leaf
-    one-cluster (leaf w (leaf v k)) e = absurd (omega arith)
-    one-cluster (leaf w (inner d k)) e = absurd (omega arith)
-    one-cluster (inner d nil) e = hangs-cluster ns a-node
-    one-cluster (inner d (leaf v k)) e = absurd (omega arith)
-    one-cluster (inner d (inner b k)) e = absurd (omega arith)
+    one-cluster (leaf w l nil) e = hangs-cluster ns a-leaf
+    one-cluster (leaf w l (leaf v m k)) e = absurd (omega arith)
+    one-cluster (leaf w l (inner d m k)) e = absurd (omega arith)
+    one-cluster (inner d l nil) e = hangs-cluster ns a-node
+    one-cluster (inner d l (leaf v m k)) e = absurd (omega arith)
+    one-cluster (inner d l (inner b m k)) e = absurd (omega arith)
 
-    dissolved-splits : width r ≡ 1 → splitsOf ns (inner (inner c r) nil) ≡ splitsOf ns (inner (beside c r) nil)
-    dissolved-splits e = rooted-there r (λ x h. h) (one-cluster r e) (λ x h. inl h)
+    dissolved-splits : width r ≡ 1 → splitsOf ns (inner (inner c e r) x nil) ≡ splitsOf ns (inner (beside c r) x nil)
+    dissolved-splits o = rooted-there r (λ x h. h) (one-cluster r o) (λ x h. inl h)
 
   -- ---- both
 
   pub unrooted-leaves : {t u : Nodes} → SameUnrooted t u → Perm (leaves t) (leaves u)
   unfolding leaves
   unrooted-leaves (reordered q) = perm-end [] (reordered-leaves q)
-  unrooted-leaves (moved c r) =
-      perm-equal (ap (λ l. l ++ []) (sym (leaves-beside c (inner r nil) ∙ ap (λ l. leaves c ++ l) (append-nil (leaves r)))))
+  unrooted-leaves (lengthened q) = perm-equal (lengthened-leaves q)
+  unrooted-leaves (moved {e} c r) =
+      perm-equal (ap (λ l. l ++ []) (sym (leaves-beside c (inner r e nil) ∙ ap (λ l. leaves c ++ l) (append-nil (leaves r)))))
   unrooted-leaves (dissolved c r e) = perm-equal (ap (λ l. l ++ []) (sym (leaves-beside c r)))
   unrooted-leaves (itself t) = perm-same
   unrooted-leaves (back s) = perm-back (unrooted-leaves s)
@@ -209,9 +233,10 @@ module _ (ns : List (List ℕ)) where
   unrooted-faultless s z = perm-faultless ns (unrooted-leaves s) 0 z
 
   pub unrooted : {t u : Nodes} → 0 < length ns → SameUnrooted t u → leafFault ns 0 (leaves t) ≡ 0 → splitsOf ns t ≡ splitsOf ns u
-  unrooted p (reordered q) z = reordered-splits q
-  unrooted p (moved c r) z = moved-splits c r p z
-  unrooted p (dissolved c r e) z = dissolved-splits c r p z e
+  unrooted p (reordered {x = x} q) z = reordered-splits x q
+  unrooted p (lengthened q) z = lengthened-splits q
+  unrooted p (moved {e} {x} c r) z = moved-splits c r e x p z
+  unrooted p (dissolved {e} {x} c r o) z = dissolved-splits c r e x p z o
   unrooted p (itself t) z = refl
   unrooted p (back s) z = sym (unrooted p s (unrooted-faultless (back s) z))
   unrooted p (onward s s′) z = unrooted p s z ∙ unrooted p s′ (unrooted-faultless s z)
@@ -221,27 +246,27 @@ module _ (ns : List (List ℕ)) where
 beside-nil : (t : Nodes) → beside t nil ≡ t
 unfolding beside
 beside-nil nil = refl
-beside-nil (leaf w r) = ap (leaf w) (beside-nil r)
-beside-nil (inner c r) = ap (inner c) (beside-nil r)
+beside-nil (leaf w e r) = ap (leaf w e) (beside-nil r)
+beside-nil (inner c e r) = ap (inner c e) (beside-nil r)
 
-leaf-inner : {w : List ℕ} {c : Nodes} → leaf w nil ≡ inner c nil → ⊥
+leaf-inner : {w : List ℕ} {c : Nodes} {l m : Option (List ℕ)} → leaf w l nil ≡ inner c m nil → ⊥
 leaf-inner e = let z : _≡_ {A = ℕ} 0 1 = cc in omega arith
 
-same-children : {b c : Nodes} → inner b nil ≡ inner c nil → b ≡ c
+same-children : {b c : Nodes} {l m : Option (List ℕ)} → inner b l nil ≡ inner c m nil → b ≡ c
 same-children e = cc
 
 -- the node with the children c hangs at d, beside which the nodes k are children of the root
-root-at : (c : Nodes) {x d : Nodes} → Hangs x d → x ≡ inner c nil → (k : Nodes) → (r : Nodes) × SameUnrooted (inner (beside d k) nil) (inner (beside c r) nil)
+root-at : (c : Nodes) (m y : Option (List ℕ)) {x d : Nodes} → Hangs x d → x ≡ inner c m nil → (k : Nodes) → (r : Nodes) × SameUnrooted (inner (beside d k) y nil) (inner (beside c r) y nil)
 unfolding beside
-root-at c a-leaf e k = absurd (leaf-inner e)
-root-at c (a-node {c = b} {r = r}) e k =
-    (inner (beside r k) nil, subst (λ (z : Nodes). SameUnrooted (inner (inner b (beside r k)) nil) (inner (beside z (inner (beside r k) nil)) nil)) (same-children e) (moved b (beside r k)))
-root-at c (below {c = b} {r = r} h) e k = let p = root-at c h e (inner (beside r k) nil) in (p .0, onward (moved b (beside r k)) (p .1))
-root-at c (behind-leaf {w = w} {r = r} h) e k = let p = root-at c h e (leaf w k) in (p .0, onward (reordered (swapped (leaf w nil) r k)) (p .1))
-root-at c (behind-node {c = b} {r = r} h) e k = let p = root-at c h e (inner b k) in (p .0, onward (reordered (swapped (inner b nil) r k)) (p .1))
+root-at c m y a-leaf e k = absurd (leaf-inner e)
+root-at c m y (a-node {c = b} {r = r} {e = l}) e k =
+    (inner (beside r k) l nil, subst (λ (z : Nodes). SameUnrooted (inner (inner b l (beside r k)) y nil) (inner (beside z (inner (beside r k) l nil)) y nil)) (same-children e) (moved b (beside r k)))
+root-at c m y (below {c = b} {r = r} {e = l} h) e k = let p = root-at c m y h e (inner (beside r k) l nil) in (p .0, onward (moved b (beside r k)) (p .1))
+root-at c m y (behind-leaf {w = w} {e = l} {r = r} h) e k = let p = root-at c m y h e (leaf w l k) in (p .0, onward (reordered (swapped (leaf w l nil) r k)) (p .1))
+root-at c m y (behind-node {c = b} {r = r} {e = l} h) e k = let p = root-at c m y h e (inner b l k) in (p .0, onward (reordered (swapped (inner b l nil) r k)) (p .1))
 
-pub any-root : (c d : Nodes) → Hangs (inner c nil) d → (r : Nodes) × SameUnrooted (inner d nil) (inner (beside c r) nil)
-any-root c d h = let p = root-at c h refl nil in (p .0, subst (λ (z : Nodes). SameUnrooted (inner z nil) (inner (beside c (p .0)) nil)) (beside-nil d) (p .1))
+pub any-root : (c d : Nodes) (m y : Option (List ℕ)) → Hangs (inner c m nil) d → (r : Nodes) × SameUnrooted (inner d y nil) (inner (beside c r) y nil)
+any-root c d m y h = let p = root-at c m y h refl nil in (p .0, subst (λ (z : Nodes). SameUnrooted (inner z y nil) (inner (beside c (p .0)) y nil)) (beside-nil d) (p .1))
 
 -- ---- texts of one unrooted tree
 

@@ -83,13 +83,13 @@ apart-bit seen i f j h k = f (subst (On seen) (sym (only-on i j k)) h)
 pub leaves-distinct : (ns : List (List ℕ)) (t : Nodes) (seen : ℕ) (ws : List (List ℕ)) → leafFault ns seen (leaves t ++ ws) ≡ 0 → Dis seen (taxa ns t) × Distinct ns t × (leafFault ns (seen + taxa ns t) ws ≡ 0)
 unfolding leaves taxa
 leaves-distinct ns nil seen ws z = ((λ i h k. off-zero i k), tt, ap (λ (x : ℕ). leafFault ns x ws) (add-zero seen) ∙ z)
-leaves-distinct ns (leaf w r) seen ws z =
+leaves-distinct ns (leaf w l r) seen ws z =
     let p = leaf-fine ns seen w (leaves r ++ ws) z in
     let q = leaves-distinct ns r (seen + 2 ^ (p .0)) ws (p .3) in
     let e : 2 ^ (p .0) ≡ taxon ns w = sym (taxon-named ns w (p .0) (p .1)) in
     let j = joined seen (taxon ns w) (taxa ns r) (subst (Dis seen) e (apart-bit seen (p .0) (p .2))) (subst (λ (x : ℕ). Dis (seen + x) (taxa ns r)) e (q .0)) in
     (j .0, (j .1, q .1), ap (λ (x : ℕ). leafFault ns x ws) (sym (j .2) ∙ ap (λ (x : ℕ). seen + x + taxa ns r) (sym e)) ∙ q .2)
-leaves-distinct ns (inner c r) seen ws z =
+leaves-distinct ns (inner c l r) seen ws z =
     let p = leaves-distinct ns c seen (leaves r ++ ws) (ap (leafFault ns seen) (sym (append-assoc (leaves c) (leaves r) ws)) ∙ z) in
     let q = leaves-distinct ns r (seen + taxa ns c) ws (p .2) in
     let j = joined seen (taxa ns c) (taxa ns r) (p .0) (q .0) in

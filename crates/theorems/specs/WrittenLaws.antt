@@ -55,7 +55,7 @@ judged-gives ns w t e z =
     ∙ ap (λ (k : ℕ). elim k as (λ _. Answer (List ℕ)) [ zero ↦ gives (splitsOf ns t) | suc k ↦ refused (suc k) ]) z
 
 -- two brackets and a semicolon
-bracketed-length : (c : Nodes) → length (shown (inner c nil) ++ 59 ∷ []) ≡ length (shown c) + 3
+bracketed-length : (c : Nodes) → length (shown (inner c none nil) ++ 59 ∷ []) ≡ length (shown c) + 3
 unfolding shown parted
 bracketed-length c = omega (arith, length-append (shown c ++ 41 ∷ []) (59 ∷ []), length-append (shown c) (41 ∷ []))
 
@@ -70,9 +70,9 @@ module _ (n : ℕ) (ns : List (List ℕ)) (s : List ℕ) (names : goodNames n ns
   unfolding rootBranches
   done = branches-done n ns s names good
 
-  tree-root : treeOf ns s ≡ inner (rootBranches n ns s) nil
+  tree-root : treeOf ns s ≡ inner (rootBranches n ns s) none nil
   unfolding treeOf rootBranches
-  tree-root = ap (λ (k : ℕ). inner (branches (suc (everyTaxon k + everyTaxon k)) ns s (everyTaxon k) (everyTaxon k)) nil) (good-count n ns names)
+  tree-root = ap (λ (k : ℕ). inner (branches (suc (everyTaxon k + everyTaxon k)) ns s (everyTaxon k) (everyTaxon k)) none nil) (good-count n ns names)
 
   -- two taxa or more are not in a split
   split-ones : (y : ℕ) → Mem y s → ones y + 2 ≤ n
@@ -112,7 +112,7 @@ module _ (n : ℕ) (ns : List (List ℕ)) (s : List ℕ) (names : goodNames n ns
   root-pair : 2 ≤ n → 2 ≤ width (rootBranches n ns s)
   root-pair h = done .wide .two (omega (arith, every-ones n)) (λ y m l p. ones-lt y (everyTaxon n) p l)
 
-  root-readable : 2 ≤ n → (d : ℕ) → n ≤ d + 2 → Readable (suc d) (inner (rootBranches n ns s) nil)
+  root-readable : 2 ≤ n → (d : ℕ) → n ≤ d + 2 → Readable (suc d) (inner (rootBranches n ns s) none nil)
   root-readable h d l = readable-inner (root-pair h) (done .readable d (omega (arith, every-ones n))) readable-nil
 
   tree-reading : 2 ≤ n → n ≤ 64 → reading (shown (treeOf ns s)) ≡ some (treeOf ns s)

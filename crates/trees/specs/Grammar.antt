@@ -1,6 +1,6 @@
 -- The grammar, as a relation between symbols and trees. No reader stands behind it.
 --
---   MayHaveLength e    e is nothing, or a colon and a length
+--   MayHaveLength e x  e is nothing, or a colon and the length x
 --   MayHaveLabel l     l is nothing, or a label
 --   IsNode d ss t      the symbols ss are the one node t, in which at most d brackets are open at once
 --   IsNodes d ss t     the symbols ss are the nodes t, with commas between
@@ -9,14 +9,15 @@ use Prim.Native.Nat.{ℕ, suc, _≤_}
 use mathlib.Core.Path.{_≡_}
 use mathlib.Core.Bool.{true}
 use mathlib.Core.List.{List, [], _∷_, _++_}
+use mathlib.Core.Option.{Option, none, some}
 use Rattle.trees.specs.Text.{Symbol, openBracket, closeBracket, comma, colon, token, symbols}
 use Rattle.trees.specs.Length.{isLength}
 use Rattle.trees.specs.Tree.{Nodes, nil, leaf, inner, beside, width}
 
 -- "either may be followed by a colon and a length"
-pub data MayHaveLength : List Symbol → Type 0 where
-  no-length : MayHaveLength []
-  a-length : {w : List ℕ} → isLength w ≡ true → MayHaveLength (colon ∷ token w ∷ [])
+pub data MayHaveLength : List Symbol → Option (List ℕ) → Type 0 where
+  no-length : MayHaveLength [] none
+  a-length : {w : List ℕ} → isLength w ≡ true → MayHaveLength (colon ∷ token w ∷ []) (some w)
 
 -- "an optional label", of any length
 pub data MayHaveLabel : List Symbol → Type 0 where
@@ -26,14 +27,14 @@ pub data MayHaveLabel : List Symbol → Type 0 where
 mutual
   -- "A node is a leaf label, or an opening bracket, two or more nodes with commas between, a closing bracket and an optional label"
   pub data IsNode : ℕ → List Symbol → Nodes → Type 0 where
-    is-leaf : {d : ℕ} {w : List ℕ} {e : List Symbol} → MayHaveLength e → IsNode d (token w ∷ e) (leaf w nil)
-    is-inner : {d : ℕ} {us ss l e : List Symbol} {c : Nodes}
+    is-leaf : {d : ℕ} {w : List ℕ} {e : List Symbol} {x : Option (List ℕ)} → MayHaveLength e x → IsNode d (token w ∷ e) (leaf w x nil)
+    is-inner : {d : ℕ} {us ss l e : List Symbol} {c : Nodes} {x : Option (List ℕ)}
         → us ≡ ss ++ (closeBracket ∷ (l ++ e))
         → IsNodes d ss c
         → 2 ≤ width c
         → MayHaveLabel l
-        → MayHaveLength e
-        → IsNode (suc d) (openBracket ∷ us) (inner c nil)
+        → MayHaveLength e x
+        → IsNode (suc d) (openBracket ∷ us) (inner c x nil)
 
   pub data IsNodes : ℕ → List Symbol → Nodes → Type 0 where
     is-one : {d : ℕ} {ss : List Symbol} {t : Nodes} → IsNode d ss t → IsNodes d ss t

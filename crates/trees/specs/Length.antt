@@ -1,4 +1,4 @@
--- Branch lengths, which are read and dropped.
+-- Branch lengths: which tokens are one. Value.antt says what they are worth.
 --
 --   isLength w      the token w is a length
 use Prim.Native.Nat.{ℕ}

@@ -12,33 +12,33 @@ use lib.ListN.{length}
 use Rattle.trees.specs.Plain.{if_then_else_}
 use Rattle.trees.specs.Text.{Symbol, openBracket, closeBracket, comma, colon, stray, token, symbols, symbolsAfter}
 use Rattle.trees.specs.Length.{isLength}
-use Rattle.trees.specs.Tree.{Nodes, nil, leaf, inner, beside, width}
+use Rattle.trees.specs.Tree.{Nodes, leafWith, innerWith, beside, width}
 use Rattle.trees.specs.Grammar.{mostNesting}
 
 abbrev pub Read : Type 0
 Read = Option (Nodes × List Symbol)
 
--- behind a node: a colon and a length, or nothing
-unfoldable pub readLength : Nodes → List Symbol → Read
+-- behind a node: a colon and a length, or nothing; the node is t of that length
+unfoldable pub readLength : (Option (List ℕ) → Nodes) → List Symbol → Read
 unfolding isLength
-readLength t [] = some (t, [])
-readLength t (openBracket ∷ r) = some (t, openBracket ∷ r)
-readLength t (closeBracket ∷ r) = some (t, closeBracket ∷ r)
-readLength t (comma ∷ r) = some (t, comma ∷ r)
-readLength t (stray ∷ r) = some (t, stray ∷ r)
-readLength t (token w ∷ r) = some (t, token w ∷ r)
+readLength t [] = some (t none, [])
+readLength t (openBracket ∷ r) = some (t none, openBracket ∷ r)
+readLength t (closeBracket ∷ r) = some (t none, closeBracket ∷ r)
+readLength t (comma ∷ r) = some (t none, comma ∷ r)
+readLength t (stray ∷ r) = some (t none, stray ∷ r)
+readLength t (token w ∷ r) = some (t none, token w ∷ r)
 readLength t (colon ∷ []) = none
 readLength t (colon ∷ openBracket ∷ r) = none
 readLength t (colon ∷ closeBracket ∷ r) = none
 readLength t (colon ∷ comma ∷ r) = none
 readLength t (colon ∷ colon ∷ r) = none
 readLength t (colon ∷ stray ∷ r) = none
-readLength t (colon ∷ token w ∷ r) = if isLength w then some (t, r) else none
+readLength t (colon ∷ token w ∷ r) = if isLength w then some (t (some w), r) else none
 
 -- behind a closing bracket: a label or nothing, then a colon and a length or nothing
-unfoldable pub readLabel : Nodes → List Symbol → Read
+unfoldable pub readLabel : (Option (List ℕ) → Nodes) → List Symbol → Read
 unfolding readLength
-readLabel t [] = some (t, [])
+readLabel t [] = some (t none, [])
 readLabel t (openBracket ∷ r) = readLength t (openBracket ∷ r)
 readLabel t (closeBracket ∷ r) = readLength t (closeBracket ∷ r)
 readLabel t (comma ∷ r) = readLength t (comma ∷ r)
@@ -51,7 +51,7 @@ unfoldable pub readClosing : Nodes → List Symbol → Read
 unfolding readLabel width
 readClosing c [] = none
 readClosing c (openBracket ∷ r) = none
-readClosing c (closeBracket ∷ r) = if leb 2 (width c) then readLabel (inner c nil) r else none
+readClosing c (closeBracket ∷ r) = if leb 2 (width c) then readLabel (innerWith c) r else none
 readClosing c (comma ∷ r) = none
 readClosing c (colon ∷ r) = none
 readClosing c (stray ∷ r) = none
@@ -94,7 +94,7 @@ unfoldable mutual
   readNode (suc f) d (comma ∷ r) = none
   readNode (suc f) d (colon ∷ r) = none
   readNode (suc f) d (stray ∷ r) = none
-  readNode (suc f) d (token w ∷ r) = readLength (leaf w nil) r
+  readNode (suc f) d (token w ∷ r) = readLength (leafWith w) r
   readNode (suc f) zero (openBracket ∷ r) = none
   readNode (suc f) (suc d) (openBracket ∷ r) = bracketed (readNodes f d r)
 

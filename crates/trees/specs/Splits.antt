@@ -28,15 +28,15 @@ taxon ns w = bitOf (taxonOf ns w)
 unfoldable pub taxa : List (List ℕ) → Nodes → ℕ
 unfolding taxon
 taxa ns nil = 0
-taxa ns (leaf w r) = bitOr (taxon ns w) (taxa ns r)
-taxa ns (inner c r) = bitOr (taxa ns c) (taxa ns r)
+taxa ns (leaf w e r) = bitOr (taxon ns w) (taxa ns r)
+taxa ns (inner c e r) = bitOr (taxa ns c) (taxa ns r)
 
 -- an edge leads to each of these nodes, and "Cutting an edge parts the taxa in two": those at its leaves, and the others
 unfoldable pub clusters : List (List ℕ) → Nodes → List ℕ
 unfolding taxa
 clusters ns nil = []
-clusters ns (leaf w r) = taxon ns w ∷ clusters ns r
-clusters ns (inner c r) = clusters ns c ++ (taxa ns c ∷ clusters ns r)
+clusters ns (leaf w e r) = taxon ns w ∷ clusters ns r
+clusters ns (inner c e r) = clusters ns c ++ (taxa ns c ∷ clusters ns r)
 
 -- "Masks are ordered as whole numbers", and a tree's splits "are a set"
 unfoldable pub insert : ℕ → List ℕ → List ℕ

@@ -10,6 +10,7 @@
 use Prim.Native.Nat.{ℕ, zero, suc, _+_, _^_}
 use mathlib.Core.Bool.{Bool, true, false, _&&_, not}
 use mathlib.Core.List.{List, [], _∷_, _++_, map}
+use mathlib.Core.Option.{none}
 use lib.Dec.{ltb, eqb}
 use lib.ListN.{length, getD}
 use Rattle.trees.specs.Plain.{if_then_else_, every, member, bytes, byte}
@@ -61,28 +62,28 @@ branches (suc f) ns s m r =
       | true ↦ nil
       | false ↦
           elim (eqb x 0) [
-            | true ↦ leaf (writtenName (getD ns i [])) (branches f ns s m (without r (2 ^ i)))
-            | false ↦ inner (branches f ns s x x) (branches f ns s m (without r x))
+            | true ↦ leaf (writtenName (getD ns i [])) none (branches f ns s m (without r (2 ^ i)))
+            | false ↦ inner (branches f ns s x x) none (branches f ns s m (without r x))
           ]
     ]
 
 -- "with taxon 0 as a child of the root, the children of every node in order of their smallest taxon"
 unfoldable pub treeOf : List (List ℕ) → List ℕ → Nodes
 unfolding branches everyTaxon
-treeOf ns s = let all = everyTaxon (length ns) in inner (branches (suc (all + all)) ns s all all) nil
+treeOf ns s = let all = everyTaxon (length ns) in inner (branches (suc (all + all)) ns s all all) none nil
 
 -- a comma, where a node follows
 unfoldable pub parted : Nodes → List ℕ → List ℕ
 parted nil s = s
-parted (leaf w r) s = byte "," ∷ s
-parted (inner c r) s = byte "," ∷ s
+parted (leaf w e r) s = byte "," ∷ s
+parted (inner c e r) s = byte "," ∷ s
 
 -- "no blanks outside names, no lengths or inner labels"
 unfoldable pub shown : Nodes → List ℕ
 unfolding parted
 shown nil = []
-shown (leaf w r) = w ++ parted r (shown r)
-shown (inner c r) = byte "(" ∷ (shown c ++ (byte ")" ∷ parted r (shown r)))
+shown (leaf w e r) = w ++ parted r (shown r)
+shown (inner c e r) = byte "(" ∷ (shown c ++ (byte ")" ∷ parted r (shown r)))
 
 -- "and a semicolon"
 unfoldable pub written : List (List ℕ) → List ℕ → List ℕ

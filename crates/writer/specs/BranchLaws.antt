@@ -14,6 +14,7 @@ use mathlib.Core.Path.{_≡_, refl, sym, ap, ap₂, _∙_, subst}
 use mathlib.Core.Logic.{_⊎_, inl, inr}
 use mathlib.Core.Bool.{Bool, true, false}
 use mathlib.Core.List.{List}
+use mathlib.Core.Option.{none}
 use lib.Dec.{eqb}
 use lib.Bits.{bitXor}
 use lib.Count.{ones}
@@ -132,16 +133,16 @@ module _ {n : ℕ} {ns : List (List ℕ)} {s : List ℕ} {m r i x : ℕ} (k : St
   branches-by : (f : ℕ) → branches (suc f) ns s m r ≡ branchesBy (eqb r 0) (eqb x 0) f ns s m r i x
   branches-by f = rw (k .wide, k .smallest) (branches-step f ns s m r)
 
-  branches-leaf : (f : ℕ) → x ≡ 0 → branches (suc f) ns s m r ≡ leaf (labelOf ns i) (branches f ns s m (without r (childMask i x)))
+  branches-leaf : (f : ℕ) → x ≡ 0 → branches (suc f) ns s m r ≡ leaf (labelOf ns i) none (branches f ns s m (without r (childMask i x)))
   branches-leaf f z =
       branches-by f ∙ ap₂ (λ (b c : Bool). branchesBy b c f ns s m r i x) (ne-eqb r 0 (k .some)) (eq-eqb x 0 z)
-      ∙ ap (λ (c : ℕ). leaf (labelOf ns i) (branches f ns s m (without r c))) (sym (mask-leaf i x z))
+      ∙ ap (λ (c : ℕ). leaf (labelOf ns i) none (branches f ns s m (without r c))) (sym (mask-leaf i x z))
 
   branches-inner : (f : ℕ) → (x ≡ 0 → ⊥)
-      → branches (suc f) ns s m r ≡ inner (branches f ns s x x) (branches f ns s m (without r (childMask i x)))
+      → branches (suc f) ns s m r ≡ inner (branches f ns s x x) none (branches f ns s m (without r (childMask i x)))
   branches-inner f z =
       branches-by f ∙ ap₂ (λ (b c : Bool). branchesBy b c f ns s m r i x) (ne-eqb r 0 (k .some)) (ne-eqb x 0 z)
-      ∙ ap (λ (c : ℕ). inner (branches f ns s x x) (branches f ns s m (without r c))) (sym (mask-inner i x z))
+      ∙ ap (λ (c : ℕ). inner (branches f ns s x x) none (branches f ns s m (without r c))) (sym (mask-inner i x z))
 
 -- ---- steps enough
 
@@ -169,10 +170,10 @@ module _ (n : ℕ) (ns : List (List ℕ)) (s : List ℕ) where
       go : (b : Bool) → eqb x 0 ≡ b → branches (suc f) ns s m r ≡ branches (suc g) ns s m r
       go true e =
           let z = eqb-true x 0 e in
-          branches-leaf k f z ∙ ap (leaf (labelOf ns i)) rest ∙ sym (branches-leaf k g z)
+          branches-leaf k f z ∙ ap (leaf (labelOf ns i) none) rest ∙ sym (branches-leaf k g z)
       go false e =
           let z = eqb-false x 0 e in
-          branches-inner k f z ∙ ap₂ inner (ih x x (child-ready k z) (child-less k z)) rest ∙ sym (branches-inner k g z)
+          branches-inner k f z ∙ ap₂ (λ c t. inner c none t) (ih x x (child-ready k z) (child-less k z)) rest ∙ sym (branches-inner k g z)
 
   pub enough : (f g m r : ℕ) → Ready n ns s m r → m + r < f → m + r < g → branches f ns s m r ≡ branches g ns s m r
   unfolding Alike
@@ -197,12 +198,12 @@ module _ {n : ℕ} {ns : List (List ℕ)} {s : List ℕ} {m r i x : ℕ} (k : St
       let q = without r (childMask i x) in
       enough n ns s (m + r) (suc (m + q)) m q (rest-ready k refl) (omega (arith, rest-less k refl)) (omega arith)
 
-  pub grown-leaf : x ≡ 0 → grown ns s m r ≡ leaf (labelOf ns i) (grown ns s m (without r (childMask i x)))
+  pub grown-leaf : x ≡ 0 → grown ns s m r ≡ leaf (labelOf ns i) none (grown ns s m (without r (childMask i x)))
   unfolding grown
-  grown-leaf z = branches-leaf k (m + r) z ∙ ap (leaf (labelOf ns i)) rest-grown
+  grown-leaf z = branches-leaf k (m + r) z ∙ ap (leaf (labelOf ns i) none) rest-grown
 
-  pub grown-inner : (x ≡ 0 → ⊥) → grown ns s m r ≡ inner (grown ns s x x) (grown ns s m (without r (childMask i x)))
+  pub grown-inner : (x ≡ 0 → ⊥) → grown ns s m r ≡ inner (grown ns s x x) none (grown ns s m (without r (childMask i x)))
   unfolding grown
   grown-inner z =
       branches-inner k (m + r) z
-      ∙ ap₂ inner (enough n ns s (m + r) (suc (x + x)) x x (child-ready k z) (child-less k z) (omega arith)) rest-grown
+      ∙ ap₂ (λ c t. inner c none t) (enough n ns s (m + r) (suc (x + x)) x x (child-ready k z) (child-less k z) (omega arith)) rest-grown

@@ -8,6 +8,7 @@ use native.Mathlib.Omega.{arith}
 use mathlib.Core.Path.{_≡_, refl, sym, ap, _∙_}
 use mathlib.Core.Bool.{Bool, true, false}
 use mathlib.Core.List.{List, [], _∷_, _++_, append-assoc, append-nil}
+use mathlib.Core.Option.{none}
 use lib.Dec.{eqb}
 use lib.ListN.{length, length-append}
 use borrow.Author.Tests.{eqb-true, eqb-false, eq-eqb, ne-eqb}
@@ -32,11 +33,11 @@ module _ (ns : List (List ℕ)) (s : List ℕ) (i x : ℕ) where
 
 -- ---- branches
 
-shown-leaf : (w : List ℕ) (t : Nodes) → shown (leaf w t) ≡ w ++ parted t (shown t)
+shown-leaf : (w : List ℕ) (t : Nodes) → shown (leaf w none t) ≡ w ++ parted t (shown t)
 unfolding shown
 shown-leaf w t = refl
 
-shown-inner : (c t : Nodes) → shown (inner c t) ≡ (40 ∷ (shown c ++ 41 ∷ [])) ++ parted t (shown t)
+shown-inner : (c t : Nodes) → shown (inner c none t) ≡ (40 ∷ (shown c ++ 41 ∷ [])) ++ parted t (shown t)
 unfolding shown
 shown-inner c t = ap (λ (l : List ℕ). 40 ∷ l) (sym (append-assoc (shown c) (41 ∷ []) (parted t (shown t))))
 
@@ -65,11 +66,11 @@ module _ {n : ℕ} {ns : List (List ℕ)} {s : List ℕ} {m r i x : ℕ} (k : St
       go : (b : Bool) → eqb x 0 ≡ b → shown (grown ns s m r) ≡ childText ns s i x ++ parted t (shown t)
       go true e =
           let z = eqb-true x 0 e in
-          ap shown (grown-leaf k z ∙ ap (leaf (labelOf ns i)) q) ∙ shown-leaf (labelOf ns i) t
+          ap shown (grown-leaf k z ∙ ap (leaf (labelOf ns i) none) q) ∙ shown-leaf (labelOf ns i) t
           ∙ ap (λ (l : List ℕ). l ++ parted t (shown t)) (sym (child-leaf ns s i x z))
       go false e =
           let z = eqb-false x 0 e in
-          ap shown (grown-inner k z ∙ ap (inner (grown ns s x x)) q) ∙ shown-inner (grown ns s x x) t
+          ap shown (grown-inner k z ∙ ap (inner (grown ns s x x) none) q) ∙ shown-inner (grown ns s x x) t
           ∙ ap (λ (l : List ℕ). l ++ parted t (shown t)) (sym (child-inner ns s i x z))
 
   pub text-length : length (childText ns s i x) ≤ length (branchText ns s m r)

@@ -1,0 +1,84 @@
+-- The promises of the functions on branch lengths leave one outcome. Each theorem is over the function's own `Post`. Assumes nothing.
+--
+--   doubles     put-length-once, get-length-once, holds-length-once
+--   lengths     length-of-once
+--   weighing    weighted-once, first-sum-once, add-sum-once
+use mathlib.Core.Path.{_≡_, refl, sym, ap, subst}
+use mathlib.Core.Option.{Option, none, some}
+use lib.Ieee.{Float}
+use denote.Ref.{now}
+use Rattle.doubles.proofs.put_length.Reads as put-length
+use Rattle.doubles.proofs.get_length.Reads as get-length
+use Rattle.doubles.proofs.holds_length.Reads as holds-length
+use Rattle.lengths.proofs.length_of.Reads as length-of
+use Rattle.weighing.proofs.weighted.Reads as weighted
+use Rattle.weighing.proofs.first_sum.Reads as first-sum
+use Rattle.weighing.proofs.add_sum.Reads as add-sum
+use Rattle.trees.specs.Sums.{Sums}
+use Rattle.doubles.specs.declared.Length.{Length}
+use Rattle.doubles.specs.declared.Length.the-variants.{Absent, Given}
+use Rattle.doubles.specs.Stored.{branchGiven}
+use Rattle.lengths.specs.declared.Value.{Value}
+use Rattle.lengths.specs.declared.Value.the-variants.{Outside, Inside}
+use Rattle.lengths.specs.Answer.{valueGiven}
+use Rattle.weighing.specs.declared.Lengths.{Lengths}
+use Rattle.weighing.specs.Summed.{sumsGiven}
+use Rattle.promises.specs.Once.{Once, AnswerOnce, arg1}
+use Rattle.promises.specs.Outcomes.{both}
+
+-- ---- answers that mean the same are the same
+
+-- what is given, or x
+abbrev givenOr : Float → Option Float → Float
+givenOr x none = x
+givenOr x (some y) = y
+
+-- whether there is one, as a type
+abbrev Some : Option Float → Type 0
+Some none = ⊥
+Some (some x) = Unit {0}
+
+branch-one : (a b : Length) → branchGiven a ≡ branchGiven b → a ≡ b
+unfolding branchGiven
+branch-one Absent Absent e = refl
+branch-one Absent (Given y) e = absurd (subst Some (sym e) tt)
+branch-one (Given x) Absent e = absurd (subst Some e tt)
+branch-one (Given x) (Given y) e = ap (λ (o : Option Float). Given (givenOr x o)) e
+
+value-one : (a b : Value) → valueGiven a ≡ valueGiven b → a ≡ b
+unfolding valueGiven
+value-one Outside Outside e = refl
+value-one Outside (Inside y) e = absurd (subst Some (sym e) tt)
+value-one (Inside x) Outside e = absurd (subst Some e tt)
+value-one (Inside x) (Inside y) e = ap (λ (o : Option Float). Inside (givenOr x o)) e
+
+sums-one : (a b : Lengths) → sumsGiven a ≡ sumsGiven b → a ≡ b
+unfolding sumsGiven
+sums-one a b e = λ i. record { shortest = e i .shortest; longest = e i .longest; sum = e i .sum }
+
+-- ---- doubles
+
+pub put-length-once : Once put-length.Post (λ x q r y z. now (arg1 y) ≡ now (arg1 z))
+put-length-once k x q r y z a b = both a b
+
+pub get-length-once : AnswerOnce get-length.Post
+get-length-once k x q r y z a b = branch-one q r (both a b)
+
+pub holds-length-once : AnswerOnce holds-length.Post
+holds-length-once k x q r y z a b = both a b
+
+-- ---- lengths
+
+pub length-of-once : AnswerOnce length-of.Post
+length-of-once k x q r y z a b = value-one q r (both a b)
+
+-- ---- weighing
+
+pub weighted-once : AnswerOnce weighted.Post
+weighted-once k x q r y z a b = both a b
+
+pub first-sum-once : AnswerOnce first-sum.Post
+first-sum-once k x q r y z a b = sums-one q r (both a b)
+
+pub add-sum-once : AnswerOnce add-sum.Post
+add-sum-once k x q r y z a b = sums-one q r (both a b)
