@@ -2,7 +2,7 @@
 -- TextsOutcomes. Each theorem is over the function's own `Post`, and none asks anything of the arguments. Assumes nothing.
 --
 --   agree-once, is-whole-once                                     the tests
---   refusal-number-once, verdict-number-once, size-once, tree-count-once, split-count-once, one-split-once, one-sided-once, doubled-once, collisions-once
+--   refusal-number-once, verdict-number-once, size-once, tree-count-once, split-count-once, one-split-once, one-sided-once, doubled-once, weighted-once, collisions-once
 --                                                                 the questions without a buffer
 --   split-list-once, tree-splits-once, matrix-once, strict-once, majority-once, both-once, write-accepted-once
 --                                                                 the questions with one: the answer, and every element of the buffer
@@ -40,6 +40,7 @@ use Rattle.table.proofs.tree_splits.Reads as tree-splits
 use Rattle.comparing.proofs.one_sided.Reads as one-sided
 use Rattle.comparing.proofs.doubled.Reads as doubled
 use Rattle.comparing.proofs.matrix.Reads as matrix
+use Rattle.comparing.proofs.weighted.Reads as weighted
 use Rattle.comparing.proofs.collisions.Reads as collisions
 use Rattle.consensus.proofs.strict.Reads as strict
 use Rattle.consensus.proofs.majority.Reads as majority
@@ -48,7 +49,7 @@ use Rattle.consensus.proofs.write_accepted.Reads as write-accepted
 use Rattle.feeding.proofs.feed.Reads as feed
 use Rattle.feeding.proofs.close.Reads as close
 use Rattle.promises.specs.Once.{Once, AnswerOnce, arg1, arg2, arg3, arg4, arg5, arg6, arg7, arg8, arg9, SameStore, Free, nothing, lane, store, SameBut}
-use Rattle.promises.specs.Outcomes.{both, split-one, progress-one, finish-both, number-both, lengths-both, filled-both, holds-both, outside-both}
+use Rattle.promises.specs.Outcomes.{both, split-one, weight-one, progress-one, finish-both, number-both, lengths-both, filled-both, holds-both, outside-both}
 
 -- ---- tests
 
@@ -83,6 +84,9 @@ one-sided-once k x q r y z a b = number-both q r a b
 
 pub doubled-once : AnswerOnce doubled.Post
 doubled-once k x q r y z a b = number-both q r a b
+
+pub weighted-once : AnswerOnce weighted.Post
+weighted-once k x q r y z a b = weight-one q r (both a b)
 
 pub collisions-once : AnswerOnce collisions.Post
 collisions-once k x q r y z a b = number-both q r a b

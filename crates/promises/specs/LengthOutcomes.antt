@@ -21,8 +21,8 @@ use Rattle.doubles.specs.Stored.{branchGiven}
 use Rattle.lengths.specs.declared.Value.{Value}
 use Rattle.lengths.specs.declared.Value.the-variants.{Outside, Inside}
 use Rattle.lengths.specs.Answer.{valueGiven}
-use Rattle.weighing.specs.declared.Lengths.{Lengths}
-use Rattle.weighing.specs.Summed.{sumsGiven}
+use Rattle.answers.specs.declared.Lengths.{Lengths}
+use Rattle.answers.specs.Answers.{sumsGiven}
 use Rattle.promises.specs.Once.{Once, AnswerOnce, arg1}
 use Rattle.promises.specs.Outcomes.{both}
 

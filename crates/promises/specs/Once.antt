@@ -4,6 +4,7 @@
 --   Once Post Same        two outcomes that the promise allows on the same arguments are the same, as Same says
 --   OnceIf Pre Post Same  the same, of arguments that the `requires` allow
 --   AnswerOnce Post       they are equal in the answer; nothing else changes
+--   AnswerIs Post P       every answer that the promise allows is as P says
 --   arg1 .. arg9          the arguments
 --   SameStore t u         two lent bytes are alike in whether they are whole, in what they hold, in how many they are, and in those past
 --                         the size
@@ -28,6 +29,9 @@ OnceIf {K} {A} {R} {E} Pre Post Same = (k : K) (x : A) (q r : R) (y z : E) → P
 
 abbrev pub AnswerOnce : {K A R E : Type 0} → (K → A → R → E → Type 0) → Type 0
 AnswerOnce Post = Once Post (λ x q r y z. q ≡ r)
+
+abbrev pub AnswerIs : {K A R E : Type 0} → (K → A → R → E → Type 0) → (R → Type 0) → Type 0
+AnswerIs {K} {A} {R} {E} Post P = (k : K) (x : A) (r : R) (y : E) → Post k x r y → P r
 
 -- ---- arguments
 

@@ -6,3 +6,5 @@ pub mod OpenLaws
 pub mod Asked
 pub mod QuestionLaws
 pub mod SplitListLaws
+pub mod SplitLengths
+pub mod SplitLengthLaws

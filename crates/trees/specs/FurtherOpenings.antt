@@ -15,7 +15,7 @@ use Rattle.trees.specs.Whole.{goodOpening}
 
 -- taxa, lanes, tree room, split room, places
 abbrev of : ℕ → ℕ → ℕ → ℕ → ℕ → Numbers
-of n l t s m = record { taxa = n; lanes = l; treeRoom = t; splitRoom = s; places = m }
+of n l t s m = record { taxa = n; lanes = l; treeRoom = t; splitRoom = s; places = m; kept = 0 }
 
 -- 4096 + 4616 a lane + 128 a tree + 24 a split + 2 a place
 unfoldable pub sizings : List (String × Numbers × Answer ℕ)
