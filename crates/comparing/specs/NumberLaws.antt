@@ -2,6 +2,7 @@
 --
 --   weighted-number     it is plus zero or above it: no NaN and no minus zero. It may be an infinity: whole asks that each length is finite,
 --                       and somebody else may have written lengths whose sum is too large for a double
+--   AllProper, all-proper     the lengths of a whole store, if all are given, are finite and not minus zero
 use Prim.Native.Nat.{ℕ}
 use native.Mathlib.Omega.{arith}
 use mathlib.Core.Path.{_≡_, refl, sym, subst}
@@ -30,7 +31,7 @@ use Rattle.comparing.specs.Asked.{weightedAsked}
 use Rattle.comparing.specs.WeighedLaws.{ofBoth, both-of}
 
 -- what an answer gives, if it gives any
-abbrev AllProper : Option (List Float) → Type 0
+abbrev pub AllProper : Option (List Float) → Type 0
 AllProper none = Unit {0}
 AllProper (some xs) = every proper xs ≡ true
 
@@ -48,7 +49,7 @@ none-proper : every proper [] ≡ true
 unfolding every
 none-proper = refl
 
-all-proper : (xs : List Length) → every goodLength xs ≡ true → AllProper (allGiven xs)
+pub all-proper : (xs : List Length) → every goodLength xs ≡ true → AllProper (allGiven xs)
 unfolding allGiven every
 all-proper [] g = none-proper
 all-proper (x ∷ xs) g =
