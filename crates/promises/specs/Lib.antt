@@ -20,6 +20,7 @@ pub mod TextsOutcomes
 pub mod EqualOutcomes
 pub mod LengthOutcomes
 pub mod NumberCallLaws
+pub mod NotKeptCallLaws
 pub mod ReadOutcomes
 pub mod InnerOutcomes
 pub mod StoreOutcomes

@@ -1,7 +1,8 @@
 -- What two outcomes of a promise have in common, by what it says: the laws from which each promise's own theorem is a line or two.
 -- Assumes nothing.
 --
---   refusal-one, finish-one, number-one, lengths-one, split-one, weight-one, progress-one     answers that mean the same are the same
+--   refusal-one, finish-one, number-one, lengths-one, split-one, weight-one, sums-one, split-lengths-one, progress-one     answers that mean the same
+--                                         are the same
 --   valueOr                               what an answer gives
 --   both                                  two that are equal to a third
 --   finish-both, number-both, lengths-both     two answers that mean the same third
@@ -27,11 +28,14 @@ use Rattle.answers.specs.declared.Recorded.{Recorded}
 use Rattle.answers.specs.declared.Recorded.the-variants as recorded
 use Rattle.answers.specs.declared.Weight.{Weight}
 use Rattle.answers.specs.declared.Weight.the-variants as weight
+use Rattle.answers.specs.declared.Lengths.{Lengths}
+use Rattle.answers.specs.declared.SplitLengths.{SplitLengths}
+use Rattle.answers.specs.declared.SplitLengths.the-variants as three
 use Rattle.answers.specs.declared.Progress.{Progress}
 use Rattle.answers.specs.declared.Progress.the-variants as progress
 use Rattle.answers.specs.declared.Both.{Both}
 use Rattle.answers.specs.declared.Both.the-variants as lengths
-use Rattle.answers.specs.Answers.{refusalNumber, finishGiven, numberGiven, bothGiven, splitGiven, weightGiven, progressGiven}
+use Rattle.answers.specs.Answers.{refusalNumber, finishGiven, numberGiven, bothGiven, splitGiven, weightGiven, sumsGiven, splitLengthsGiven, progressGiven}
 use Rattle.answers.specs.AnswerLaws.{gives≢refused}
 use Rattle.head.specs.Head.{openingAt}
 use Rattle.layout.specs.Store.{sizeAt, heldAt, heldIn}
@@ -127,6 +131,17 @@ weight-one (weight.Refused r) (weight.Refused q) e = ap weight.Refused (refusal-
 weight-one (weight.Refused r) (weight.Gives x) e = absurd (gives≢refused x (refusalNumber r) (sym e))
 weight-one (weight.Gives x) (weight.Refused r) e = absurd (gives≢refused x (refusalNumber r) e)
 weight-one (weight.Gives x) (weight.Gives y) e = ap weight.Gives (ap (valueOr x) e)
+
+pub sums-one : (a b : Lengths) → sumsGiven a ≡ sumsGiven b → a ≡ b
+unfolding sumsGiven
+sums-one a b e = λ i. record { shortest = e i .shortest; longest = e i .longest; sum = e i .sum }
+
+pub split-lengths-one : (a b : SplitLengths) → splitLengthsGiven a ≡ splitLengthsGiven b → a ≡ b
+unfolding splitLengthsGiven refusalIn valueOr
+split-lengths-one (three.Refused r) (three.Refused q) e = ap three.Refused (refusal-one r q (ap refusalIn e))
+split-lengths-one (three.Refused r) (three.Gives x) e = absurd (gives≢refused (sumsGiven x) (refusalNumber r) (sym e))
+split-lengths-one (three.Gives x) (three.Refused r) e = absurd (gives≢refused (sumsGiven x) (refusalNumber r) e)
+split-lengths-one (three.Gives x) (three.Gives y) e = ap three.Gives (sums-one x y (ap (valueOr (sumsGiven x)) e))
 
 treeOr0 : held.Progress → ℕ
 treeOr0 moreWanted = 0
