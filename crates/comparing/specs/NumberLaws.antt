@@ -4,22 +4,23 @@
 --                       and somebody else may have written lengths whose sum is too large for a double
 use Prim.Native.Nat.{ℕ}
 use native.Mathlib.Omega.{arith}
-use mathlib.Core.Path.{_≡_, refl, sym, subst}
+use mathlib.Core.Path.{_≡_, sym, subst}
 use mathlib.Core.Bool.{true}
-use mathlib.Core.List.{List, [], _∷_}
+use mathlib.Core.List.{List}
 use mathlib.Core.Option.{Option, none, some}
 use lib.Dec.{ltb, eqb}
 use lib.ListN.{length}
 use lib.Ieee.{Float}
 use borrow.Author.Tests.{ltb-true}
 use Rattle.trees.specs.Plain.{every, Answer, refused, gives}
-use Rattle.trees.specs.Value.{Length, proper}
+use Rattle.trees.specs.Value.{Length}
 use Rattle.trees.specs.Weighted.{weighted}
 use Rattle.trees.specs.Whole.{goodLength}
-use Rattle.trees.specs.Questions.{ifTree, ifKept, withGiven, allGiven, ifBothGiven, treeLengths, tree, weightedOf}
-use Rattle.theorems.specs.ListLaws.{by-test, and-true, and-left, and-right}
+use Rattle.trees.specs.Questions.{ifTree, ifKept, allGiven, ifBothGiven, treeLengths, tree, weightedOf}
+use Rattle.theorems.specs.ListLaws.{by-test}
 use Rattle.theorems.specs.Size.{plus}
 use Rattle.theorems.specs.WeightedLaws.{weighted-plus}
+use Rattle.weighing.specs.GivenLaws.{AllProper, all-proper}
 use Rattle.layout.specs.Store.{heldAt}
 use Rattle.layout.specs.WholeStore.{wholeAt}
 use Rattle.layout.specs.WholeFacts.{whole-at-facts}
@@ -30,29 +31,9 @@ use Rattle.comparing.specs.Asked.{weightedAsked}
 use Rattle.comparing.specs.WeighedLaws.{ofBoth, both-of}
 
 -- what an answer gives, if it gives any
-abbrev AllProper : Option (List Float) → Type 0
-AllProper none = Unit {0}
-AllProper (some xs) = every proper xs ≡ true
-
 abbrev IsPlus : Answer Float → Type 0
 IsPlus (refused k) = Unit {0}
 IsPlus (gives x) = plus x ≡ true
-
-more-proper : (x : Length) (o : Option (List Float)) → goodLength x ≡ true → AllProper o → AllProper (withGiven x o)
-unfolding withGiven goodLength every
-more-proper none o g h = tt
-more-proper (some x) none g h = tt
-more-proper (some x) (some xs) g h = and-true g h
-
-none-proper : every proper [] ≡ true
-unfolding every
-none-proper = refl
-
-all-proper : (xs : List Length) → every goodLength xs ≡ true → AllProper (allGiven xs)
-unfolding allGiven every
-all-proper [] g = none-proper
-all-proper (x ∷ xs) g =
-    more-proper x (allGiven xs) (and-left (goodLength x) (every goodLength xs) g) (all-proper xs (and-right (goodLength x) (every goodLength xs) g))
 
 module _ (av bv : List ℕ) where
   abbrev distance : List Float → List Float → Float
