@@ -4,27 +4,27 @@
 --                       and somebody else may have written lengths whose sum is too large for a double
 --   weighted-both-ways  it is the same both ways round, and so is a refusal
 --   weighted-zero       it is plus zero for trees with the same splits and the same lengths
---   AllProper, all-proper     the lengths of a whole store, if all are given, are finite and not minus zero
 use Prim.Native.Nat.{ℕ}
 use native.Mathlib.Omega.{arith}
 use mathlib.Core.Path.{_≡_, refl, sym, ap, subst, _∙_}
 use mathlib.Core.Bool.{Bool, true, false}
-use mathlib.Core.List.{List, [], _∷_}
+use mathlib.Core.List.{List}
 use mathlib.Core.Option.{Option, none, some}
 use lib.Dec.{ltb, eqb}
 use lib.ListN.{length}
 use lib.Ieee.{Float}
 use borrow.Author.Tests.{ltb-true}
 use Rattle.trees.specs.Plain.{if_then_else_, every, Answer, refused, gives}
-use Rattle.trees.specs.Value.{Length, proper}
+use Rattle.trees.specs.Value.{Length}
 use Rattle.trees.specs.Sums.{plusZero}
 use Rattle.trees.specs.Weighted.{weighted}
 use Rattle.trees.specs.Held.{Held}
 use Rattle.trees.specs.Whole.{goodLength}
-use Rattle.trees.specs.Questions.{ifTree, ifKept, withGiven, allGiven, ifBothGiven, treeLengths, tree, weightedOf}
-use Rattle.theorems.specs.ListLaws.{by-test, and-true, and-left, and-right}
+use Rattle.trees.specs.Questions.{ifTree, ifKept, allGiven, ifBothGiven, treeLengths, tree, weightedOf}
+use Rattle.theorems.specs.ListLaws.{by-test}
 use Rattle.theorems.specs.Size.{plus}
 use Rattle.theorems.specs.WeightedLaws.{weighted-plus, weighted-sym, weighted-self}
+use Rattle.weighing.specs.GivenLaws.{AllProper, all-proper}
 use Rattle.layout.specs.Store.{heldAt}
 use Rattle.layout.specs.WholeStore.{wholeAt}
 use Rattle.layout.specs.WholeFacts.{whole-at-facts}
@@ -35,10 +35,6 @@ use Rattle.comparing.specs.Asked.{weightedAsked}
 use Rattle.comparing.specs.WeighedLaws.{ofBoth, both-of}
 
 -- what an answer gives, if it gives any
-abbrev pub AllProper : Option (List Float) → Type 0
-AllProper none = Unit {0}
-AllProper (some xs) = every proper xs ≡ true
-
 abbrev IsPlus : Answer Float → Type 0
 IsPlus (refused k) = Unit {0}
 IsPlus (gives x) = plus x ≡ true
@@ -46,22 +42,6 @@ IsPlus (gives x) = plus x ≡ true
 abbrev IsZero : Answer Float → Type 0
 IsZero (refused k) = Unit {0}
 IsZero (gives x) = x ≡ plusZero
-
-more-proper : (x : Length) (o : Option (List Float)) → goodLength x ≡ true → AllProper o → AllProper (withGiven x o)
-unfolding withGiven goodLength every
-more-proper none o g h = tt
-more-proper (some x) none g h = tt
-more-proper (some x) (some xs) g h = and-true g h
-
-none-proper : every proper [] ≡ true
-unfolding every
-none-proper = refl
-
-pub all-proper : (xs : List Length) → every goodLength xs ≡ true → AllProper (allGiven xs)
-unfolding allGiven every
-all-proper [] g = none-proper
-all-proper (x ∷ xs) g =
-    more-proper x (allGiven xs) (and-left (goodLength x) (every goodLength xs) g) (all-proper xs (and-right (goodLength x) (every goodLength xs) g))
 
 module _ (av bv : List ℕ) where
   abbrev distance : List Float → List Float → Float

@@ -8,3 +8,4 @@ pub mod QuestionLaws
 pub mod SplitListLaws
 pub mod SplitLengths
 pub mod SplitLengthLaws
+pub mod NumberLaws
