@@ -69,11 +69,16 @@ fn lengths(lent: &[u8], s: usize) -> Reply {
     let answer = table::split_lengths(lent, Split(s));
     match answer {
         SplitLengths::Refused(r) => replies::refused(r),
-        SplitLengths::Gives(x) => Reply {
-            form: replies::LENGTHS,
-            a: f64::to_bits(x.shortest),
-            b: f64::to_bits(x.longest),
-            c: f64::to_bits(x.sum),
-        },
+        SplitLengths::Gives(x) => {
+            let a = f64::to_bits(x.shortest);
+            let b = f64::to_bits(x.longest);
+            let c = f64::to_bits(x.sum);
+            Reply {
+                form: replies::LENGTHS,
+                a,
+                b,
+                c,
+            }
+        }
     }
 }

@@ -6,21 +6,21 @@ use Rattle.table.specs.NumberLaws.{lengths-numbers}
 use Rattle.calling.proofs.questions.lengths.Statement.{statement}
 use Rattle.calling.proofs.questions.lengths.Tie as tie
 
-float-to-bits-t8 : tie.Need-float-to-bits-t8
+float-to-bits-a : tie.Need-float-to-bits-a
 unfolding splitLengthsGiven sumsGiven
-float-to-bits-t8 c =
+float-to-bits-a c =
     let d = c .before .before in
     lengths-numbers _ _ _ (sym (d .before .before .split-lengths .ensures) ∙ ap splitLengthsGiven (d .answer2 .given .1)) .0
 
-float-to-bits-t9 : tie.Need-float-to-bits-t9
+float-to-bits-b : tie.Need-float-to-bits-b
 unfolding splitLengthsGiven sumsGiven
-float-to-bits-t9 c =
+float-to-bits-b c =
     let d = c .before .before .before in
     lengths-numbers _ _ _ (sym (d .before .before .split-lengths .ensures) ∙ ap splitLengthsGiven (d .answer2 .given .1)) .1
 
-float-to-bits-t10 : tie.Need-float-to-bits-t10
+float-to-bits-c : tie.Need-float-to-bits-c
 unfolding splitLengthsGiven sumsGiven
-float-to-bits-t10 c =
+float-to-bits-c c =
     let d = c .before .before .before .before in
     lengths-numbers _ _ _ (sym (d .before .before .split-lengths .ensures) ∙ ap splitLengthsGiven (d .answer2 .given .1)) .2
 
@@ -32,8 +32,8 @@ lengths-spec =
     (λ c. search needs)
     (λ c κs. search needs)
     (λ c. search needs)
-    float-to-bits-t8
-    float-to-bits-t9
-    float-to-bits-t10
+    float-to-bits-a
+    float-to-bits-b
+    float-to-bits-c
     (λ c. search needs)
     (λ c. search needs))
