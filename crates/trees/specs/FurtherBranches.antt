@@ -16,12 +16,12 @@ use Rattle.trees.specs.Value.{Length}
 use Rattle.trees.specs.Names.{namesIn}
 use Rattle.trees.specs.Verdict.{Branches, judgedWith}
 use Rattle.trees.specs.Sums.{plusZero}
-use Rattle.trees.specs.Held.{Held, opened}
+use Rattle.trees.specs.Held.{Held, holding, opened, verdict}
 use Rattle.trees.specs.Questions.{weightedOf, sumsOf}
 use Rattle.trees.specs.Whole.{goodLengths}
 use Rattle.trees.specs.Samples.{fedWith, collection}
 
--- the doubles 1/2, 1, 2, 3, 4 and 5
+-- the doubles 1/2, 1, 2, 3 and 5
 abbrev half : Float
 half = fin false 1 (negsuc 0)
 
@@ -36,6 +36,13 @@ three = fin false 3 (pos 0)
 
 abbrev five : Float
 five = fin false 5 (pos 0)
+
+-- 2^53, and the next double
+abbrev large : Float
+large = fin false 1 (pos 53)
+
+abbrev larger : Float
+larger = fin false 4503599627370497 (pos 1)
 
 abbrev names : List (List ℕ)
 names = namesIn (bytes "A B C D E")
@@ -91,11 +98,11 @@ keeping ts =
     }))
     ts
 
--- three trees: 24 and 28 with lengths; 20 and 28 with lengths; 24 and 28, one without a length
+-- four trees: 24 and 28 with lengths; 20 and 28 with lengths; 24 and 28, one without a length; no splits
 abbrev held : Held
 held = keeping ("((A,B):3,C,(D,E):.5);" ∷ "((A,B):1,D,(C,E):2);" ∷ "((A,B):2,C,(D,E));" ∷ "(A,B,C,D,E);" ∷ [])
 
-pub lengths-hold :
+pub length-questions-hold :
     (weightedOf held 0 0 ≡ gives plusZero)
     × (weightedOf held 0 1 ≡ gives (fin false 9 (negsuc 0)))
     × (weightedOf held 1 0 ≡ gives (fin false 9 (negsuc 0)))
@@ -110,7 +117,27 @@ pub lengths-hold :
     × (sumsOf held 2 ≡ gives (record { shortest = one; longest = three; sum = fin false 3 (pos 1) }))
     × (sumsOf held 3 ≡ refused 13)
 unfolding keeping weightedOf sumsOf
-lengths-hold = (refl, refl, refl, refl, refl, refl, refl, refl, refl, refl, refl, refl, refl)
+length-questions-hold = (refl, refl, refl, refl, refl, refl, refl, refl, refl, refl, refl, refl, refl)
+
+-- "added from 0 in tree order": 1, 1 and 2^53 give 2^53 + 2, but 2^53, 1 and 1 give 2^53
+abbrev rising : Held
+rising = keeping ("((A,B):1,C,D,E);" ∷ "((A,B):1,C,D,E);" ∷ "((A,B):9007199254740992,C,D,E);" ∷ [])
+
+abbrev falling : Held
+falling = keeping ("((A,B):9007199254740992,C,D,E);" ∷ "((A,B):1,C,D,E);" ∷ "((A,B):1,C,D,E);" ∷ [])
+
+pub tree-order-holds :
+    (sumsOf rising 0 ≡ gives (record { shortest = one; longest = large; sum = larger }))
+    × (sumsOf falling 0 ≡ gives (record { shortest = one; longest = large; sum = large }))
+unfolding keeping sumsOf
+tree-order-holds = (refl, refl)
+
+-- 17 stands before 11: the tree room is used up
+pub length-verdicts-hold :
+    (verdict held (holding (bytes "((A,B):1e23,C,D,E)")) ≡ refused 17)
+    × (verdict held (holding (bytes "((A,B):1e22,C,D,E)")) ≡ refused 11)
+unfolding keeping verdict bytes
+length-verdicts-hold = (refl, refl)
 
 -- "none are kept": 18, after 13
 abbrev without : Held
