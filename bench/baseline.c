@@ -1,8 +1,8 @@
 /* The yardstick: the same work as crate timing makes the library do, as a C programmer would write it for one program.
  *
  * It keeps the collection in its own structures and never tests them. Splits are told apart by their whole masks. Input and output
- * are those of crate timing: a line `answers` or `PART N`, a line of names, then texts. For the line `text` it writes the matrix and both
- * consensus trees as treecalls writes them. */
+ * are those of crate timing: a line `answers` or `PART N`, with `kept` before it where lengths are kept, a line of names, then texts. For
+ * the line `text` it writes the matrix and both consensus trees as treecalls writes them. */
 #include "small.h"
 
 enum { TAXA = 64, TREES = 1024, SPLITS = 4096, SLOTS = 8192, NAME_SLOTS = 256, TEXT = 4608, NESTING = 63, NAME = 32 };
@@ -30,6 +30,11 @@ static u32 counts[SPLITS];
 static u16 slots[SLOTS]; /* a split's row and 1; 0 for none */
 static u16 rows[TREES][TAXA];
 static u32 sizes[TREES];
+
+/* Where lengths are kept, the rows of a tree are in order of their masks; a length that is absent is no number. */
+static int kept;
+static double lengths[TREES][TAXA];
+static u16 order[SPLITS]; /* rows, by the split's number */
 
 /* ---- texts */
 
@@ -133,14 +138,64 @@ static const u8 *skip_length(const u8 *p, const u8 *end)
     return p < end && kinds[*p] == LABEL ? 0 : p;
 }
 
-/* The verdict on a text: a refusal's number from 7 to 10, or 0, with the splits' masks in `list` and how many there are in `found`. */
-static u32 judge(const u8 *p, const u8 *end, u64 *list, u32 *found)
+static const u8 *read_digits(const u8 *p, const u8 *end, u64 *n)
+{
+    for (; p < end && '0' <= *p && *p <= '9'; p++)
+        if (*n < 1ul << 58) /* a larger one is out of range */
+            *n = *n * 10 + *p - '0';
+    return p;
+}
+
+static const double tens[] = {1e0,  1e1,  1e2,  1e3,  1e4,  1e5,  1e6,  1e7,  1e8,  1e9,  1e10, 1e11,
+                              1e12, 1e13, 1e14, 1e15, 1e16, 1e17, 1e18, 1e19, 1e20, 1e21, 1e22};
+
+/* Past a length, or 0 where none stands there; its value, or that it is outside the exact range. */
+static const u8 *read_length(const u8 *p, const u8 *end, double *to, int *outside)
+{
+    u64 n = 0, x = 0;
+    long power = 0;
+    int minus = p < end && *p == '-', down = 0;
+    if (minus || (p < end && *p == '+'))
+        p++;
+    const u8 *from = p;
+    p = read_digits(p, end, &n);
+    long digits = p - from;
+    if (p < end && *p == '.') {
+        from = ++p;
+        p = read_digits(p, end, &n);
+        digits += p - from;
+        power = from - p;
+    }
+    if (!digits)
+        return 0;
+    if (p < end && (*p == 'e' || *p == 'E')) {
+        down = ++p < end && *p == '-';
+        if (down || (p < end && *p == '+'))
+            p++;
+        from = p;
+        p = read_digits(p, end, &x);
+        if (p == from)
+            return 0;
+        power += down ? -(long)x : (long)x;
+    }
+    if (1ul << 53 < n || power < -22 || 22 < power)
+        *outside = 1;
+    else
+        *to = (minus && n ? -1 : 1) * (power < 0 ? (double)n / tens[-power] : (double)n * tens[power]);
+    return p < end && kinds[*p] == LABEL ? 0 : p;
+}
+
+/* The verdict on a text: a refusal's number from 7 to 10 or 17, or 0, with the splits' masks in `list`, their lengths in `values` where
+ * lengths are kept, and how many there are in `found`. */
+static u32 judge(const u8 *p, const u8 *end, u64 *list, double *values, u32 *found)
 {
     u64 below[NESTING];
     u32 kids[NESTING];
     u64 seen = 0;
     u32 depth = 0, clusters = 0, root_kids = 0, fault = 0;
     u64 node[TAXA];
+    double measured[TAXA], other;
+    int outside = 0;
     struct label label;
     for (;;) {
         p = skip_blanks(p, end);
@@ -159,10 +214,12 @@ static u32 judge(const u8 *p, const u8 *end, u64 *list, u32 *found)
         if (!fault)
             fault = t < 0 ? 8 : seen & mask ? 9 : 0;
         seen |= mask;
+        double *to = &other; /* where the node's length goes */
         for (;;) {
             p = skip_blanks(p, end);
             if (p < end && *p == ':') {
-                p = skip_length(skip_blanks(p + 1, end), end);
+                p = skip_blanks(p + 1, end);
+                p = kept ? read_length(p, end, to, &outside) : skip_length(p, end);
                 if (!p)
                     return 7;
                 p = skip_blanks(p, end);
@@ -180,10 +237,14 @@ static u32 judge(const u8 *p, const u8 *end, u64 *list, u32 *found)
             if (kids[depth] < 2)
                 return 7;
             mask = below[depth];
-            if (depth == 0)
+            to = &other;
+            if (depth == 0) {
                 root_kids = kids[0];
-            else if (clusters < TAXA)
+            } else if (clusters < TAXA) {
+                to = measured + clusters;
+                *to = __builtin_nan("");
                 node[clusters++] = mask;
+            }
             p = read_label(skip_blanks(p + 1, end), end, &label);
             if (!p)
                 return 7;
@@ -197,13 +258,21 @@ read:
         return fault;
     if (seen != every_taxon)
         return 10;
-    if (root_kids == 2 && clusters)
+    if (outside)
+        return 17;
+    if (root_kids == 2 && clusters) {
         clusters--; /* the other side of an edge that another node has told of, or all taxa but one */
+        for (u32 i = 0; kept && i < clusters; i++)
+            if (node[i] == (every_taxon & ~node[clusters]))
+                measured[i] += measured[clusters];
+    }
     u32 k = 0;
     for (u32 i = 0; i < clusters; i++) {
         u64 mask = node[i] & 1 ? every_taxon & ~node[i] : node[i];
-        if (mask & (mask - 1) && mask != (every_taxon & ~1ul)) /* two taxa or more on both sides */
+        if (mask & (mask - 1) && mask != (every_taxon & ~1ul)) { /* two taxa or more on both sides */
+            values[k] = measured[i];
             list[k++] = mask;
+        }
     }
     *found = k;
     return 0;
@@ -238,12 +307,32 @@ static u32 row_of(u64 mask)
     return slots[k] - 1u;
 }
 
-static u32 record(const u64 *list, u32 n)
+/* Puts the splits of a tree in order of their masks, each with its length. */
+static void sort_splits(u64 *list, double *values, u32 n)
+{
+    for (u32 i = 1; i < n; i++) {
+        u64 mask = list[i];
+        double value = values[i];
+        u32 j = i;
+        for (; 0 < j && mask < list[j - 1]; j--) {
+            list[j] = list[j - 1];
+            values[j] = values[j - 1];
+        }
+        list[j] = mask;
+        values[j] = value;
+    }
+}
+
+static u32 record(u64 *list, double *values, u32 n)
 {
     if (trees == TREES)
         return 11;
     if (SPLITS < splits + n && SPLITS < splits + count_new(list, n))
         return 12;
+    if (kept) {
+        sort_splits(list, values, n);
+        memcpy(lengths[trees], values, n * sizeof *values);
+    }
     for (u32 i = 0; i < n; i++) {
         u32 row = row_of(list[i]);
         counts[row]++;
@@ -271,12 +360,13 @@ static const u8 *text_end(const u8 *p, const u8 *end)
 static u32 batch(const u8 *p, const u8 *end)
 {
     u64 list[TAXA];
+    double values[TAXA];
     u32 n = 0;
     const u8 *semicolon;
     while (n < 2 * TREES && (semicolon = text_end(p, end))) {
         u32 k = 0;
-        u32 verdict = TEXT < semicolon - p ? 6 : judge(p, semicolon, list, &k);
-        verdicts[n++] = verdict ? verdict : record(list, k);
+        u32 verdict = TEXT < semicolon - p ? 6 : judge(p, semicolon, list, values, &k);
+        verdicts[n++] = verdict ? verdict : record(list, values, k);
         p = semicolon + 1;
     }
     return n;
@@ -307,6 +397,78 @@ static void write_matrix(void)
         for (u32 k = 0; k < sizes[i]; k++)
             marks[rows[i][k]] = 0;
     }
+}
+
+/* ---- lengths, where they are kept */
+
+static int compare_rows(const void *a, const void *b)
+{
+    u64 x = masks[*(const u16 *)a], y = masks[*(const u16 *)b];
+    return (y < x) - (x < y);
+}
+
+static void number_splits(void)
+{
+    for (u32 k = 0; k < splits; k++)
+        order[k] = (u16)k;
+    qsort(order, splits, sizeof *order, compare_rows);
+}
+
+/* The weighted distance of two trees; no number where a length is absent. */
+static double weighted(u32 a, u32 b)
+{
+    double sum = 0;
+    u32 i = 0, j = 0;
+    while (i < sizes[a] || j < sizes[b]) {
+        u64 x = i < sizes[a] ? masks[rows[a][i]] : ~0ul, y = j < sizes[b] ? masks[rows[b][j]] : ~0ul;
+        double d = 0;
+        if (x <= y)
+            d = lengths[a][i++];
+        if (y <= x)
+            d -= lengths[b][j++];
+        sum += __builtin_fabs(d);
+    }
+    return sum;
+}
+
+struct summed {
+    double shortest, longest, sum;
+};
+
+/* The lengths of a split over the trees having it; the sum is no number where one is absent. */
+static struct summed split_lengths(u32 number)
+{
+    struct summed r = {0, 0, 0};
+    u32 met = 0;
+    for (u32 i = 0; i < trees; i++) {
+        u32 k = 0;
+        while (k < sizes[i] && rows[i][k] != order[number])
+            k++;
+        if (k == sizes[i])
+            continue;
+        double x = lengths[i][k];
+        if (!met++)
+            r.shortest = r.longest = x;
+        r.shortest = x < r.shortest ? x : r.shortest;
+        r.longest = r.longest < x ? x : r.longest;
+        r.sum += x;
+    }
+    return r;
+}
+
+static u64 bits_of(double x)
+{
+    u64 bits;
+    memcpy(&bits, &x, sizeof bits);
+    return bits;
+}
+
+/* An answer in a word: the bits of its doubles, or the refusal's number. */
+static u64 weight_word(double x) { return x == x ? bits_of(x) : 18; }
+
+static u64 lengths_word(struct summed r)
+{
+    return r.sum == r.sum ? 3 * bits_of(r.shortest) + 2 * bits_of(r.longest) + bits_of(r.sum) : 18;
 }
 
 /* ---- consensus */
@@ -402,10 +564,15 @@ static void both_trees(void)
 static void answers(u32 n)
 {
     u64 verdict_sum = 0, verdict_sums = 0, matrix_sum = 0, matrix_sums = 0;
+    u64 weight_sum = 0, weight_sums = 0, length_sum = 0, length_sums = 0;
     for (u32 i = 0; i < n; i++)
         verdict_sums += verdict_sum += verdicts[i];
     for (u64 i = 0; i < (u64)trees * trees; i++)
         matrix_sums += matrix_sum += matrix[i];
+    for (u32 i = 0; kept && i < trees; i++)
+        weight_sums += weight_sum += weight_word(weighted(0, i));
+    for (u32 k = 0; kept && k < splits; k++)
+        length_sums += length_sum += lengths_word(split_lengths(k));
     put_text("texts ");
     put_number(n);
     put_text("\ntrees ");
@@ -420,6 +587,13 @@ static void answers(u32 n)
     put_bytes(strict_text, strict_size);
     put_text("\nmajority ");
     put_bytes(majority_text, majority_size);
+    put_char('\n');
+    if (!kept)
+        return;
+    put_text("weighted ");
+    put_number(weight_sums);
+    put_text("\nlengths ");
+    put_number(length_sums);
     put_char('\n');
 }
 
@@ -442,11 +616,17 @@ static void text(void)
 static u32 fill(const u8 *p, const u8 *end)
 {
     open();
-    return batch(p, end);
+    u32 n = batch(p, end);
+    if (kept)
+        number_splits();
+    return n;
 }
 
-/* Makes a part, named by its first letter: opening; opening and a batch; all pairs of trees; or both consensus trees. */
-static void make_part(u8 part, const u8 *p, const u8 *end)
+static volatile u64 asked; /* written, so that the compiler leaves nothing out */
+
+/* Makes a part for the i-th time. It is named by its first letter: opening; opening and a batch; all pairs of trees; the weighted distance
+ * between the first tree and tree i; the lengths of split i; or both consensus trees. */
+static void make_part(u8 part, u32 i, const u8 *p, const u8 *end)
 {
     if (part == 'o')
         open();
@@ -454,6 +634,10 @@ static void make_part(u8 part, const u8 *p, const u8 *end)
         fill(p, end);
     else if (part == 'm')
         write_matrix();
+    else if (part == 'd')
+        asked = weight_word(weighted(0, i));
+    else if (part == 'l')
+        asked = lengths_word(split_lengths(i));
     else
         both_trees();
 }
@@ -464,7 +648,7 @@ static void time_part(u8 part, u64 n, const u8 *p, const u8 *end)
     fill(p, end);
     long from = clock();
     for (u64 i = 0; i < n; i++)
-        make_part(part, p, end);
+        make_part(part, (u32)i, p, end);
     put_number(n ? (u64)(clock() - from) * 1000 / n : 0);
     put_char('\n');
 }
@@ -529,21 +713,23 @@ int main(void)
     const u8 *p = memchr(input, '\n', (u64)(end - input));
     if (!p)
         return 1;
+    kept = input[0] == 'k';
+    const u8 *wanted = input + (kept ? 5 : 0);
     u64 times = 0;
-    for (const u8 *q = input; q < p; q++)
+    for (const u8 *q = wanted; q < p; q++)
         if ('0' <= *q && *q <= '9')
             times = times * 10 + *q - '0';
     set_kinds();
     p = take_names(p + 1, end);
     if (!p)
         return 1;
-    if (input[0] != 'a' && input[0] != 't') {
-        time_part(input[0], times, p, end);
+    if (*wanted != 'a' && *wanted != 't') {
+        time_part(*wanted, times, p, end);
     } else {
         u32 n = fill(p, end);
         write_matrix();
         both_trees();
-        if (input[0] == 'a')
+        if (*wanted == 'a')
             answers(n);
         else
             text();

@@ -1,6 +1,6 @@
 /* Writes a collection of 1,024 trees over 64 taxa, the same for the same kind and seed: a line of names, then a text a line.
  *
- *     collection equal|random|mixed|posterior|quoted SEED
+ *     collection equal|random|mixed|posterior|quoted|lengths SEED
  *
  * equal: one tree, its branches turned about in each text. random: each tree is a base tree after some exchanges of neighbouring
  * branches, as many as keep the collection's splits growing evenly to just below 4,096. mixed: the two in turn. Of these, two texts in
@@ -9,7 +9,9 @@
  * posterior: trees as a Bayesian analysis samples them. Each is a few exchanges away from the one before; an exchange that loses splits
  * of the base tree is mostly taken back, nearly always where they are firm, as every other one is. All texts have lengths.
  *
- * quoted: the same, and in every other text all names are in quotes, with blanks where the others have underscores. */
+ * quoted: the same, and in every other text all names are in quotes, with blanks where the others have underscores.
+ *
+ * lengths: the same as posterior, and every other length has an exponent; they have different numbers of digits. */
 #include "small.h"
 
 enum { TAXA = 64, TREES = 1024, SPLITS = 4096, NODES = 2 * TAXA - 1, ROOT = NODES - 1, MOST_MOVES = 200, SLOTS = 16384 };
@@ -147,11 +149,35 @@ static void put_name(const char *name)
 }
 
 static u64 least = 100; /* the smallest number that stands behind the point of a length */
+static int varied;      /* whether lengths are of different forms */
+
+/* A length such as 0.0123 or 1.5e-3. */
+static void put_varied(void)
+{
+    u64 part = 1;
+    for (u64 digits = draw(7); digits; digits--)
+        part *= 10;
+    if (draw(2)) {
+        put_text(":0.0");
+        put_number(100 * part + draw(900 * part));
+    } else {
+        put_char(':');
+        put_number(1 + draw(9));
+        put_char('.');
+        put_number(part + draw(9 * part));
+        put_text("e-");
+        put_number(1 + draw(4));
+    }
+}
 
 static void put_length(void)
 {
-    put_text(":0.");
-    put_number(least + draw(9 * least));
+    if (varied) {
+        put_varied();
+    } else {
+        put_text(":0.");
+        put_number(least + draw(9 * least));
+    }
 }
 
 /* The children of a node in any order, those of a joined child in its place. */
@@ -264,7 +290,8 @@ int main(int count, char **words)
     if (count != 3)
         return 1;
     char kind = words[1][0];
-    int sampled = kind == 'p' || kind == 'q';
+    int sampled = kind == 'p' || kind == 'q' || kind == 'l';
+    varied = kind == 'l';
     state = seed_of(words[2]);
     if (sampled) {
         least = 100000;

@@ -14,6 +14,7 @@ extern int memcmp(const void *a, const void *b, u64 bytes);
 extern void *memcpy(void *to, const void *from, u64 bytes);
 extern void *memset(void *to, int value, u64 bytes);
 extern void *memchr(const void *in, int value, u64 bytes);
+extern void qsort(void *list, u64 n, u64 bytes, int (*compare)(const void *, const void *));
 
 /* Output, collected and written in one go. */
 static char out_bytes[1 << 23];

@@ -53,11 +53,10 @@ impl Program {
             [b"peek", at, n] => self.peek(number(at)?, number(n)?),
             [b"room", b"-"] => Some(self.set_room(usize::MAX)),
             [b"room", k] => Some(self.set_room(number(k)? as usize)),
-            [b"size", numbers @ ..] => Some(size(&five(numbers)?)),
-            [b"open", a, b, c, d, e, names, first, second] => {
-                let numbers = five(&[a, b, c, d, e])?;
-                Some(self.open(numbers, &bytes(names)?, &list(first)?, &list(second)?))
-            }
+            [b"size", numbers @ .., b"lengths"] => Some(size(&five(numbers, true)?)),
+            [b"size", numbers @ ..] => Some(size(&five(numbers, false)?)),
+            [b"open", opening @ .., b"lengths"] => self.open_line(opening, true),
+            [b"open", opening @ ..] => self.open_line(opening, false),
             [b"agree", a, b] => Some(agreement(number(a)?, number(b)?)),
             [b"feed", lane, piece] => Some(self.feed(number(lane)?, &bytes(piece)?)),
             _ => self.question(words),
@@ -145,6 +144,13 @@ impl Program {
 
     // Calls on the collection
 
+    fn open_line(&mut self, words: &[&[u8]], lengths: bool) -> Option<Vec<u8>> {
+        let [numbers @ .., names, first, second] = words else {
+            return None;
+        };
+        Some(self.open(five(numbers, lengths)?, &bytes(names)?, &list(first)?, &list(second)?))
+    }
+
     fn open(&mut self, numbers: Numbers, names: &[u8], first: &[u64], second: &[u64]) -> Vec<u8> {
         match open(numbers, names, first, second, self.memory.size() as u64) {
             Err(refusal) => refused(refusal),
@@ -229,7 +235,8 @@ fn written(collection: &Collection, writes: Writes, accepted: bool) -> Vec<Range
     }
 }
 
-fn five(words: &[&[u8]]) -> Option<Numbers> {
+/// The opening's numbers, and whether the last word is there.
+fn five(words: &[&[u8]], lengths: bool) -> Option<Numbers> {
     let [taxa, lanes, trees, splits, places] = words else {
         return None;
     };
@@ -239,6 +246,7 @@ fn five(words: &[&[u8]]) -> Option<Numbers> {
         tree_room: number(trees)?,
         split_room: number(splits)?,
         places: number(places)?,
+        lengths,
     })
 }
 

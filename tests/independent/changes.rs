@@ -1,5 +1,6 @@
 //! Changes of a store's fields: such that leave it whole, mostly, and faults that break one rule of "Whole means".
 
+use crate::double::NO_LENGTH;
 use crate::labels::written_names;
 use crate::layout::{RUN_OVER, RUN_OVER_ODD};
 use crate::parts::Parts;
@@ -9,7 +10,7 @@ use crate::sets::{agree, is_proper, taxa_of};
 pub type Change = fn(&mut Random, &mut Parts);
 
 /// Another collection, with all that hangs on it.
-pub const CHANGES: [Change; 12] = [
+pub const CHANGES: [Change; 17] = [
     other_names,
     name_with_any_quoted_byte,
     name_of_apostrophes,
@@ -22,10 +23,15 @@ pub const CHANGES: [Change; 12] = [
     lane_run_over,
     lane_with_open_quotes,
     lane_with_text,
+    other_lengths,
+    lengths_by_chance,
+    length_absent,
+    lengths_kept_now,
+    lengths_kept_no_more,
 ];
 
 /// Nearly always no whole store, for one reason.
-pub const FAULTS: [Change; 28] = [
+pub const FAULTS: [Change; 32] = [
     name_repeated,
     name_empty,
     name_with_a_bad_byte,
@@ -54,6 +60,44 @@ pub const FAULTS: [Change; 28] = [
     lane_too_long,
     split_counted_and_not_listed,
     tree_past_the_room,
+    length_no_number,
+    length_infinite,
+    length_minus_zero,
+    kept_word_off,
+];
+
+/// Doubles that a store may hold: zero, the least, the largest, and such as are lost or show in sums.
+pub const STORED_LENGTHS: [u64; 16] = [
+    0,
+    1,
+    0x8000000000000001,
+    0x000fffffffffffff,
+    0x0010000000000000,
+    0x8010000000000000,
+    0x3fb999999999999a,
+    0xbfb999999999999a,
+    0x3ff0000000000000,
+    0xbff0000000000000,
+    0x4340000000000000,
+    0xc340000000000001,
+    0x7fe0000000000000,
+    0x7fefffffffffffff,
+    0xffefffffffffffff,
+    NO_LENGTH,
+];
+
+pub const INFINITE: [u64; 2] = [0x7ff0000000000000, 0xfff0000000000000];
+pub const MINUS_ZERO: u64 = 0x8000000000000000;
+/// What is no number, but for the bits that say that there is no length.
+pub const NO_NUMBERS: [u64; 8] = [
+    0x7ff0000000000001,
+    0xfff0000000000001,
+    0x7ff8000000000000,
+    0xfff8000000000000,
+    0x7fffffffffffffff,
+    0xfffffffffffffffe,
+    0xfff0ffffffffffff,
+    0xffff7fffffffffff,
 ];
 
 fn some_index(random: &mut Random, long: usize) -> Option<usize> {
@@ -97,6 +141,7 @@ fn other_constants(random: &mut Random, parts: &mut Parts) {
 
 fn trees_exchanged(_: &mut Random, parts: &mut Parts) {
     parts.lists.reverse();
+    parts.lengths.reverse();
 }
 
 fn tree_repeated(random: &mut Random, parts: &mut Parts) {
@@ -147,6 +192,75 @@ fn lane_with_text(_: &mut Random, parts: &mut Parts) {
 fn set_lane(random: &mut Random, parts: &mut Parts, long: u64, bytes: Vec<u8>) {
     let lane = random.below(parts.lanes.len());
     parts.lanes[lane] = (long, bytes);
+}
+
+// Lengths
+
+/// Keeps lengths from now on, with one of these for each split of each tree.
+fn keep_lengths(random: &mut Random, parts: &mut Parts, any_of: &[u64]) {
+    (parts.numbers.lengths, parts.kept) = (true, 1);
+    let some = |list: &Vec<u64>| list.iter().map(|_| *random.pick(any_of)).collect();
+    parts.lengths = parts.lists.iter().map(some).collect();
+}
+
+fn other_lengths(random: &mut Random, parts: &mut Parts) {
+    let some = [*random.pick(&STORED_LENGTHS), *random.pick(&STORED_LENGTHS[..15]), 0x4008000000000000];
+    keep_lengths(random, parts, &some);
+}
+
+/// Nearly always finite.
+fn lengths_by_chance(random: &mut Random, parts: &mut Parts) {
+    let some: Vec<u64> = (0..20).map(|_| random.next()).collect();
+    keep_lengths(random, parts, &some);
+}
+
+/// One of any kind in place of another, if lengths are kept.
+fn length_absent(random: &mut Random, parts: &mut Parts) {
+    set_length(random, parts, NO_LENGTH);
+}
+
+fn lengths_kept_now(random: &mut Random, parts: &mut Parts) {
+    keep_lengths(random, parts, &STORED_LENGTHS[..15]);
+}
+
+fn lengths_kept_no_more(_: &mut Random, parts: &mut Parts) {
+    (parts.numbers.lengths, parts.kept) = (false, 0);
+}
+
+fn set_length(random: &mut Random, parts: &mut Parts, length: u64) {
+    let with_splits: Vec<usize> = (0..parts.lengths.len()).filter(|tree| !parts.lengths[*tree].is_empty()).collect();
+    if let Some(at) = some_index(random, with_splits.len()) {
+        let lengths = &mut parts.lengths[with_splits[at]];
+        let at = random.below(lengths.len());
+        lengths[at] = length;
+    }
+}
+
+/// Lengths that are right, but for one.
+fn one_length(random: &mut Random, parts: &mut Parts, length: u64) {
+    if !parts.numbers.lengths {
+        keep_lengths(random, parts, &STORED_LENGTHS);
+    }
+    set_length(random, parts, length);
+}
+
+fn length_no_number(random: &mut Random, parts: &mut Parts) {
+    let length = *random.pick(&NO_NUMBERS);
+    one_length(random, parts, length);
+}
+
+fn length_infinite(random: &mut Random, parts: &mut Parts) {
+    let length = *random.pick(&INFINITE);
+    one_length(random, parts, length);
+}
+
+fn length_minus_zero(random: &mut Random, parts: &mut Parts) {
+    one_length(random, parts, MINUS_ZERO);
+}
+
+/// Neither kept nor not.
+fn kept_word_off(random: &mut Random, parts: &mut Parts) {
+    parts.kept = *random.pick(&[2, 3, 255, 256, 257, 512, 32768, 65535]);
 }
 
 // Faults of the opening's numbers and names

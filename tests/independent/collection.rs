@@ -1,18 +1,20 @@
-//! The collection: accepted trees as sets of masks, lanes, and every call on it.
+//! The collection: accepted trees as sets of masks with their lengths, lanes, and every call on it.
 
 use crate::consensus::{majority, strict, written, Counts};
+use crate::double::Double;
 use crate::hash::{identifier, place};
 use crate::labels::{first_outside, is_odd, split_outside};
 use crate::nexus::plain_texts;
 use crate::opening::Opening;
 use crate::text::is_blank;
-use crate::verdict::{judge, Masks, MOST_BYTES};
+use crate::verdict::{judge, judge_with_lengths, Lengths, Masks, Tree, MOST_BYTES};
+use crate::weights::{summed, weighted, Summed};
 use std::collections::BTreeMap;
 
 #[derive(PartialEq)]
 pub struct Collection {
     opening: Opening,
-    trees: Vec<Masks>,
+    trees: Vec<Tree>,
     /// The recorded splits in rising order of mask, each with the number of trees that have it.
     counts: Counts,
     lanes: Vec<Lane>,
@@ -71,7 +73,7 @@ impl Collection {
         Collection::holding(opening, Vec::new(), lanes)
     }
 
-    pub fn holding(opening: Opening, trees: Vec<Masks>, lanes: Vec<Lane>) -> Collection {
+    pub fn holding(opening: Opening, trees: Vec<Tree>, lanes: Vec<Lane>) -> Collection {
         let mut collection = Collection { opening, trees: Vec::new(), counts: Counts::new(), lanes };
         trees.into_iter().for_each(|tree| collection.record(tree));
         collection
@@ -159,28 +161,32 @@ impl Collection {
     }
 
     fn judge_text(&mut self, text: &[u8]) -> Verdict {
-        let splits = judge(&self.opening.names, text)?;
-        self.accept(splits)
+        let names = &self.opening.names;
+        let tree = match self.opening.numbers.lengths {
+            true => judge_with_lengths(names, text)?,
+            false => Tree { splits: judge(names, text)?, lengths: Lengths::new() },
+        };
+        self.accept(tree)
     }
 
     /// 11, then 12, before anything is recorded.
-    fn accept(&mut self, splits: Masks) -> Verdict {
+    fn accept(&mut self, tree: Tree) -> Verdict {
         if self.trees.len() as u64 == self.opening.numbers.tree_room {
             return Err(11);
         }
-        let new = splits.iter().filter(|mask| !self.counts.contains_key(mask)).count();
+        let new = tree.splits.iter().filter(|mask| !self.counts.contains_key(mask)).count();
         if (self.counts.len() + new) as u64 > self.opening.numbers.split_room {
             return Err(12);
         }
-        self.record(splits);
+        self.record(tree);
         Ok(self.trees.len() - 1)
     }
 
-    fn record(&mut self, splits: Masks) {
-        for mask in &splits {
+    fn record(&mut self, tree: Tree) {
+        for mask in &tree.splits {
             *self.counts.entry(*mask).or_insert(0) += 1;
         }
-        self.trees.push(splits);
+        self.trees.push(tree);
     }
 
     // Questions
@@ -189,7 +195,7 @@ impl Collection {
         &self.opening
     }
 
-    pub fn trees(&self) -> &[Masks] {
+    pub fn trees(&self) -> &[Tree] {
         &self.trees
     }
 
@@ -226,6 +232,22 @@ impl Collection {
 
     pub fn doubled(&self, i: u64, j: u64) -> Result<u64, u32> {
         Ok(self.one_sided(i, j)? + self.one_sided(j, i)?)
+    }
+
+    /// 13, then 18 where "a length needed is absent or none are kept".
+    pub fn weighted(&self, i: u64, j: u64) -> Result<Double, u32> {
+        let (of_i, of_j) = (self.tree_numbered(i)?, self.tree_numbered(j)?);
+        self.kept().and_then(|()| weighted(of_i, of_j)).ok_or(18)
+    }
+
+    /// The same of a split.
+    pub fn lengths(&self, number: u64) -> Result<Summed, u32> {
+        let (mask, _) = self.split(number)?;
+        self.kept().and_then(|()| summed(&self.trees, mask)).ok_or(18)
+    }
+
+    fn kept(&self) -> Option<()> {
+        self.opening.numbers.lengths.then_some(())
     }
 
     /// "t × t sixteen-bit entries, row by row."
@@ -281,6 +303,10 @@ impl Collection {
     }
 
     fn masks(&self, tree: u64) -> Result<&Masks, u32> {
+        self.tree_numbered(tree).map(|tree| &tree.splits)
+    }
+
+    fn tree_numbered(&self, tree: u64) -> Result<&Tree, u32> {
         usize::try_from(tree).ok().and_then(|at| self.trees.get(at)).ok_or(13)
     }
 }

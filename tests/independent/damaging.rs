@@ -1,7 +1,9 @@
 //! Damages to the bytes of stores that our program made: one or a few fields at a time, then mended and asked again.
 
+use crate::changes::{INFINITE, MINUS_ZERO, NO_NUMBERS, STORED_LENGTHS};
 use crate::layout::{
-    first_constant, head_number, name_bytes, name_length, second_constant, Field, HEAD_SPARE, MOST_LISTED, RUN_OVER,
+    first_constant, head_number, name_bytes, name_length, second_constant, Field, HEAD_SPARE, LENGTHS_KEPT,
+    MOST_LISTED, RUN_OVER,
 };
 use crate::maker::{every_call, joined, QUESTIONS};
 use crate::opening::Numbers;
@@ -87,7 +89,11 @@ impl Lent {
         match random.below(10) {
             0 => vec![self.any_byte(random)],
             1 | 2 => self.exchanged(random),
-            _ => vec![self.field_changed(random)],
+            3 | 4 if self.parts.numbers.lengths => vec![self.field_changed(random, LENGTH)],
+            _ => {
+                let kind = random.below(KINDS);
+                vec![self.field_changed(random, kind)]
+            }
         }
     }
 
@@ -103,14 +109,15 @@ impl Lent {
         vec![moved(a, b), moved(b, a)]
     }
 
-    fn field_changed(&self, random: &mut Random) -> Damage {
-        let kind = random.below(KINDS);
+    fn field_changed(&self, random: &mut Random, kind: usize) -> Damage {
         let (field, other) = (self.field(random, kind), self.field(random, kind));
         let old = field.get(&self.bytes);
         let bit = 1u64 << random.below(8 * field.width);
         let chosen = match kind {
             NAME_BYTE => *random.pick(&[31, 32, 39, 95, 126, 127]),
             LANE_LENGTH => *random.pick(&[RUN_OVER - 1, RUN_OVER, RUN_OVER, RUN_OVER + 1, RUN_OVER + 1, RUN_OVER + 2]),
+            KEPT => *random.pick(&[0, 1, 2, 256, 257]),
+            LENGTH => some_length(random),
             _ => 0,
         };
         let values = [
@@ -152,6 +159,8 @@ impl Lent {
             12 => numbers.count(row),
             13 => numbers.link(row),
             14 => numbers.numbered(row),
+            KEPT => head_number(LENGTHS_KEPT),
+            LENGTH => self.length(random, tree),
             _ => numbers.start(random.below(numbers.places as usize)),
         }
     }
@@ -171,15 +180,38 @@ impl Lent {
         }
     }
 
+    /// One of those that the lent bytes have, kept or not.
+    fn length(&self, random: &mut Random, tree: usize) -> Field {
+        let long = self.parts.lists.get(tree).map_or(0, Vec::len);
+        let field = self.parts.numbers.length(tree, some_of(random, long, MOST_LISTED as usize + 2));
+        if field.range().end <= self.bytes.len() {
+            field
+        } else {
+            Field { at: self.bytes.len() - 8, width: 8 }
+        }
+    }
+
     fn tree_row(&self, random: &mut Random, numbers: &Numbers, tree: usize) -> Field {
         let long = self.parts.lists.get(tree).map_or(0, Vec::len);
         numbers.tree_row(tree, some_of(random, long, MOST_LISTED as usize + 1))
     }
 }
 
-const KINDS: usize = 16;
+const KINDS: usize = 18;
 const NAME_BYTE: usize = 2;
 const LANE_LENGTH: usize = 6;
+const KEPT: usize = 15;
+const LENGTH: usize = 16;
+
+/// Such as a store may hold, and such as it may not.
+fn some_length(random: &mut Random) -> u64 {
+    match random.below(6) {
+        0 => *random.pick(&NO_NUMBERS),
+        1 => *random.pick(&INFINITE),
+        2 => MINUS_ZERO,
+        _ => *random.pick(&STORED_LENGTHS),
+    }
+}
 
 /// Mostly below the number used, else below the most.
 fn some_of(random: &mut Random, used: usize, most: usize) -> usize {

@@ -118,7 +118,7 @@ fn calls() -> Vec<Check> {
 
 /// Of two lanes the second holds `(A`.
 fn begun() -> Collection {
-    let numbers = Numbers { taxa: 4, lanes: 2, tree_room: 2, split_room: 1, places: 2 };
+    let numbers = Numbers { taxa: 4, lanes: 2, tree_room: 2, split_room: 1, places: 2, lengths: false };
     let Ok(opening) = open(numbers, b"A B C D", &[0; 4], &[0; 4], u64::MAX) else {
         panic!("the opening of the check is refused");
     };

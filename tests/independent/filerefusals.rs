@@ -8,7 +8,7 @@ use crate::refusals::faulty_texts;
 use crate::verdict::MOST_BYTES;
 use crate::words::hex;
 
-/// 15 and 16 before 4; 4 in a list one verdict too short; the verdicts 6 to 10, alone and together.
+/// 15 and 16 before 4; 4 in a list one verdict too short; the verdicts 6 to 10 and 17, alone and together.
 pub fn files(maker: &mut Maker) {
     let last = maker.numbers.lanes - 1;
     begin_lanes(maker);
@@ -75,7 +75,7 @@ fn nexus_of(maker: &mut Maker, texts: &[Vec<u8>]) {
     maker.peek();
 }
 
-/// 6 to 10 before 11, and 11 before 12.
+/// 6 to 10 and 17 before 11, and 11 before 12.
 pub fn files_at_full_rooms(maker: &mut Maker) {
     let mut texts = faulty_texts(maker);
     for _ in 0..4 {

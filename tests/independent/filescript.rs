@@ -33,9 +33,9 @@ pub fn nexus(seed: u64, count: usize) -> Vec<u8> {
 }
 
 /// Files over the names A to E, while a lane is in mid-text; all lent bytes are peeked after each so many.
-fn over_letters(random: Random, files: &[Vec<u8>], often: usize) -> Vec<u8> {
+fn over_letters(mut random: Random, files: &[Vec<u8>], often: usize) -> Vec<u8> {
     let names: Vec<Name> = (b'A'..=b'E').map(|letter| vec![letter]).collect();
-    let numbers = Numbers { taxa: 5, lanes: 2, tree_room: 20, split_room: 8, places: 5 };
+    let numbers = Numbers { taxa: 5, lanes: 2, tree_room: 20, split_room: 8, places: 5, lengths: random.one_in(2) };
     let mut maker = Maker::open(random, names, numbers, 1);
     maker.feed(1, b"((A,B),");
     maker.peek();
@@ -132,6 +132,7 @@ fn by_chance(mut random: Random, files: usize) -> Vec<u8> {
         tree_room: random.between(1, 20) as u64,
         split_room,
         places: random.between(1, 2 * split_room as usize) as u64,
+        lengths: random.one_in(2),
     };
     let mut maker = Maker::open(random, names, numbers, 2);
     fill_lanes(&mut maker);

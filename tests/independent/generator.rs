@@ -1,7 +1,7 @@
 //! Generated inputs: texts for `read` and sheets for `treesum`.
 
 use crate::damage::KINDS;
-use crate::grow::{names, shape, spelled, text, text_of, Name, Shape};
+use crate::grow::{any_dress, joined, names, shape, spelled, text, text_of, tokens, Dress, Name, Shape};
 use crate::labels::{is_odd, written_names};
 use crate::random::Random;
 use crate::words::{comma_list, hex};
@@ -99,10 +99,12 @@ pub fn some_shapes(random: &mut Random, names: &[Name]) -> Vec<Shape> {
     (0..random.between(1, 5)).map(|_| shape(random, names, most_children)).collect()
 }
 
-/// Mostly one of the pool's trees, else a new one or a faulty text. Quotes that are left open are mostly closed at its
-/// end, as they would hide the texts behind it.
+/// A text over the names, mostly one of the pool's trees.
+pub type Texts = fn(&mut Random, &[Name], &[Shape]) -> Vec<u8>;
+
+/// Else a new one or a faulty text.
 pub fn one_text(random: &mut Random, names: &[Name], pool: &[Shape]) -> Vec<u8> {
-    let mut text = match random.below(8) {
+    let text = match random.below(8) {
         0 => text(random, names),
         1 => random.pick(&KINDS)(random, names),
         _ => {
@@ -110,6 +112,31 @@ pub fn one_text(random: &mut Random, names: &[Name], pool: &[Shape]) -> Vec<u8> 
             text_of(random, shape)
         }
     };
+    closed(random, text)
+}
+
+/// With a length for every node, mostly in the exact range; else a faulty text.
+pub fn measured_text(random: &mut Random, names: &[Name], pool: &[Shape]) -> Vec<u8> {
+    let text = match random.below(12) {
+        0 => random.pick(&KINDS)(random, names),
+        _ => {
+            let outside = *random.pick(&[usize::MAX, usize::MAX, usize::MAX, usize::MAX, usize::MAX, 30]);
+            let dress = Dress { lengths: 1, outside, ..any_dress(random) };
+            let shape = random.pick(pool);
+            let tokens = tokens(random, shape, dress);
+            joined(random, &tokens, dress)
+        }
+    };
+    closed(random, text)
+}
+
+/// Either of them, for all texts of a script.
+pub fn some_texts(random: &mut Random) -> Texts {
+    *random.pick(&[one_text as Texts, measured_text])
+}
+
+/// Quotes that are left open are mostly closed at the end of a text, as they would hide the texts behind it.
+fn closed(random: &mut Random, mut text: Vec<u8>) -> Vec<u8> {
     if is_odd(&text) && !random.one_in(5) {
         text.push(b'\'');
     }

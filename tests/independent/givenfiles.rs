@@ -21,9 +21,9 @@ pub fn texts_of(file: &[u8]) -> Vec<String> {
     }
 }
 
-/// The file while a lane is in mid-text, all lent bytes before and after it, and every question.
+/// The file while a lane is in mid-text, all lent bytes before and after it, and every question; no lengths are kept.
 pub fn calls_of(names: &str, file: &[u8]) -> Vec<u8> {
-    let mut maker = opened(Random::new(1), names);
+    let mut maker = opened(Random::new(1), names, false);
     maker.nexus(file);
     maker.peek();
     maker.questions();
@@ -31,7 +31,7 @@ pub fn calls_of(names: &str, file: &[u8]) -> Vec<u8> {
     maker.script()
 }
 
-/// The file cut at each byte, and so many damages to it.
+/// The file cut at each byte, and so many damages to it; lengths are kept or not.
 pub fn damages_of(seed: u64, count: usize, names: &str, file: &[u8]) -> Vec<u8> {
     let mut random = Random::new(seed);
     let damaged = |_| {
@@ -43,7 +43,8 @@ pub fn damages_of(seed: u64, count: usize, names: &str, file: &[u8]) -> Vec<u8> 
     let files: Vec<Vec<u8>> = (0..count).map(damaged).chain(cuts).collect();
     let mut out = Vec::new();
     for some in files.chunks(MOST_DAMAGED) {
-        let mut maker = opened(Random::new(random.next()), names);
+        let lengths = random.one_in(2);
+        let mut maker = opened(Random::new(random.next()), names, lengths);
         some.iter().for_each(|file| maker.nexus(file));
         maker.peek();
         maker.questions();
@@ -52,10 +53,10 @@ pub fn damages_of(seed: u64, count: usize, names: &str, file: &[u8]) -> Vec<u8> 
     out
 }
 
-fn opened(random: Random, names: &str) -> Maker {
+fn opened(random: Random, names: &str, lengths: bool) -> Maker {
     let taxa = split_outside(names.as_bytes(), b' ').len() as u64;
     let names = names_of(names.as_bytes(), taxa).expect("a list of names");
-    let numbers = Numbers { taxa, lanes: 2, tree_room: 40, split_room: 60, places: 11 };
+    let numbers = Numbers { taxa, lanes: 2, tree_room: 40, split_room: 60, places: 11, lengths };
     let mut maker = Maker::open(random, names, numbers, 1);
     maker.feed(1, b"('");
     maker.peek();

@@ -1,5 +1,6 @@
 //! Random name lists and random trees, and their texts as tokens.
 
+use crate::branches::any_length;
 use crate::labels::{quoted, unquoted, MARKS};
 use crate::random::Random;
 use crate::text::is_label_byte;
@@ -15,33 +16,20 @@ pub enum Shape {
 }
 
 /// How a text is dressed: one in so many nodes has a length, an inner label, blanks beside it, or quotes that it could
-/// do without.
+/// do without; and one in so many lengths is outside the exact range.
 #[derive(Clone, Copy)]
 pub struct Dress {
     pub lengths: usize,
     pub labels: usize,
     pub blanks: usize,
     pub quotes: usize,
+    pub outside: usize,
 }
 
 /// Nothing but what must be there.
-pub const BARE: Dress = Dress { lengths: usize::MAX, labels: usize::MAX, blanks: usize::MAX, quotes: usize::MAX };
+pub const BARE: Dress =
+    Dress { lengths: usize::MAX, labels: usize::MAX, blanks: usize::MAX, quotes: usize::MAX, outside: usize::MAX };
 
-const LENGTHS: [&str; 13] = [
-    "0",
-    "5.",
-    ".5",
-    "+.5e-3",
-    "00",
-    "1E5",
-    "-1",
-    "1e+10",
-    "1e-10",
-    "3.14159",
-    "+0.0E-0",
-    "1e99999",
-    "99999999999999999999999999",
-];
 const LABELS: [&str; 12] = [
     "x",
     "100",
@@ -186,8 +174,10 @@ pub fn ladder(random: &mut Random, names: &[Name], brackets: usize) -> Shape {
 
 pub fn any_dress(random: &mut Random) -> Dress {
     let often = [1, 2, 5, 1000];
-    let [lengths, labels, blanks, quotes] = [(); 4].map(|()| *random.pick(&often));
-    Dress { lengths, labels, blanks, quotes }
+    let [labels, blanks, quotes] = [(); 3].map(|()| *random.pick(&often));
+    let lengths = *random.pick(&[1, 1, 1, 2, 5, 1000]);
+    let outside = *random.pick(&[usize::MAX, usize::MAX, usize::MAX, usize::MAX, 20]);
+    Dress { lengths, labels, blanks, quotes, outside }
 }
 
 pub fn tokens(random: &mut Random, shape: &Shape, dress: Dress) -> Tokens {
@@ -197,7 +187,7 @@ pub fn tokens(random: &mut Random, shape: &Shape, dress: Dress) -> Tokens {
     };
     if random.one_in(dress.lengths) {
         out.push(b":".to_vec());
-        out.push(random.pick(&LENGTHS).as_bytes().to_vec());
+        out.push(any_length(random, dress.outside));
     }
     out
 }

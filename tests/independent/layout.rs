@@ -6,6 +6,7 @@ use std::ops::Range;
 /// The numbers of the head, by their order there.
 pub const TREES_HELD: usize = 5;
 pub const SPLITS_HELD: usize = 6;
+pub const LENGTHS_KEPT: usize = 7;
 /// The most splits of a tree's list.
 pub const MOST_LISTED: u64 = 62;
 /// The most bytes of a name.
@@ -21,6 +22,7 @@ pub const HEAD_SPARE: Range<usize> = 2768..4096;
 const HEAD: usize = 4096;
 const LANE: usize = 8 + LANE_BYTES;
 const TREE: usize = 128;
+const LENGTHS: usize = 512;
 
 /// A number of 1, 2, 4 or 8 bytes, lowest first.
 #[derive(Clone, Copy)]
@@ -126,6 +128,11 @@ impl Numbers {
 
     pub fn start(&self, place: usize) -> Field {
         Field { at: self.splits(24) + 2 * place, width: 2 }
+    }
+
+    /// Behind the places, where lengths are kept: that of the tree's k-th split.
+    pub fn length(&self, tree: usize, k: usize) -> Field {
+        Field { at: self.start(self.places as usize).at + LENGTHS * tree + 8 * k, width: 8 }
     }
 
     /// Behind the trees, and so many bytes for each split of room further on.

@@ -7,6 +7,8 @@ use crate::filelimits::{
 use crate::generator::name_list;
 use crate::grow::{ladder, names, plain_names, shape, text_of, tokens, Name, BARE};
 use crate::labels::{quoted, written_names};
+use crate::lengthsamples::ADDENDS;
+use crate::lengthscript::with_lengths;
 use crate::maker::{joined, open_line, Maker};
 use crate::opening::Numbers;
 use crate::random::Random;
@@ -32,10 +34,11 @@ pub fn limits(seed: u64, count: usize) -> Vec<u8> {
     out
 }
 
-/// The largest collections: tree room 1,024 and split room 4,096 filled to the last, so many times.
+/// The largest collections: tree room 1,024, split room 4,096, and tree room with all lengths filled to the last; so
+/// many of them.
 pub fn largest(seed: u64, count: usize) -> Vec<u8> {
     let mut random = Random::new(seed);
-    let parts = [largest_tree_room, largest_split_room];
+    let parts = [largest_tree_room, largest_split_room, most_lengths];
     (0..count).flat_map(|i| parts[i % parts.len()](Random::new(random.next()))).collect()
 }
 
@@ -51,9 +54,9 @@ pub fn opened_plain(mut random: Random, n: usize, lanes: u64, tree_room: u64, sp
 }
 
 fn opened_over(mut random: Random, names: Vec<Name>, lanes: u64, tree_room: u64, split_room: u64) -> Maker {
-    let n = names.len();
     let places = random.between(1, 2 * split_room as usize) as u64;
-    Maker::open(random, names, Numbers { taxa: n as u64, lanes, tree_room, split_room, places }, 3)
+    let (taxa, lengths) = (names.len() as u64, random.one_in(2));
+    Maker::open(random, names, Numbers { taxa, lanes, tree_room, split_room, places, lengths }, 3)
 }
 
 // Texts
@@ -188,7 +191,8 @@ fn taxa(random: &mut Random) -> Vec<u8> {
     for n in [3, 4, 64, 65] {
         let names = names(random, n);
         let zeros = vec![0; n];
-        let numbers = Numbers { taxa: n as u64, lanes: 1, tree_room: 2, split_room: 200, places: 1 };
+        let numbers =
+            Numbers { taxa: n as u64, lanes: 1, tree_room: 2, split_room: 200, places: 1, lengths: random.one_in(2) };
         lines.push(open_line(&numbers, &name_list(&names), &zeros, &zeros));
         let text = bare_text(random, &names, 2);
         lines.push(format!("feed 0 {}3b", hex(&text)));
@@ -222,7 +226,8 @@ fn small_split_rooms(mut random: Random) -> Vec<u8> {
     maker.script()
 }
 
-/// Trees until the split room is full to the last; one split past it; and a tree without new splits.
+/// Trees until the split room is full to the last; one split past it, with a length outside the exact range too; and a
+/// tree without new splits.
 fn fill_split_room(maker: &mut Maker) {
     let room = maker.numbers.split_room as usize;
     while maker.held.counts().len() < room {
@@ -234,6 +239,7 @@ fn fill_split_room(maker: &mut Maker) {
         let splits = some_new_splits(maker, new);
         let text = written(&maker.names, &splits);
         maker.feed(0, &text);
+        maker.feed(0, &[&text[..text.len() - 1], b":1e23;"].concat());
         maker.ask("count");
     }
     let known = some_new_splits(maker, 0);
@@ -299,6 +305,27 @@ fn largest_tree_room(random: Random) -> Vec<u8> {
     {
         maker.ask(line);
     }
+    maker.script()
+}
+
+/// 1,024 trees of 64 taxa with a length for every node, in the largest store.
+fn most_lengths(mut random: Random) -> Vec<u8> {
+    let names = plain_names(&mut random, 64);
+    let numbers = Numbers { taxa: 64, lanes: 8, tree_room: 1024, split_room: 4096, places: 8192, lengths: true };
+    let mut maker = Maker::open(random, names, numbers, 3);
+    let pool: Vec<Masks> = (0..12).map(|_| some_new_splits(&mut maker, 61)).collect();
+    while maker.held.number_of_trees() < 1024 {
+        let splits = thinned(&mut maker, &pool);
+        let text = written(&maker.names, &splits);
+        let text = with_lengths(&mut maker.random, &text, &ADDENDS);
+        maker.batch(3, &text);
+    }
+    for pair in ["0 1023", "1023 511", "1022 1023", "7 7", "1024 0"] {
+        maker.ask(format!("weighted {pair}"));
+    }
+    let splits = maker.held.counts().len();
+    (0..=splits).step_by(splits / 20 + 1).for_each(|split| maker.ask(format!("lengths {split}")));
+    maker.peek();
     maker.script()
 }
 

@@ -1,6 +1,8 @@
 //! An independent calculation of every answer, to compare the proved programs with. It is written from document 01,
-//! entries 2026-01 and 2026-02 of document 02 and the settled points, and shares nothing with the code that it is compared with.
+//! entries 2026-01 to 2026-03 of document 02 and the settled points, and shares nothing with the code that it is compared with.
 
+mod big;
+mod branches;
 mod calls;
 mod changes;
 mod check;
@@ -9,6 +11,7 @@ mod compare;
 mod consensus;
 mod damage;
 mod damaging;
+mod double;
 mod edges;
 mod filecheck;
 mod filelimits;
@@ -22,6 +25,10 @@ mod grow;
 mod hash;
 mod labels;
 mod layout;
+mod length;
+mod lengthcheck;
+mod lengthsamples;
+mod lengthscript;
 mod limits;
 mod maker;
 mod memory;
@@ -45,6 +52,7 @@ mod stores;
 mod summary;
 mod text;
 mod verdict;
+mod weights;
 mod whole;
 mod words;
 
@@ -85,6 +93,7 @@ fn maker(word: &str) -> Option<Make> {
         "made" => stores::made,
         "nexus" => filescript::nexus,
         "quotes" => quotes::quotes,
+        "lengths" => lengthscript::lengths,
         "limits" => limits::limits,
         "largest" => limits::largest,
         "oddities" => oddities::oddities,
@@ -137,7 +146,7 @@ fn usage() {
     eprintln!("nexus-texts | nexus-calls NAMES FILE | nexus-damages SEED COUNT NAMES FILE");
     eprintln!("GENERATOR SEED COUNT | damaged SEED COUNT SCRIPT ANSWERS, a generator being");
     eprintln!("texts | sheet | calls | mixed | whole | batched | filed | zeros | refusals | stores | made | nexus");
-    eprintln!("quotes | limits | largest | oddities");
+    eprintln!("quotes | lengths | limits | largest | oddities");
     std::process::exit(2);
 }
 

@@ -40,7 +40,7 @@ impl Maker {
             panic!("the opening of a script is refused");
         };
         let line = open_line(&numbers, &list, first, second);
-        let lines = vec![format!("size {}", five_words(&numbers)), format!("lend {lent}"), line];
+        let lines = vec![size_line(&numbers), format!("lend {lent}"), line];
         Maker { random, names, numbers, held: Collection::new(opening), lent, lines }
     }
 
@@ -84,7 +84,7 @@ impl Maker {
         let _ = self.held.close(lane);
     }
 
-    /// Every question, with every tree, behind a lifted limit.
+    /// Every question, with every tree and with splits from the first to one past the last, behind a lifted limit.
     pub fn questions(&mut self) {
         for line in ["room -", "trees", "count", "splits", "matrix", "strict", "majority", "both", "collisions"] {
             self.ask(line);
@@ -92,9 +92,16 @@ impl Maker {
         for tree in 0..=self.held.number_of_trees() {
             self.ask(format!("tree {tree}"));
             self.ask(format!("write {tree}"));
+            self.ask(format!("weighted {} {tree}", tree / 2));
+        }
+        let splits = self.held.counts().len();
+        for split in (0..=splits).step_by(splits / MOST_SPLITS_ASKED + 1) {
+            self.ask(format!("lengths {split}"));
         }
     }
 }
+
+const MOST_SPLITS_ASKED: usize = 40;
 
 /// Each kind of call on a collection once, with this text and its semicolon fed.
 pub fn every_call(piece: &[u8]) -> Vec<String> {
@@ -104,7 +111,7 @@ pub fn every_call(piece: &[u8]) -> Vec<String> {
     calls
 }
 
-pub const QUESTIONS: [&str; 13] = [
+pub const QUESTIONS: [&str; 18] = [
     "trees",
     "count",
     "splits",
@@ -112,6 +119,11 @@ pub const QUESTIONS: [&str; 13] = [
     "tree 0",
     "one 0 1",
     "two 1 0",
+    "weighted 0 1",
+    "weighted 1 1",
+    "weighted 2 0",
+    "lengths 0",
+    "lengths 1",
     "matrix",
     "strict",
     "majority",
@@ -120,8 +132,21 @@ pub const QUESTIONS: [&str; 13] = [
     "collisions",
 ];
 
+pub fn size_line(numbers: &Numbers) -> String {
+    format!("size {}{}", five_words(numbers), last_word(numbers))
+}
+
 pub fn open_line(numbers: &Numbers, names: &[u8], first: &[u64], second: &[u64]) -> String {
-    format!("open {} {} {} {}", five_words(numbers), hex(names), list_word(first), list_word(second))
+    let (first, second) = (list_word(first), list_word(second));
+    format!("open {} {} {first} {second}{}", five_words(numbers), hex(names), last_word(numbers))
+}
+
+fn last_word(numbers: &Numbers) -> &str {
+    if numbers.lengths {
+        " lengths"
+    } else {
+        ""
+    }
 }
 
 fn list_word(numbers: &[u64]) -> String {
@@ -132,8 +157,8 @@ fn list_word(numbers: &[u64]) -> String {
     }
 }
 
-pub fn five_words(numbers: &Numbers) -> String {
-    let Numbers { taxa, lanes, tree_room, split_room, places } = numbers;
+fn five_words(numbers: &Numbers) -> String {
+    let Numbers { taxa, lanes, tree_room, split_room, places, .. } = numbers;
     format!("{taxa} {lanes} {tree_room} {split_room} {places}")
 }
 

@@ -2,8 +2,8 @@
 //! batches; in NEXUS files; and cut and mixed again with one place and all constants 0.
 
 use crate::files::{can_stand, file_of};
-use crate::generator::{first_constants, one_text, second_constants, some_names, some_places, some_shapes};
-use crate::grow::{Name, Shape};
+use crate::generator::{first_constants, second_constants, some_names, some_places, some_shapes, some_texts};
+use crate::grow::Name;
 use crate::labels::{first_outside, is_odd};
 use crate::maker::Maker;
 use crate::opening::Numbers;
@@ -55,10 +55,12 @@ impl Plan {
         let split_room = *random.pick(&[n, 3 * n, 10 * n, 1000]);
         let places = some_places(&mut random, split_room);
         let tree_room = *random.pick(&[8, 200, 1024, 1024]);
-        let numbers = Numbers { taxa: n as u64, lanes: LANES as u64, tree_room, split_room: split_room as u64, places };
+        let (taxa, lanes, lengths) = (n as u64, LANES as u64, random.one_in(2));
+        let numbers = Numbers { taxa, lanes, tree_room, split_room: split_room as u64, places, lengths };
         let first = first_constants(&mut random, n, places);
         let second = second_constants(&mut random, n);
-        let steps = some_steps(&mut random, count, &names, &pool);
+        let texts = some_texts(&mut random);
+        let steps = some_steps(&mut random, count, |random| texts(random, &names, &pool));
         Plan { names, numbers, first, second, steps }
     }
 
@@ -74,7 +76,8 @@ impl Plan {
     }
 }
 
-fn some_steps(random: &mut Random, count: usize, names: &[Name], pool: &[Shape]) -> Vec<Step> {
+/// So many steps, with such texts.
+fn some_steps(random: &mut Random, count: usize, text: impl Fn(&mut Random) -> Vec<u8>) -> Vec<Step> {
     let mut waiting = vec![Waiting::default(); LANES];
     let mut steps = Vec::new();
     while steps.len() < count {
@@ -83,7 +86,7 @@ fn some_steps(random: &mut Random, count: usize, names: &[Name], pool: &[Shape])
             0..=2 => waiting[lane].close(lane),
             3..=14 => Step::Ask(some_question(random)),
             15 if random.one_in(4) => Step::Peek,
-            _ => Step::Piece(lane, waiting[lane].some_piece(random, names, pool)),
+            _ => Step::Piece(lane, waiting[lane].some_piece(random, &text)),
         });
     }
     steps
@@ -107,6 +110,9 @@ fn some_question(random: &mut Random) -> String {
         format!("tree {a}"),
         format!("one {a} {b}"),
         format!("two {a} {b}"),
+        format!("weighted {a} {b}"),
+        format!("weighted {b} {b}"),
+        format!("lengths {a}"),
         "strict".to_string(),
         "majority".to_string(),
         "both".to_string(),
@@ -118,9 +124,9 @@ fn some_question(random: &mut Random) -> String {
 
 impl Waiting {
     /// The next bytes; they are waited for no more up to the semicolon that ends the text.
-    fn some_piece(&mut self, random: &mut Random, names: &[Name], pool: &[Shape]) -> Vec<u8> {
+    fn some_piece(&mut self, random: &mut Random, text: impl Fn(&mut Random) -> Vec<u8>) -> Vec<u8> {
         if self.bytes.len() < 2 || random.one_in(10) {
-            self.bytes.extend(one_text(random, names, pool));
+            self.bytes.extend(text(random));
             self.bytes.push(b';');
         }
         let most = self.bytes.len();

@@ -5,8 +5,10 @@ use crate::random::Random;
 use crate::words::hex;
 
 /// A line of every call that is one once something is opened.
-const GOOD: [&str; 25] = [
+const GOOD: [&str; 29] = [
     "size 4 1 1 1 1",
+    "size 4 1 1 1 1 lengths",
+    "open 4 1 1 1 1 41204220432044 0,0,0,0 0,0,0,0 lengths",
     "open 4 1 1 1 1 41204220432044 0,0,0,0 0,0,0,0",
     "feed 0 28",
     "feed 0 -",
@@ -21,6 +23,8 @@ const GOOD: [&str; 25] = [
     "tree 0",
     "one 0 0",
     "two 0 0",
+    "weighted 0 0",
+    "lengths 0",
     "matrix",
     "strict",
     "majority",
@@ -33,7 +37,7 @@ const GOOD: [&str; 25] = [
     "poke 8866 00",
 ];
 
-const OTHERS: [&str; 46] = [
+const OTHERS: [&str; 56] = [
     "",
     " ",
     "  ",
@@ -75,6 +79,16 @@ const OTHERS: [&str; 46] = [
     "open 4 1 1 1 1 - 0,0,0,0 0,0,0,18446744073709551615",
     "open 4 1 1 1 1 4120422043204 0,0,0,0 0,0,0,0",
     "open 4 1 1 1 1 41204220432044 0,0,0,0 0,0,0,0",
+    "size lengths",
+    "size 4 1 1 1 lengths",
+    "size 4 1 1 1 lengths 1",
+    "size 4 1 1 1 1 lengths lengths",
+    "open lengths",
+    "open 4 1 1 1 1 41204220432044 0,0,0,0 lengths",
+    "open 4 1 1 1 1 lengths 41204220432044 0,0,0,0 0,0,0,0",
+    "weighted 18446744073709551615 18446744073709551616",
+    "lengths 18446744073709551615",
+    "lengths 18446744073709551616",
     "feed 0 --",
     "nexus",
     "nexus - -",
@@ -109,7 +123,7 @@ fn before_lending() -> Vec<String> {
 
 fn opened() -> Vec<String> {
     let open = "open 4 1 1 1 1 41204220432044 0,0,0,0 0,0,0,0";
-    ["lend 8867", "room -", open, "trees"].map(str::to_string).to_vec()
+    ["lend 9379", "room -", open, "trees"].map(str::to_string).to_vec()
 }
 
 /// The line as it is, and changed in each way that makes it no call, or nearly.

@@ -10,6 +10,8 @@ pub struct Numbers {
     pub tree_room: u64,
     pub split_room: u64,
     pub places: u64,
+    /// "Opening says whether lengths are kept."
+    pub lengths: bool,
 }
 
 #[derive(PartialEq)]
@@ -36,7 +38,8 @@ impl Numbers {
         if !self.in_range() {
             return Err(2);
         }
-        Ok(4096 + 4616 * self.lanes + 128 * self.tree_room + 24 * self.split_room + 2 * self.places)
+        let tree = if self.lengths { 128 + 512 } else { 128 };
+        Ok(4096 + 4616 * self.lanes + tree * self.tree_room + 24 * self.split_room + 2 * self.places)
     }
 }
 

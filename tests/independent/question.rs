@@ -1,6 +1,8 @@
 //! The calls on a collection from their words, and the lines that answer them.
 
 use crate::collection::{Batch, Collection, Fed, Verdict};
+use crate::double::Double;
+use crate::weights::Summed;
 use crate::words::{bytes, number};
 
 pub enum Question {
@@ -14,6 +16,8 @@ pub enum Question {
     Tree(u64),
     One(u64, u64),
     Two(u64, u64),
+    Weighted(u64, u64),
+    Lengths(u64),
     Matrix,
     Strict,
     Majority,
@@ -35,6 +39,8 @@ impl Question {
             [b"tree", t] => Question::Tree(number(t)?),
             [b"one", a, b] => Question::One(number(a)?, number(b)?),
             [b"two", a, b] => Question::Two(number(a)?, number(b)?),
+            [b"weighted", a, b] => Question::Weighted(number(a)?, number(b)?),
+            [b"lengths", s] => Question::Lengths(number(s)?),
             [b"matrix"] => Question::Matrix,
             [b"strict"] => Question::Strict,
             [b"majority"] => Question::Majority,
@@ -58,6 +64,8 @@ impl Question {
             Question::Tree(t) => listed("tree", &collection.tree(*t, room)?),
             Question::One(a, b) => number_line(collection.one_sided(*a, *b)?),
             Question::Two(a, b) => number_line(collection.doubled(*a, *b)?),
+            Question::Weighted(a, b) => double_line(collection.weighted(*a, *b)?),
+            Question::Lengths(s) => lengths_line(&collection.lengths(*s)?),
             Question::Matrix => matrix_line(collection.number_of_trees(), &collection.matrix(room)?),
             Question::Strict => text_line(&collection.strict_text(room)?),
             Question::Majority => text_line(&collection.majority_text(room)?),
@@ -109,6 +117,14 @@ fn number_line(n: u64) -> Vec<u8> {
 
 fn split_line((mask, count): (u64, u64)) -> Vec<u8> {
     format!("split {mask} {count}").into_bytes()
+}
+
+fn double_line(value: Double) -> Vec<u8> {
+    format!("double {}", value.word()).into_bytes()
+}
+
+fn lengths_line(summed: &Summed) -> Vec<u8> {
+    listed("lengths", &[summed.shortest, summed.longest, summed.sum].map(Double::word))
 }
 
 fn splits_line(splits: &[(u64, u64)]) -> Vec<u8> {

@@ -62,7 +62,7 @@ fn verdicts() -> Vec<Check> {
 }
 
 fn opened() -> Collection {
-    let numbers = Numbers { taxa: 4, lanes: 1, tree_room: 1, split_room: 1, places: 1 };
+    let numbers = Numbers { taxa: 4, lanes: 1, tree_room: 1, split_room: 1, places: 1, lengths: false };
     let Ok(opening) = open(numbers, b"A B C D", &[0; 4], &[0; 4], u64::MAX) else {
         panic!("the opening of the check is refused");
     };

@@ -24,8 +24,9 @@ pub fn quotes(seed: u64, count: usize) -> Vec<u8> {
     out
 }
 
-fn opened(random: Random, names: Vec<Name>, tree_room: u64) -> Maker {
-    let numbers = Numbers { taxa: names.len() as u64, lanes: 3, tree_room, split_room: 60, places: 7 };
+fn opened(mut random: Random, names: Vec<Name>, tree_room: u64) -> Maker {
+    let (taxa, lengths) = (names.len() as u64, random.one_in(2));
+    let numbers = Numbers { taxa, lanes: 3, tree_room, split_room: 60, places: 7, lengths };
     Maker::open(random, names, numbers, 3)
 }
 
@@ -38,7 +39,7 @@ fn opened_over_marks(random: Random, tree_room: u64) -> Maker {
 
 /// Lists of four names, good ones and bad ones; where one is good, its star is fed and written.
 fn lists(random: &mut Random) -> Vec<u8> {
-    let numbers = Numbers { taxa: 4, lanes: 1, tree_room: 2, split_room: 1, places: 1 };
+    let numbers = Numbers { taxa: 4, lanes: 1, tree_room: 2, split_room: 1, places: 1, lengths: random.one_in(2) };
     let size = numbers.size().expect("numbers in range");
     let mut lines = vec![format!("lend {}", size + 2), format!("peek 0 {size}")];
     for (list, labels) in LISTS {

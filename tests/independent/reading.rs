@@ -28,7 +28,7 @@ pub fn read(input: &[u8]) -> Vec<String> {
 /// The names are counted as the constants are; the rooms are the largest.
 fn opened(names: &[u8], first: &[u64], places: u64, second: &[u64]) -> Result<Opening, u32> {
     let taxa = first.len() as u64;
-    let numbers = Numbers { taxa, lanes: 1, tree_room: 1024, split_room: 4096, places };
+    let numbers = Numbers { taxa, lanes: 1, tree_room: 1024, split_room: 4096, places, lengths: false };
     open(numbers, names, first, second, u64::MAX)
 }
 

@@ -5,7 +5,10 @@ use crate::filerefusals::{files, files_at_full_rooms, refused_files};
 use crate::generator::{first_constants, name_list, second_constants};
 use crate::grow::{names, shape, text_of, Name};
 use crate::labels::{quoted, written_name, written_names};
-use crate::maker::{every_call, five_words, open_line, Maker};
+use crate::lengthsamples::ADDENDS;
+use crate::lengthscript::with_lengths;
+use crate::limits::bare_text;
+use crate::maker::{every_call, open_line, size_line, Maker};
 use crate::opening::Numbers;
 use crate::random::Random;
 use crate::verdict::MOST_BYTES;
@@ -17,16 +20,16 @@ const FAR: [u64; 5] = [1025, 4097, 1 << 32, (1 << 32) + 1, u64::MAX];
 /// A script of so many rounds, each over names and numbers of its own.
 pub fn refusals(seed: u64, count: usize) -> Vec<u8> {
     let mut random = Random::new(seed);
-    (0..count).flat_map(|_| round(Random::new(random.next()))).collect()
+    (0..count).flat_map(|i| round(Random::new(random.next()), i % 2 == 0)).collect()
 }
 
-fn round(mut random: Random) -> Vec<u8> {
+fn round(mut random: Random, lengths: bool) -> Vec<u8> {
     let n = *random.pick(&[5, 6, 9, 64]);
     let names = names(&mut random, n);
     let lanes = random.between(1, 8) as u64;
     let (tree_room, split_room) = (random.between(3, 6) as u64, 3 * n as u64);
     let places = random.between(1, 2 * split_room as usize) as u64;
-    let numbers = Numbers { taxa: n as u64, lanes, tree_room, split_room, places };
+    let numbers = Numbers { taxa: n as u64, lanes, tree_room, split_room, places, lengths };
     let mut maker = Maker::open(random, names, numbers, 9);
     no_trees(&mut maker);
     lanes_and_texts(&mut maker);
@@ -66,16 +69,17 @@ fn no_trees(maker: &mut Maker) {
     maker.peek();
     for room in ["room 0", "room -"] {
         maker.ask(room);
-        for line in
-            ["strict", "majority", "both", "tree 0", "write 0", "split 0", "one 0 0", "two 0 0", "matrix", "splits"]
-        {
+        for line in ["strict", "majority", "both", "tree 0", "write 0", "split 0", "one 0 0", "two 0 0"] {
+            maker.watched(line);
+        }
+        for line in ["weighted 0 0", "lengths 0", "matrix", "splits"] {
             maker.watched(line);
         }
         maker.watched("batch 0 -");
     }
 }
 
-/// 5 in each place, before 4; verdicts 6 to 10 and their order; closings.
+/// 5 in each place, before 4; verdicts 6 to 10 and 17, and their order; closings.
 fn lanes_and_texts(maker: &mut Maker) {
     let lanes = maker.numbers.lanes;
     maker.ask("room 0");
@@ -97,8 +101,33 @@ fn lanes_and_texts(maker: &mut Maker) {
     closings(maker);
 }
 
-/// Texts with one or more faults, from 6 to 10.
+/// Texts with one or more faults, from 6 to 10, and where lengths are kept 17.
 pub fn faulty_texts(maker: &mut Maker) -> Vec<Vec<u8>> {
+    let mut texts = faults_of_form_and_leaves(maker);
+    if maker.numbers.lengths {
+        texts.extend(outside_the_range(maker));
+    }
+    texts
+}
+
+/// Lengths of the root, of a leaf and of a node, alone and beside other faults.
+fn outside_the_range(maker: &mut Maker) -> Vec<Vec<u8>> {
+    let star = maker.star(&maker.names);
+    let bare = bare_text(&mut maker.random, &maker.names, 3);
+    let all = with_lengths(&mut maker.random, &bare, &ADDENDS);
+    let behind = |text: &[u8], more: &str| [text, more.as_bytes()].concat();
+    vec![
+        behind(&star, ":1e23"),
+        behind(&all, " : -9007199254740993"),
+        with_lengths(&mut maker.random, &bare, &["1.0e-22"]),
+        with_lengths(&mut maker.random, &bare, &["1", "0e18446744073709551616"]),
+        behind(&star, ":1e23:1"),
+        behind(&maker.star(&maker.names[1..]), ":1e23"),
+        [&behind(&star, ":1e23")[..], &vec![b' '; MOST_BYTES]].concat(),
+    ]
+}
+
+fn faults_of_form_and_leaves(maker: &Maker) -> Vec<Vec<u8>> {
     let names = maker.names.clone();
     let with = |first: &[Name]| -> Vec<Name> { first.iter().chain(&names[first.len()..]).cloned().collect() };
     let (no, twice) = (b"no.such.taxon.is.in.the.list.of.names".to_vec(), names[0].clone());
@@ -154,15 +183,13 @@ fn closings(maker: &mut Maker) {
     }
 }
 
-/// 13 in each place, before 4; 4 in buffers of one element too few; the answers in buffers of just enough.
+/// 13 in each place, before 18 and 4; 18; 4 in buffers of one element too few; the answers in buffers of just enough.
 fn numbers_and_rooms(maker: &mut Maker) {
-    for _ in 0..2 {
-        let text = maker.any_text();
-        maker.watched_text(&text);
-    }
+    trees_with_and_without_lengths(maker);
     for room in ["room 0", "room -"] {
         maker.ask(room);
         wrong_numbers(maker);
+        absent_lengths(maker);
     }
     for (line, long) in answers_with_lengths(&maker.held) {
         for room in [long.saturating_sub(1), long, long + 1] {
@@ -173,15 +200,36 @@ fn numbers_and_rooms(maker: &mut Maker) {
     batches_with_rooms(maker);
 }
 
+fn trees_with_and_without_lengths(maker: &mut Maker) {
+    let bare = [(); 2].map(|()| bare_text(&mut maker.random, &maker.names, 3));
+    let all = with_lengths(&mut maker.random, &bare[0], &ADDENDS);
+    maker.watched_text(&all);
+    maker.watched_text(&bare[1]);
+}
+
+/// 18, in no buffer: of trees of which one has no lengths, and of every split.
+fn absent_lengths(maker: &mut Maker) {
+    for i in 0..maker.held.number_of_trees() {
+        (0..=i).for_each(|j| maker.watched(format!("weighted {i} {j}")));
+    }
+    for split in 0..maker.held.counts().len().min(30) {
+        maker.watched(format!("lengths {split}"));
+    }
+}
+
 fn wrong_numbers(maker: &mut Maker) {
     let (t, s) = (maker.held.number_of_trees() as u64, maker.held.counts().len() as u64);
     for far in [t, t + 1].into_iter().chain(FAR) {
         for line in ["one FAR 0", "one 0 FAR", "one FAR FAR", "two FAR 0", "two 0 FAR", "tree FAR", "write FAR"] {
             maker.watched(line.replace("FAR", &far.to_string()));
         }
+        for line in ["weighted FAR 0", "weighted 2 FAR", "weighted FAR FAR"] {
+            maker.watched(line.replace("FAR", &far.to_string()));
+        }
     }
     for far in [s, s + 1].into_iter().chain(FAR) {
         maker.watched(format!("split {far}"));
+        maker.watched(format!("lengths {far}"));
     }
 }
 
@@ -197,7 +245,7 @@ fn answers_with_lengths(held: &Collection) -> Vec<(String, usize)> {
         ("both".to_string(), long(held.majority_text(all))),
     ];
     for tree in 0..held.number_of_trees() {
-        out.push((format!("tree {tree}"), held.trees()[tree].len()));
+        out.push((format!("tree {tree}"), held.trees()[tree].splits.len()));
         out.push((format!("write {tree}"), long(held.tree_text(tree as u64, all))));
     }
     out
@@ -220,7 +268,7 @@ fn batches_with_rooms(maker: &mut Maker) {
     maker.ask("room -");
 }
 
-/// 12, then at full rooms 6 to 10 before 11, and 11 before 12.
+/// 12, then at full rooms 6 to 10 and 17 before 11, and 11 before 12.
 fn full_rooms(maker: &mut Maker) {
     let room = maker.numbers.tree_room as usize;
     for _ in 0..4 * room {
@@ -251,7 +299,7 @@ fn openings(maker: &mut Maker) {
     let first = first_constants(&mut maker.random, n, numbers.places);
     let second = second_constants(&mut maker.random, n);
     for wrong in wrong_openings(&numbers) {
-        maker.ask(format!("size {}", five_words(&wrong)));
+        maker.ask(size_line(&wrong));
         maker.watched(open_line(&wrong, &list, &first, &second));
         maker.watched(open_line(&wrong, b" ", &first, &second));
     }
@@ -354,13 +402,17 @@ fn wrong_names(names: &[Name]) -> Vec<Vec<u8>> {
 fn too_little_memory(maker: &mut Maker, first: &[u64], second: &[u64]) {
     let numbers = maker.numbers;
     let (list, size) = (name_list(&maker.names), numbers.size().expect("numbers in range"));
-    for lent in [0, 1, 15, 16, 4096, size - 1, size] {
+    let other = Numbers { lengths: !numbers.lengths, ..numbers };
+    let without = Numbers { lengths: false, ..numbers }.size().expect("numbers in range");
+    for lent in [0, 1, 15, 16, 4096, without - 1, without, size - 1, size] {
         maker.lent = lent;
         maker.ask(format!("lend {lent}"));
         maker.watched(open_line(&with_number(&numbers, 1, 9), &list, first, second));
         maker.watched(open_line(&numbers, &list[1..], first, &second[1..]));
         maker.watched(open_line(&numbers, &[&list[..], b" "].concat(), first, second));
         maker.watched(open_line(&numbers, &list, first, second));
+        maker.watched("trees");
+        maker.watched(open_line(&other, &list, first, second));
         maker.watched("trees");
     }
 }
@@ -376,7 +428,8 @@ fn not_whole(maker: &mut Maker) {
             maker.ask(room);
             let text = [maker.any_text(), b";".to_vec()].concat();
             let wrong = ["feed 8 28", "close 8", "batch 9 3b", "split 9", "tree 9", "one 9 9", "two 9 9", "write 9"];
-            for line in every_call(&text).into_iter().chain(wrong.map(str::to_string)).chain(refused_files(maker)) {
+            let wrong = wrong.into_iter().chain(["weighted 9 9", "lengths 9"]).map(str::to_string);
+            for line in every_call(&text).into_iter().chain(wrong).chain(refused_files(maker)) {
                 maker.watched(line);
             }
         }

@@ -2,14 +2,15 @@
 
 use crate::files::any_file;
 use crate::generator::{
-    any_name_list, damage_names, first_constants, one_text, second_constants, some_names, some_places, some_shapes,
+    any_name_list, damage_names, first_constants, second_constants, some_names, some_places, some_shapes, some_texts,
+    Texts,
 };
 use crate::grow::{Name, Shape};
 use crate::labels::{first_outside, is_odd};
-use crate::maker::{five_words, joined};
+use crate::maker::{joined, open_line, size_line};
 use crate::opening::Numbers;
 use crate::random::Random;
-use crate::words::{comma_list, hex};
+use crate::words::hex;
 
 /// So many lines for `treecalls`, after a first opening.
 pub fn calls(seed: u64, count: usize) -> Vec<u8> {
@@ -25,6 +26,7 @@ struct Script {
     random: Random,
     names: Vec<Name>,
     pool: Vec<Shape>,
+    texts: Texts,
     numbers: Numbers,
     lent: u64,
     /// What is still to be fed to each lane.
@@ -35,6 +37,50 @@ struct Script {
     planned: Vec<String>,
 }
 
+/// Lines that are no calls.
+const BAD_LINES: [&str; 40] = [
+    "",
+    " ",
+    "trees ",
+    " trees",
+    "tree",
+    "tree x",
+    "tree -1",
+    "tree 18446744073709551616",
+    "feed 0",
+    "feed 0 0",
+    "feed 0 0G",
+    "feed 0 AB",
+    "feed  0 -",
+    "close",
+    "close 0 0",
+    "open",
+    "agree 1",
+    "Trees",
+    "size 4 1 1 1",
+    "lend 8388609",
+    "peek 8388608 1",
+    "poke 8388608 00",
+    "room",
+    "room x",
+    "batch 0",
+    "nexus",
+    "nexus 0",
+    "nexus 0 -",
+    "nexus  -",
+    "weighted 0",
+    "weighted 0 0 0",
+    "weighted 0 x",
+    "lengths",
+    "lengths 0 0",
+    "lengths -1",
+    "size 4 1 1 1 1 Lengths",
+    "size 4 1 1 1 1 lengths lengths",
+    "size 4 1 1 1 lengths",
+    "size lengths",
+    "open lengths",
+];
+
 /// The longest piece of one feeding or batch.
 const LONGEST_PIECE: usize = 7000;
 
@@ -43,25 +89,26 @@ impl Script {
         let mut random = Random::new(seed);
         let names = some_names(&mut random);
         let pool = some_shapes(&mut random, &names);
+        let texts = some_texts(&mut random);
         let numbers = some_numbers(&mut random, names.len());
         let waiting = vec![Vec::new(); 9];
-        Script { random, names, pool, numbers, lent: 0, waiting, odd: vec![false; 9], planned: Vec::new() }
+        Script { random, names, pool, texts, numbers, lent: 0, waiting, odd: vec![false; 9], planned: Vec::new() }
     }
 
     /// Memory of about the right size, and the opening.
     fn opening(&mut self) -> Vec<String> {
         let size = self.numbers.size().expect("numbers in range");
         self.lent = size + *self.random.pick(&[0, 0, 1, 100]);
-        vec![format!("size {}", five_words(&self.numbers)), format!("lend {}", self.lent), self.open_line()]
+        vec![size_line(&self.numbers), format!("lend {}", self.lent), self.open_line()]
     }
 
     fn open_line(&mut self) -> String {
         let (n, places) = (self.names.len(), self.numbers.places);
-        let first = comma_list(&first_constants(&mut self.random, n, places));
-        let second = comma_list(&second_constants(&mut self.random, n));
+        let first = first_constants(&mut self.random, n, places);
+        let second = second_constants(&mut self.random, n);
         let list = any_name_list(&mut self.random, &self.names);
         self.odd.fill(false);
-        format!("open {} {} {first} {second}", five_words(&self.numbers), hex(&list))
+        open_line(&self.numbers, &list, &first, &second)
     }
 
     fn line(&mut self) -> String {
@@ -133,7 +180,7 @@ impl Script {
     }
 
     fn refill(&mut self, lane: usize) {
-        let mut text = one_text(&mut self.random, &self.names, &self.pool);
+        let mut text = (self.texts)(&mut self.random, &self.names, &self.pool);
         text.push(b';');
         self.waiting[lane].extend(text);
     }
@@ -141,7 +188,7 @@ impl Script {
     fn question_line(&mut self) -> String {
         let (a, b) = (self.small(), self.small());
         let masks = (self.random.next() % 64, self.random.next() % 64);
-        match self.random.below(15) {
+        match self.random.below(18) {
             0 => "trees".to_string(),
             1 => "count".to_string(),
             2 => "splits".to_string(),
@@ -156,6 +203,8 @@ impl Script {
             11 => format!("write {a}"),
             12 => "collisions".to_string(),
             13 => format!("agree {} {}", masks.0, masks.1),
+            14 | 15 => format!("weighted {a} {b}"),
+            16 => format!("lengths {a}"),
             _ => format!("agree {} {}", self.random.next(), self.random.next()),
         }
     }
@@ -181,48 +230,17 @@ impl Script {
     fn bad_opening_line(&mut self) -> String {
         let numbers = changed_numbers(&mut self.random, self.numbers);
         if self.random.one_in(2) {
-            return format!("size {}", five_words(&numbers));
+            return size_line(&numbers);
         }
         let mut list = any_name_list(&mut self.random, &self.names);
         damage_names(&mut self.random, &mut list);
-        let zeros = comma_list(&vec![0; self.names.len() - self.random.below(2)]);
+        let zeros = vec![0; self.names.len() - self.random.below(2)];
         let numbers = if self.random.one_in(2) { numbers } else { self.numbers };
-        format!("open {} {} {zeros} {zeros}", five_words(&numbers), hex(&list))
+        open_line(&numbers, &list, &zeros, &zeros)
     }
 
     fn bad_line(&mut self) -> String {
-        let lines = [
-            "",
-            " ",
-            "trees ",
-            " trees",
-            "tree",
-            "tree x",
-            "tree -1",
-            "tree 18446744073709551616",
-            "feed 0",
-            "feed 0 0",
-            "feed 0 0G",
-            "feed 0 AB",
-            "feed  0 -",
-            "close",
-            "close 0 0",
-            "open",
-            "agree 1",
-            "Trees",
-            "size 4 1 1 1",
-            "lend 8388609",
-            "peek 8388608 1",
-            "poke 8388608 00",
-            "room",
-            "room x",
-            "batch 0",
-            "nexus",
-            "nexus 0",
-            "nexus 0 -",
-            "nexus  -",
-        ];
-        self.random.pick(&lines).to_string()
+        self.random.pick(&BAD_LINES).to_string()
     }
 
     /// All lent memory, that behind the store, the store damaged, the memory lent again, or the store opened again.
@@ -279,21 +297,23 @@ impl Script {
 
 fn some_numbers(random: &mut Random, n: usize) -> Numbers {
     let lanes = random.between(1, 8) as u64;
-    let tree_room = *random.pick(&[1, 5, 40, 1024, 1024]);
+    let tree_room = *random.pick(&[1, 5, 40, 200, 1024]);
     let split_room = *random.pick(&[1, n, 3 * n, 5 * n, 4096]);
     let places = some_places(random, split_room);
-    Numbers { taxa: n as u64, lanes, tree_room, split_room: split_room as u64, places }
+    let lengths = random.one_in(2);
+    Numbers { taxa: n as u64, lanes, tree_room, split_room: split_room as u64, places, lengths }
 }
 
 fn changed_numbers(random: &mut Random, numbers: Numbers) -> Numbers {
     let mut changed = numbers;
     let value = *random.pick(&[0, 1, 3, 4, 8, 9, 64, 65, 1024, 1025, 4096, 4097, 8192, 8193, u64::MAX]);
-    match random.below(5) {
+    match random.below(6) {
         0 => changed.taxa = value,
         1 => changed.lanes = value,
         2 => changed.tree_room = value,
         3 => changed.split_room = value,
-        _ => changed.places = value,
+        4 => changed.places = value,
+        _ => changed.lengths = !changed.lengths,
     }
     changed
 }

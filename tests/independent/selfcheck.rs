@@ -1,11 +1,12 @@
 //! `selfcheck`: the samples of document 01, the sheet of the summary program, the limits, and the settled points; then
-//! the checks of quotes, of stores and of NEXUS files.
+//! the checks of quotes, of lengths, of stores and of NEXUS files.
 
 use crate::calls::treecalls;
 use crate::collection::Collection;
 use crate::consensus::{majority, strict, written, Counts};
 use crate::filecheck::file_checks;
 use crate::grow;
+use crate::lengthcheck::length_checks;
 use crate::opening::{open, Numbers};
 use crate::quotecheck::quote_checks;
 use crate::random::Random;
@@ -32,6 +33,7 @@ pub fn selfcheck() -> bool {
         properties(),
         calls(),
         quote_checks(),
+        length_checks(),
         store_checks(),
         file_checks(),
     ]
@@ -60,7 +62,7 @@ fn verdict(n: usize, text: &str) -> Result<Vec<u64>, u32> {
 
 /// A collection over A to E that was fed these texts.
 fn fed(texts: &[&str]) -> Collection {
-    let numbers = Numbers { taxa: 5, lanes: 1, tree_room: 10, split_room: 10, places: 1 };
+    let numbers = Numbers { taxa: 5, lanes: 1, tree_room: 10, split_room: 10, places: 1, lengths: false };
     let Ok(opening) = open(numbers, b"A B C D E", &[0; 5], &[0; 5], u64::MAX) else {
         panic!("the opening of the samples is refused");
     };

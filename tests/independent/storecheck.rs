@@ -1,7 +1,8 @@
 //! Checks of the store's decoder: a store made by hand from docs/STORE.md, and changes of its bytes.
 
-use crate::changes::{CHANGES, FAULTS};
+use crate::changes::{CHANGES, FAULTS, INFINITE, MINUS_ZERO, NO_NUMBERS, STORED_LENGTHS};
 use crate::check::Report;
+use crate::collection::Collection;
 use crate::random::Random;
 use crate::stores::made_bytes;
 use crate::whole::held_in;
@@ -14,7 +15,7 @@ type Check = (String, bool);
 fn by_hand() -> Vec<u8> {
     let mut store = vec![165; 9044];
     let fields: [(usize, usize, &[u64]); 14] = [
-        (0, 2, &[5, 1, 2, 3, 2, 2, 3]),
+        (0, 2, &[5, 1, 2, 3, 2, 2, 3, 0]),
         (2128, 2, &[0, 1, 0, 1, 0]),
         (2256, 8, &[10, 20, 30, 40, 50]),
         (4096, 2, &[3]),
@@ -41,8 +42,24 @@ fn by_hand() -> Vec<u8> {
     store
 }
 
+/// The same store with lengths kept: S1's tree has 0.5 and none, S2's −1 and 0.1.
+fn with_lengths() -> Vec<u8> {
+    let mut store = by_hand();
+    store[14] = 1;
+    store.resize(9044 + 2 * 512, 165);
+    put_length(&mut store, 9044, 0x3fe0000000000000);
+    put_length(&mut store, 9052, u64::MAX);
+    put_length(&mut store, 9556, 0xbff0000000000000);
+    put_length(&mut store, 9564, 0x3fb999999999999a);
+    store
+}
+
+fn put_length(store: &mut [u8], at: usize, bits: u64) {
+    store[at..at + 8].copy_from_slice(&bits.to_le_bytes());
+}
+
 /// Bytes and what they are changed to; the store is no more whole.
-const BROKEN: [(&str, usize, u8); 26] = [
+const BROKEN: [(&str, usize, u8); 30] = [
     ("3 taxa", 0, 3),
     ("6 taxa", 0, 6),
     ("no lane", 2, 0),
@@ -53,6 +70,10 @@ const BROKEN: [(&str, usize, u8); 26] = [
     ("3 trees", 10, 3),
     ("1 tree", 10, 1),
     ("2 splits", 12, 2),
+    ("lengths kept in too few bytes", 14, 1),
+    ("2 for lengths", 14, 2),
+    ("255 for lengths", 14, 255),
+    ("256 for lengths", 15, 1),
     ("a name of 33 bytes", 16, 33),
     ("an empty name", 16, 0),
     ("a name twice", 17, 66),
@@ -72,8 +93,7 @@ const BROKEN: [(&str, usize, u8); 26] = [
 ];
 
 /// Bytes that may have any value, or that hold something else.
-const UNHARMED: [(&str, usize, u8); 14] = [
-    ("head, not used", 14, 0),
+const UNHARMED: [(&str, usize, u8); 13] = [
     ("name, behind its length", 18, 0),
     ("name of no taxon", 16 + 33 * 5, 77),
     ("constant of no taxon", 2138, 255),
@@ -105,9 +125,45 @@ pub fn store_checks() -> Vec<Check> {
     let name = |what: &str| format!("store by hand, {what}");
     checks.extend(BROKEN.iter().map(|(what, at, byte)| (name(what), changed(*at, *byte).is_none())));
     checks.extend(UNHARMED.iter().map(|(what, at, byte)| (name(what), changed(*at, *byte).is_some())));
+    checks.extend(length_checks());
     checks.extend(checker_checks(&store));
     checks.push(("made stores".to_string(), made_stores_fit()));
     checks
+}
+
+fn length_checks() -> Vec<Check> {
+    let store = with_lengths();
+    let with = |at: usize, bits: u64| {
+        let mut bytes = store.clone();
+        put_length(&mut bytes, at, bits);
+        held_in(&bytes)
+    };
+    let stored = |bits: &u64| [9044, 9564].iter().all(|at| with(*at, *bits).is_some());
+    let refused = |bits: &u64| [9044, 9052, 9556, 9564].iter().all(|at| with(*at, *bits).is_none());
+    let kept_no_more = held_in(&with_byte(&store, 14, 0));
+    let name = |what: &str, right: bool| (format!("store by hand with lengths, {what}"), right);
+    vec![
+        name("as they are", held_in(&store).is_some_and(|held| holds_lengths(&held))),
+        name("one byte less", held_in(&store[..10067]).is_none()),
+        name("2 for lengths", held_in(&with_byte(&store, 14, 2)).is_none()),
+        name("257 for lengths", held_in(&with_byte(&store, 15, 1)).is_none()),
+        name("kept no more", kept_no_more == held_in(&by_hand()) && kept_no_more.is_some()),
+        name("lengths that may be stored", STORED_LENGTHS.iter().all(stored)),
+        name("no numbers", NO_NUMBERS.iter().all(refused)),
+        name("infinite", INFINITE.iter().all(refused)),
+        name("minus zero", refused(&MINUS_ZERO)),
+        name("bytes not used", [9060, 9548, 9572, 10060].iter().all(|at| with(*at, MINUS_ZERO) == held_in(&store))),
+        name("another length", with(9044, 0) != held_in(&store) && with(9564, u64::MAX) != held_in(&store)),
+    ]
+}
+
+fn holds_lengths(held: &Collection) -> bool {
+    let lengths = |split: u64| held.lengths(split).map(|of| [of.shortest.0, of.longest.0, of.sum.0]);
+    lengths(0) == Ok([0xbff0000000000000; 3])
+        && lengths(1) == Ok([0x3fe0000000000000; 3])
+        && lengths(2) == Err(18)
+        && held.weighted(1, 1).is_ok()
+        && held.weighted(0, 1).is_err()
 }
 
 /// Those without a change are whole; each change leaves some whole, and each fault leaves some not whole.
@@ -129,7 +185,7 @@ fn made_stores_fit() -> bool {
 
 fn holds_samples(store: &[u8]) -> bool {
     held_in(store).is_some_and(|held| {
-        let trees: Vec<Vec<u64>> = held.trees().iter().map(|tree| tree.iter().copied().collect()).collect();
+        let trees: Vec<Vec<u64>> = held.trees().iter().map(|tree| tree.splits.iter().copied().collect()).collect();
         let majority = held.majority_text(100).unwrap_or_default();
         trees == [[24, 28], [20, 28]] && majority == b"(A,B,(C,D,E));" && held.lanes().len() == 1
     })
@@ -153,7 +209,7 @@ fn checker_checks(store: &[u8]) -> Vec<Check> {
         ("checker, another number".to_string(), with(2, "number 4".to_string()) == 1),
         ("checker, another refusal".to_string(), with(3, "refused 1 8".to_string()) == 1),
         ("checker, lane not emptied".to_string(), with(4, peeked(store)) > 0),
-        ("checker, byte outside the lane".to_string(), with(4, peeked(&with_byte(&empty, 14, 0))) > 0),
+        ("checker, byte outside the lane".to_string(), with(4, peeked(&with_byte(&empty, 2768, 0))) > 0),
         ("checker, byte changed by a refusal".to_string(), with(6, peeked(&with_byte(&empty, 5000, 0))) == 1),
         ("checker, line end missing".to_string(), differences(&right[..right.len() - 1]) == 1),
         ("checker, answer missing".to_string(), differences(&right[..right.rfind("bytes").unwrap_or(0)]) == 1),

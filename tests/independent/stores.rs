@@ -27,8 +27,10 @@ fn small_collection(mut random: Random) -> Maker {
         tree_room: random.between(1, 12) as u64,
         split_room,
         places: random.between(1, 2 * split_room as usize) as u64,
+        lengths: random.one_in(2),
     };
-    let spare = *random.pick(&[0, 1, 300]);
+    // Room for the lengths, if a damage says that they are kept.
+    let spare = *random.pick(&[0, 1, 300, 512 * numbers.tree_room]);
     let mut maker = Maker::open(random, names, numbers, spare);
     maker.peek();
     let most_children = *maker.random.pick(&[2, 3, 6]);
@@ -65,9 +67,10 @@ pub fn made(seed: u64, count: usize) -> Vec<u8> {
 
 fn made_store(mut random: Random, i: usize) -> Vec<u8> {
     let (maker, bytes) = made_bytes(&mut random, i);
-    let mut lines = vec![format!("lend {}", maker.lent), format!("poke 0 {}", hex(&bytes))];
+    let lent = maker.lent.max(bytes.len() as u64);
+    let mut lines = vec![format!("lend {lent}"), format!("poke 0 {}", hex(&bytes))];
     lines.extend(calls_on(&mut random, &maker));
-    lines.push(format!("peek 0 {}", maker.lent));
+    lines.push(format!("peek 0 {lent}"));
     joined(&lines)
 }
 
@@ -94,6 +97,7 @@ fn calls_on(random: &mut Random, maker: &Maker) -> Vec<String> {
     let text = [one_text(random, &maker.names, &[tree]), b";".to_vec()].concat();
     let mut lines = every_call(&text);
     lines.extend(["close 0".to_string(), format!("feed 0 {}", hex(&text))]);
-    lines.extend(["splits", "matrix", "majority", "strict", "both", "collisions"].map(str::to_string));
+    let behind = ["splits", "matrix", "majority", "strict", "both", "collisions", "weighted 0 2", "lengths 2"];
+    lines.extend(behind.map(str::to_string));
     lines
 }

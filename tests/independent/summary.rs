@@ -28,7 +28,7 @@ pub fn treesum(input: &[u8]) -> Vec<u8> {
 /// The constants decide nothing that is written here.
 fn opened(line: &[u8]) -> Result<Collection, u32> {
     let taxa = split_outside(line, b' ').len() as u64;
-    let numbers = Numbers { taxa, lanes: 1, tree_room: TREE_ROOM, split_room: SPLIT_ROOM, places: 1 };
+    let numbers = Numbers { taxa, lanes: 1, tree_room: TREE_ROOM, split_room: SPLIT_ROOM, places: 1, lengths: false };
     let zeros = vec![0; taxa as usize];
     open(numbers, line, &zeros, &zeros, u64::MAX).map(Collection::new)
 }

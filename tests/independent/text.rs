@@ -2,7 +2,13 @@
 
 use crate::labels::{quoted_label, unquoted_label};
 
-pub enum Node {
+pub struct Node {
+    pub kind: Kind,
+    /// The token behind its colon, if there is one.
+    pub length: Option<Vec<u8>>,
+}
+
+pub enum Kind {
     /// What its label reads as.
     Leaf(Vec<u8>),
     Inner(Vec<Node>),
@@ -80,18 +86,17 @@ impl Reader<'_> {
 
     /// A node inside as many brackets as are open.
     fn node(&mut self, open: usize) -> Result<Node, Fault> {
-        let node = if self.take(b'(') {
+        let kind = if self.take(b'(') {
             if open == MOST_OPEN_BRACKETS {
                 return Err(Fault);
             }
             let children = self.children(open + 1)?;
             self.label()?;
-            Node::Inner(children)
+            Kind::Inner(children)
         } else {
-            Node::Leaf(self.label()?.ok_or(Fault)?)
+            Kind::Leaf(self.label()?.ok_or(Fault)?)
         };
-        self.length()?;
-        Ok(node)
+        Ok(Node { kind, length: self.length()? })
     }
 
     /// "Two or more nodes with commas between, a closing bracket."
@@ -108,11 +113,11 @@ impl Reader<'_> {
     }
 
     /// A colon wants a length, which is a token; without a colon there is none.
-    fn length(&mut self) -> Result<(), Fault> {
-        if self.take(b':') && !is_length(&self.token()) {
-            return Err(Fault);
+    fn length(&mut self) -> Result<Option<Vec<u8>>, Fault> {
+        if !self.take(b':') {
+            return Ok(None);
         }
-        Ok(())
+        Some(self.token()).filter(|token| is_length(token)).map(Some).ok_or(Fault)
     }
 }
 

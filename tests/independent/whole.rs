@@ -1,11 +1,13 @@
 //! Whether a store is whole, what it holds, and the other way: the fields of a store that holds a collection.
 
 use crate::collection::{Collection, Lane};
+use crate::double::{Double, NO_LENGTH};
 use crate::hash::{identifier, place};
 use crate::layout::{RUN_OVER, RUN_OVER_ODD};
 use crate::opening::{constants_fit, names_fit, Opening};
 use crate::parts::Parts;
 use crate::sets::{agree, is_proper, taxa_of, Taxa};
+use crate::verdict::Tree;
 
 /// What the bytes of a store hold; none if they are not whole.
 pub fn held_in(bytes: &[u8]) -> Option<Collection> {
@@ -24,6 +26,7 @@ impl Parts {
             && self.counts.iter().all(|count| *count >= 1)
             && self.identifiers == self.identified()
             && self.chains_fit()
+            && self.lengths.iter().flatten().all(|length| *length == NO_LENGTH || is_stored(Double(*length)))
     }
 
     /// "Recorded masks are proper for n and all different"; by their numbers they rise.
@@ -102,14 +105,17 @@ impl Parts {
     pub fn of(collection: &Collection, masks: Vec<u64>) -> Parts {
         let opening = collection.opening();
         let row_of = |mask: &u64| masks.iter().position(|m| m == mask).expect("every split is recorded") as u64;
-        let lists = collection.trees().iter().map(|tree| tree.iter().map(row_of).collect()).collect();
+        let lists = collection.trees().iter().map(|tree| tree.splits.iter().map(row_of).collect()).collect();
+        let kept = if opening.numbers.lengths { collection.trees() } else { &[] };
         let mut parts = Parts {
             numbers: opening.numbers,
+            kept: u64::from(opening.numbers.lengths),
             names: opening.names.clone(),
             first: opening.first.clone(),
             second: opening.second.clone(),
             lanes: collection.lanes().iter().map(lane_fields).collect(),
             lists,
+            lengths: kept.iter().map(length_fields).collect(),
             masks,
             identifiers: Vec::new(),
             counts: Vec::new(),
@@ -124,9 +130,29 @@ impl Parts {
     fn collection(&self) -> Collection {
         let (names, first, second) = (self.names.clone(), self.first.clone(), self.second.clone());
         let opening = Opening { numbers: self.numbers, names, first, second };
-        let trees = self.lists.iter().map(|list| self.masks_of(list).into_iter().collect()).collect();
+        let trees = (0..self.lists.len()).map(|tree| self.tree(tree)).collect();
         Collection::holding(opening, trees, self.lanes.iter().map(lane_of).collect())
     }
+
+    fn tree(&self, tree: usize) -> Tree {
+        let masks = self.masks_of(&self.lists[tree]);
+        let stored = self.lengths.get(tree).into_iter().flatten();
+        let given = masks.iter().zip(stored).filter(|(_, length)| **length != NO_LENGTH);
+        Tree {
+            lengths: given.map(|(mask, length)| (*mask, Double(*length))).collect(),
+            splits: masks.into_iter().collect(),
+        }
+    }
+}
+
+/// "Stored lengths to be finite and not minus zero."
+fn is_stored(length: Double) -> bool {
+    length.is_finite() && !length.is_minus_zero()
+}
+
+/// Of each split the bits of its length, or those for none.
+fn length_fields(tree: &Tree) -> Vec<u64> {
+    tree.splits.iter().map(|mask| tree.lengths.get(mask).map_or(NO_LENGTH, |length| length.0)).collect()
 }
 
 fn rising(masks: &[u64]) -> bool {

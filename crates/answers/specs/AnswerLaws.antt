@@ -2,6 +2,8 @@
 --
 --   number-refused, number-given     a call that gives a number
 --   split-refused, split-given       a call that gives one split
+--   lengths-refused, lengths-given   a call that gives the lengths of one split
+--   weight-refused, weight-given     a call that gives a double
 --   filled-refused                   a call that fills a buffer leaves it as found where it refuses
 --   filled-short, filled-given       4 where the buffer is too short for the whole answer, else the answer at its front
 --   filled-as                        a call that leaves the answer to another one
@@ -14,8 +16,10 @@ use native.Mathlib.Omega.{arith}
 use mathlib.Core.Path.{_≡_, refl, sym, ap, _∙_}
 use mathlib.Core.List.{List, _++_}
 use lib.ListN.{length, drop}
+use lib.Ieee.{Float}
 use borrow.Author.Tests.{lt-ltb, le-ltb}
 use Rattle.trees.specs.Plain.{Answer, refused, gives}
+use Rattle.trees.specs.Sums.{Sums}
 use Rattle.trees.specs.Questions.{ifRoom, together}
 use Rattle.answers.specs.declared.Refusal.{Refusal}
 use Rattle.answers.specs.declared.Refusal.the-variants as why
@@ -24,10 +28,13 @@ use Rattle.answers.specs.declared.Number.the-variants as number
 use Rattle.answers.specs.declared.Both.{Both}
 use Rattle.answers.specs.declared.Both.the-variants as both
 use Rattle.answers.specs.declared.Recorded.the-variants as recorded
-use Rattle.answers.specs.Answers.{refusalNumber, refusing, numberGiven, bothGiven, splitGiven}
+use Rattle.answers.specs.declared.Lengths.{Lengths}
+use Rattle.answers.specs.declared.SplitLengths.the-variants as splitLengths
+use Rattle.answers.specs.declared.Weight.the-variants as weight
+use Rattle.answers.specs.Answers.{refusalNumber, refusing, numberGiven, bothGiven, splitGiven, sumsGiven, splitLengthsGiven, weightGiven}
 use Rattle.answers.specs.Filled.{lengthGiven, front, FilledAs, firstOf, secondOf, lengthsGiven, BothFilledAs}
 
--- ---- a number, a split
+-- ---- a number, a split, its lengths, a double
 
 module _ (x : Answer ℕ) where
   pub number-refused : (r : Refusal) → x ≡ refusing r → numberGiven (number.Refused r) ≡ x
@@ -46,6 +53,24 @@ module _ (x : Answer (ℕ × ℕ)) where
   pub split-given : (m c : ℕ) → x ≡ gives (m, c) → splitGiven (recorded.Gives m c) ≡ x
   unfolding splitGiven
   split-given m c e = sym e
+
+module _ (x : Answer Sums) where
+  pub lengths-refused : (r : Refusal) → x ≡ refusing r → splitLengthsGiven (splitLengths.Refused r) ≡ x
+  unfolding splitLengthsGiven
+  lengths-refused r e = sym e
+
+  pub lengths-given : (l : Lengths) (y : Sums) → x ≡ gives y → sumsGiven l ≡ y → splitLengthsGiven (splitLengths.Gives l) ≡ x
+  unfolding splitLengthsGiven
+  lengths-given l y e f = ap gives f ∙ sym e
+
+module _ (x : Answer Float) where
+  pub weight-refused : (r : Refusal) → x ≡ refusing r → weightGiven (weight.Refused r) ≡ x
+  unfolding weightGiven
+  weight-refused r e = sym e
+
+  pub weight-given : (d y : Float) → x ≡ gives y → d ≡ y → weightGiven (weight.Gives d) ≡ x
+  unfolding weightGiven
+  weight-given d y e f = ap gives f ∙ sym e
 
 -- ---- a buffer
 

@@ -2,10 +2,14 @@
 --
 --   refusalNumber r                                   the number of a refusal in documents 01 and 02
 --   refusing r                                        the answer that refuses with that number
---   finishGiven, numberGiven, bothGiven, splitGiven, progressGiven     an answer of the code, as the definitions of crate trees have it
+--   finishGiven, numberGiven, bothGiven, splitGiven, splitLengthsGiven, weightGiven, progressGiven     an answer of the code, as the
+--                                                     definitions of crate trees have it
+--   sumsGiven l                                       the three lengths of a split that the code has
 --   Small a                                           the number of an accepted tree is at most 1,024
 use Prim.Native.Nat.{ℕ, _≤_}
+use lib.Ieee.{Float}
 use Rattle.trees.specs.Plain.{Answer, refused, gives}
+use Rattle.trees.specs.Sums.{Sums}
 use Rattle.trees.specs.Held.{moreWanted, accepted}
 use Rattle.trees.specs.Held as held
 use Rattle.answers.specs.declared.Refusal.{Refusal}
@@ -18,10 +22,16 @@ use Rattle.answers.specs.declared.Both.{Both}
 use Rattle.answers.specs.declared.Both.the-variants as both
 use Rattle.answers.specs.declared.Recorded.{Recorded}
 use Rattle.answers.specs.declared.Recorded.the-variants as recorded
+use Rattle.answers.specs.declared.Lengths.{Lengths}
+use Rattle.answers.specs.declared.SplitLengths.{SplitLengths}
+use Rattle.answers.specs.declared.SplitLengths.the-variants as splitLengths
+use Rattle.answers.specs.declared.Weight.{Weight}
+use Rattle.answers.specs.declared.Weight.the-variants as weight
 use Rattle.answers.specs.declared.Progress.{Progress}
 use Rattle.answers.specs.declared.Progress.the-variants as progress
 
--- "Refusal numbers"; "15 block malformed, 16 key listed twice"
+-- "Refusal numbers"; "15 block malformed, 16 key listed twice"; "17 any length in the text outside the exact range",
+-- "18 a length needed is absent or none are kept"
 unfoldable pub refusalNumber : Refusal → ℕ
 refusalNumber why.NotWhole = 1
 refusalNumber why.OutOfRange = 2
@@ -39,6 +49,8 @@ refusalNumber why.NoSuchNumber = 13
 refusalNumber why.NoTrees = 14
 refusalNumber why.BadBlock = 15
 refusalNumber why.RepeatedKey = 16
+refusalNumber why.InexactLength = 17
+refusalNumber why.NoLength = 18
 
 abbrev pub refusing : {A : Type 0} → Refusal → Answer A
 refusing r = refused (refusalNumber r)
@@ -64,6 +76,21 @@ unfoldable pub splitGiven : Recorded → Answer (ℕ × ℕ)
 unfolding refusalNumber
 splitGiven (recorded.Refused r) = refused (refusalNumber r)
 splitGiven (recorded.Gives m c) = gives (m, c)
+
+-- "the shortest, longest and summed length"
+unfoldable pub sumsGiven : Lengths → Sums
+sumsGiven l = record { shortest = l .shortest; longest = l .longest; sum = l .sum }
+
+unfoldable pub splitLengthsGiven : SplitLengths → Answer Sums
+unfolding refusalNumber sumsGiven
+splitLengthsGiven (splitLengths.Refused r) = refused (refusalNumber r)
+splitLengthsGiven (splitLengths.Gives l) = gives (sumsGiven l)
+
+-- a double, bit for bit
+unfoldable pub weightGiven : Weight → Answer Float
+unfolding refusalNumber
+weightGiven (weight.Refused r) = refused (refusalNumber r)
+weightGiven (weight.Gives x) = gives x
 
 -- "one of: more wanted; accepted, with the tree's number; refused, with a number"
 unfoldable pub progressGiven : Progress → Answer held.Progress

@@ -35,6 +35,8 @@ pub enum Refusal {
     NoTrees,
     BadBlock,
     RepeatedKey,
+    InexactLength,
+    NoLength,
 }
 
 // The answer of a call that gives nothing but that it was done.
@@ -60,6 +62,25 @@ pub enum Both {
 pub enum Recorded {
     Refused(Refusal),
     Gives(u64, u32),
+}
+
+// The shortest, longest and summed length of a split, over some trees having it.
+pub struct Lengths {
+    pub shortest: f64,
+    pub longest: f64,
+    pub sum: f64,
+}
+
+// The answer of a call that gives the lengths of one split.
+pub enum SplitLengths {
+    Refused(Refusal),
+    Gives(Lengths),
+}
+
+// The answer of a call that gives a double.
+pub enum Weight {
+    Refused(Refusal),
+    Gives(f64),
 }
 
 // What feeding answers besides the bytes taken.
@@ -96,6 +117,8 @@ pub fn refusal_number(r: Refusal) -> u32
         Refusal::NoTrees => 14,
         Refusal::BadBlock => 15,
         Refusal::RepeatedKey => 16,
+        Refusal::InexactLength => 17,
+        Refusal::NoLength => 18,
     }
 }
 

@@ -65,16 +65,10 @@ fn progress(fed: Fed) -> Reply {
     let progress = fed.progress;
     match progress {
         Progress::MoreWanted => replies::with(replies::MORE, a),
-        Progress::Accepted(t) => Reply {
-            form: replies::ACCEPTED,
-            a,
-            b: t.0 as u64,
-        },
-        Progress::Refused(r) => Reply {
-            form: replies::FED_REFUSED,
-            a,
-            b: answers::refusal_number(r) as u64,
-        },
+        Progress::Accepted(t) => replies::with_two(replies::ACCEPTED, a, t.0 as u64),
+        Progress::Refused(r) => {
+            replies::with_two(replies::FED_REFUSED, a, answers::refusal_number(r) as u64)
+        }
     }
 }
 

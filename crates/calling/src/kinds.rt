@@ -23,45 +23,49 @@ pub(crate) const CLOSE: usize = 8;
 
 pub(crate) const SPLIT: usize = 9;
 
-pub(crate) const TREE: usize = 10;
+pub(crate) const LENGTHS: usize = 10;
 
-pub(crate) const WRITE: usize = 11;
+pub(crate) const TREE: usize = 11;
 
-pub(crate) const LEND: usize = 12;
+pub(crate) const WRITE: usize = 12;
 
-pub(crate) const ROOM: usize = 13;
+pub(crate) const LEND: usize = 13;
+
+pub(crate) const ROOM: usize = 14;
 // Two numbers.
-pub(crate) const ONE: usize = 14;
+pub(crate) const ONE: usize = 15;
 
-pub(crate) const TWO: usize = 15;
+pub(crate) const TWO: usize = 16;
 
-pub(crate) const AGREE: usize = 16;
+pub(crate) const WEIGHTED: usize = 17;
 
-pub(crate) const PEEK: usize = 17;
+pub(crate) const AGREE: usize = 18;
+
+pub(crate) const PEEK: usize = 19;
 // A number and bytes.
-pub(crate) const POKE: usize = 18;
+pub(crate) const POKE: usize = 20;
 
-pub(crate) const FEED: usize = 19;
+pub(crate) const FEED: usize = 21;
 
-pub(crate) const BATCH: usize = 20;
+pub(crate) const BATCH: usize = 22;
 // Bytes.
-pub(crate) const NEXUS: usize = 21;
-// Five numbers.
-pub(crate) const SIZE: usize = 22;
-// Five numbers, bytes and two lists.
-pub(crate) const OPEN: usize = 23;
+pub(crate) const NEXUS: usize = 23;
+// Five numbers, and a last word or not.
+pub(crate) const SIZE: usize = 24;
+// Five numbers, bytes and two lists, and a last word or not.
+pub(crate) const OPEN: usize = 25;
 // A line that is no call.
-pub(crate) const NO_CALL: usize = 24;
+pub(crate) const NO_CALL: usize = 26;
 
 // The call of a word.
 pub(crate) fn of_word(word: &[u8]) -> usize {
     parts::place(
         word,
-        b"trees count collisions splits matrix strict majority both close split tree write lend room one two agree peek poke feed batch nexus size open ",
+        b"trees count collisions splits matrix strict majority both close split lengths tree write lend room one two weighted agree peek poke feed batch nexus size open ",
     )
 }
 
-// The number of the last word of a line with this call, from 0; for a line that is no call, one that no line has.
+// The number of the last word that a line with this call must have, from 0; for a line that is no call, one that no line has.
 pub(crate) fn last_word(kind: usize) -> usize {
     match kind {
         TREES..=BOTH => 0,
@@ -89,6 +93,14 @@ pub(crate) fn numbers_of(kind: usize) -> usize
 pub(crate) fn takes_bytes(kind: usize) -> bool {
     match kind {
         POKE..=NEXUS | OPEN => true,
+        _ => false,
+    }
+}
+
+// Whether the word `lengths` may stand behind all else.
+pub(crate) fn may_keep(kind: usize) -> bool {
+    match kind {
+        SIZE | OPEN => true,
         _ => false,
     }
 }

@@ -33,14 +33,14 @@ fn in_32_bits(x: usize) -> u32 {
     x as u32
 }
 
-// `size N LANES TREES SPLITS PLACES`.
+// `size N LANES TREES SPLITS PLACES`, with a last word `lengths` or not.
 pub(crate) fn size(call: Call) -> Number {
     let n = sizes_of(call);
-    table::size(n.taxa, n.lanes, n.trees, n.splits, n.places)
+    table::size(n.taxa, n.lanes, n.trees, n.splits, n.places, call.kept)
 }
 
-// `open N LANES TREES SPLITS PLACES NAMES LIST LIST`. A list is kept up to its 65th number: then it is too long for any number of taxa,
-// and is refused for that.
+// `open N LANES TREES SPLITS PLACES NAMES LIST LIST`, with a last word `lengths` or not. A list is kept up to its 65th number: then it is
+// too long for any number of taxa, and is refused for that.
 pub(crate) fn open(line: &[u8], lent: &mut [u8], call: Call) -> Reply {
     let mut first = [0u64; 65];
     let mut second = [0u64; 65];
@@ -81,6 +81,7 @@ fn open_named(lent: &mut [u8], call: Call, names: &[u8], first: &[u64], second: 
         n.trees,
         n.splits,
         n.places,
+        call.kept,
         names,
         first,
         second,

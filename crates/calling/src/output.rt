@@ -90,6 +90,27 @@ pub(crate) fn number(out: &mut [u8], n: u64, before: State) -> State {
     state
 }
 
+// The double with these bits, in 16 hex digits with a space before them.
+pub(crate) fn double(out: &mut [u8], bits: u64, before: State) -> State {
+    let mut state = with_place(out, before);
+    let at = mark(out, state.waiting, 32);
+    state.waiting = digits_of_bits(out, at, bits);
+    state
+}
+
+// Puts 64 bits in hex at `at`, the highest digit first, what there is place for, and answers where they end.
+fn digits_of_bits(out: &mut [u8], at: usize, bits: u64) -> usize {
+    let mut place = at;
+    let mut rest = bits;
+    let mut i = 0usize;
+    while i < 16 {
+        place = mark(out, place, glyph((rest >> 60) as u8));
+        rest = rest << 4;
+        i += 1;
+    }
+    place
+}
+
 // Puts a byte at `at`, if there is place for it, and answers where it ends.
 pub(crate) fn mark(out: &mut [u8], at: usize, b: u8) -> usize {
     if at < out.len() {

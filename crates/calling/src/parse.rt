@@ -7,7 +7,7 @@ use words::Number;
 ghost use Prim.Native.Nat.{_≤_};
 ghost use lib.ListN.{length};
 
-// A line: its call, the numbers that follow, where the bytes stand that do, and where their word ended.
+// A line: its call, the numbers that follow, where the bytes stand that do, where their word ended, and whether lengths are to be kept.
 pub(crate) struct Call {
     pub kind: usize,
     pub a: usize,
@@ -18,6 +18,7 @@ pub(crate) struct Call {
     pub from: usize,
     pub to: usize,
     pub rest: usize,
+    pub kept: bool,
 }
 
 // What stands for the length of a list that is none.
@@ -25,7 +26,8 @@ const NO_LIST: usize = usize::MAX;
 
 // The call that a line is. Its bytes are put where they stand in hex.
 pub(crate) fn parsed(line: &mut [u8]) -> Call {
-    let call = with_numbers(line, kind_of(line));
+    let begun = with_numbers(line, kind_of(line));
+    let call = to_its_end(line, begun);
     if kinds::takes_bytes(call.kind) {
         return with_bytes(line, call);
     }
@@ -39,18 +41,12 @@ fn word(line: &[u8], i: usize) -> Part
     parts::nth(line, i, 32)
 }
 
-// The call of the first word, if the last of the words that it takes ends the line.
+// The call of the first word.
 fn kind_of(line: &[u8]) -> usize {
     let first = word(line, 0);
     let from = first.from;
     let to = first.to;
-    let kind = kinds::of_word(&line[from..to]);
-    let last = word(line, kinds::last_word(kind));
-    if last.to == line.len() {
-        kind
-    } else {
-        kinds::NO_CALL
-    }
+    kinds::of_word(&line[from..to])
 }
 
 // The call with the numbers that it takes.
@@ -65,6 +61,7 @@ fn with_numbers(line: &[u8], kind: usize) -> Call {
         from: 0,
         to: 0,
         rest: 0,
+        kept: false,
     };
     let n = kinds::numbers_of(kind);
     let mut i = 0;
@@ -102,6 +99,23 @@ fn number(line: &[u8], i: usize, kind: usize) -> Number {
         }
     }
     words::decimal(line, part.from, part.to)
+}
+
+// The call, if the last of the words that it takes ends the line, or the word `lengths` behind it does.
+fn to_its_end(line: &[u8], call: Call) -> Call {
+    let last = word(line, kinds::last_word(call.kind));
+    let to = last.to;
+    let mut next = call;
+    if to == line.len() {
+        return next;
+    }
+    if kinds::may_keep(call.kind) {
+        next.kept = parts::same(&line[to..], b" lengths");
+    }
+    if !next.kept {
+        next.kind = kinds::NO_CALL;
+    }
+    next
 }
 
 // The call with the bytes that it takes, `-` for none.

@@ -1,4 +1,4 @@
-// Calls that leave the lent memory as it is and give a number or one split.
+// Calls that leave the lent memory as it is and give numbers.
 use crate::kinds;
 use crate::opens;
 use crate::parse::Call;
@@ -7,7 +7,9 @@ use crate::replies::Reply;
 use answers::Number;
 use answers::Recorded;
 use answers::Split;
+use answers::SplitLengths;
 use answers::Tree;
+use answers::Weight;
 
 // Makes the call.
 pub(crate) fn make(lent: &[u8], call: Call) -> Reply {
@@ -17,6 +19,8 @@ pub(crate) fn make(lent: &[u8], call: Call) -> Reply {
         kinds::ROOM => replies::done(),
         kinds::AGREE => agree(call.a as u64, call.b as u64),
         kinds::SPLIT => split(lent, call.a),
+        kinds::WEIGHTED => weighted(lent, call.a, call.b),
+        kinds::LENGTHS => lengths(lent, call.a),
         kinds::SIZE => replies::number(replies::BYTES, opens::size(call)),
         _ => replies::number(replies::NUMBER, number(lent, call)),
     }
@@ -47,10 +51,34 @@ fn split(lent: &[u8], s: usize) -> Reply {
     let answer = table::one_split(lent, Split(s));
     match answer {
         Recorded::Refused(r) => replies::refused(r),
-        Recorded::Gives(mask, count) => Reply {
-            form: replies::SPLIT,
-            a: mask,
-            b: count as u64,
-        },
+        Recorded::Gives(mask, count) => replies::with_two(replies::SPLIT, mask, count as u64),
+    }
+}
+
+// `weighted A B`. A distance is no NaN, so it has bits.
+fn weighted(lent: &[u8], a: usize, b: usize) -> Reply {
+    let answer = comparing::weighted(lent, Tree(a), Tree(b));
+    match answer {
+        Weight::Refused(r) => replies::refused(r),
+        Weight::Gives(x) => replies::with(replies::DOUBLE, f64::to_bits(x)),
+    }
+}
+
+// `lengths S`. None of the three is a NaN.
+fn lengths(lent: &[u8], s: usize) -> Reply {
+    let answer = table::split_lengths(lent, Split(s));
+    match answer {
+        SplitLengths::Refused(r) => replies::refused(r),
+        SplitLengths::Gives(x) => {
+            let a = f64::to_bits(x.shortest);
+            let b = f64::to_bits(x.longest);
+            let c = f64::to_bits(x.sum);
+            Reply {
+                form: replies::LENGTHS,
+                a,
+                b,
+                c,
+            }
+        }
     }
 }

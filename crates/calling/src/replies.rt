@@ -11,6 +11,7 @@ pub(crate) struct Reply {
     pub form: usize,
     pub a: u64,
     pub b: u64,
+    pub c: u64,
 }
 
 // A word alone.
@@ -33,22 +34,26 @@ pub(crate) const SPLIT: usize = 7;
 pub(crate) const ACCEPTED: usize = 8;
 
 pub(crate) const FED_REFUSED: usize = 9;
+// The double with the bits a.
+pub(crate) const DOUBLE: usize = 10;
+// The doubles with the bits a, b and c.
+pub(crate) const LENGTHS: usize = 11;
 // A list of a elements.
-pub(crate) const SPLITS: usize = 10;
+pub(crate) const SPLITS: usize = 12;
 
-pub(crate) const TREE: usize = 11;
+pub(crate) const TREE: usize = 13;
 
-pub(crate) const MATRIX: usize = 12;
+pub(crate) const MATRIX: usize = 14;
 // A list of a verdicts.
-pub(crate) const NEXUS: usize = 13;
+pub(crate) const NEXUS: usize = 15;
 // A list of a verdicts, and the number b.
-pub(crate) const BATCH: usize = 14;
+pub(crate) const BATCH: usize = 16;
 
 // The word of a form.
 fn word(out: &mut [u8], form: usize, state: State) -> State {
     nth_word(
         out,
-        b"bad line,done,refused,number,bytes,agree,more,split,accepted,refused,splits,tree,matrix,nexus,batch",
+        b"bad line,done,refused,number,bytes,agree,more,split,accepted,refused,double,lengths,splits,tree,matrix,nexus,batch",
         form,
         state,
     )
@@ -64,7 +69,12 @@ fn nth_word(out: &mut [u8], list: &[u8], k: usize, state: State) -> State {
 
 // The reply of a form that has one number.
 pub(crate) fn with(form: usize, a: u64) -> Reply {
-    Reply { form, a, b: 0 }
+    with_two(form, a, 0)
+}
+
+// The reply of a form that has two numbers.
+pub(crate) fn with_two(form: usize, a: u64, b: u64) -> Reply {
+    Reply { form, a, b, c: 0 }
 }
 
 // The reply to a line that is no call.
@@ -141,11 +151,24 @@ fn numbers(out: &mut [u8], reply: Reply, state: State) -> State {
     if reply.form < REFUSED {
         return state;
     }
+    if DOUBLE <= reply.form {
+        return doubles(out, reply, state);
+    }
     let first = output::number(out, reply.a, state);
     if reply.form < SPLIT {
         return first;
     }
     output::number(out, reply.b, first)
+}
+
+// The doubles of a reply.
+fn doubles(out: &mut [u8], reply: Reply, state: State) -> State {
+    let first = output::double(out, reply.a, state);
+    if reply.form == DOUBLE {
+        return first;
+    }
+    let second = output::double(out, reply.b, first);
+    output::double(out, reply.c, second)
 }
 
 // The number of rows of a matrix, which has as many columns.

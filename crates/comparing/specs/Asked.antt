@@ -2,11 +2,13 @@
 --
 --   oneSidedAsked, doubledAsked        the distances of two trees
 --   matrixAsked s room                 the doubled distances of all pairs
+--   weightedAsked s i j                the weighted distance of two trees
 --   collisionsAsked s                  the collision number
 use Prim.Native.Nat.{ℕ}
 use mathlib.Core.List.{List}
+use lib.Ieee.{Float}
 use Rattle.trees.specs.Plain.{Answer}
-use Rattle.trees.specs.Questions.{oneSidedOf, doubledOf, matrixOf, collisionsOf}
+use Rattle.trees.specs.Questions.{oneSidedOf, doubledOf, matrixOf, weightedOf, collisionsOf}
 use Rattle.store.specs.Lent.{ifWhole}
 
 abbrev pub oneSidedAsked : List ℕ → ℕ → ℕ → Answer ℕ
@@ -17,6 +19,9 @@ doubledAsked s i j = ifWhole s (λ h. doubledOf h i j)
 
 abbrev pub matrixAsked : List ℕ → ℕ → Answer (List ℕ)
 matrixAsked s room = ifWhole s (λ h. matrixOf h room)
+
+abbrev pub weightedAsked : List ℕ → ℕ → ℕ → Answer Float
+weightedAsked s i j = ifWhole s (λ h. weightedOf h i j)
 
 abbrev pub collisionsAsked : List ℕ → Answer ℕ
 collisionsAsked s = ifWhole s collisionsOf

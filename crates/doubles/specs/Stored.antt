@@ -1,17 +1,17 @@
 -- A branch's length, or none, kept in 8 bytes of a list: a double, or 8 bytes of 255 for none.
 --
 --   branchGiven r        a length of the code, as crate trees has it
---   goodLength x         x is none, or finite and not minus zero
 --   lengthAt s at        the length in the 8 bytes of s from at
 --   goodLengthAt s at    these bytes hold none, or a double that is finite and not minus zero
 --   putLength s at x     s with x in the 8 bytes from at
 use Prim.Native.Nat.{ℕ}
-use mathlib.Core.Bool.{Bool, true}
+use mathlib.Core.Bool.{Bool}
 use mathlib.Core.List.{List}
 use mathlib.Core.Option.{none, some}
 use lib.Dec.{eqb}
 use Rattle.trees.specs.Plain.{if_then_else_}
-use Rattle.trees.specs.Value.{Length, proper}
+use Rattle.trees.specs.Value.{Length}
+use Rattle.trees.specs.Whole.{goodLength}
 use Rattle.fields.specs.Field.{number, put}
 use Rattle.doubles.specs.Double.{doubleAt, putDouble}
 use Rattle.doubles.specs.declared.Length as code
@@ -21,12 +21,6 @@ use Rattle.doubles.specs.declared.Length.the-variants.{Absent, Given}
 unfoldable pub branchGiven : code.Length → Length
 branchGiven Absent = none
 branchGiven (Given x) = some x
-
--- "stored lengths to be finite and not minus zero"
-unfoldable pub goodLength : Length → Bool
-unfolding proper
-goodLength none = true
-goodLength (some x) = proper x
 
 -- 8 bytes of 255, as a number; no double that may be stored has these bits
 abbrev pub allOnes : ℕ

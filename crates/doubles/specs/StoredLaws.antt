@@ -21,13 +21,14 @@ use lib.Ieee.{binary64, fits, ofBits, toBits}
 use lib.Ieee.Bits.{toBits-lt, ofBits-fits}
 use Rattle.trees.specs.Plain.{if_then_else_}
 use Rattle.trees.specs.Value.{Length, proper}
+use Rattle.trees.specs.Whole.{goodLength}
 use Rattle.theorems.specs.ListLaws.{equal-or-not}
 use Rattle.theorems.specs.ProperDoubleLaws.{bits-back, no-ones}
 use Rattle.fields.specs.Field.{number, put}
 use Rattle.fields.specs.FieldLaws.{number-put, number-put-outside, put-length, put-outside}
 use Rattle.doubles.specs.Double.{doubleAt, putDouble}
 use Rattle.doubles.specs.DoubleLaws.{double-put}
-use Rattle.doubles.specs.Stored.{goodLength, allOnes, lengthAt, goodLengthAt, putLength}
+use Rattle.doubles.specs.Stored.{allOnes, lengthAt, goodLengthAt, putLength}
 
 -- ---- by the number in the bytes
 

@@ -7,7 +7,8 @@ ghost use Prim.Native.Nat.{_+_, _≤_};
 ghost use lib.ListN.{length};
 ghost use lib.Ieee.{binary64, ofBits};
 ghost use Rattle.trees.specs.Value.{proper};
-ghost use Rattle.doubles.specs.Stored.{branchGiven, goodLength, lengthAt, goodLengthAt, putLength};
+ghost use Rattle.trees.specs.Whole.{goodLength};
+ghost use Rattle.doubles.specs.Stored.{branchGiven, lengthAt, goodLengthAt, putLength};
 
 // A branch has a length or has none.
 pub enum Length {

@@ -24,6 +24,7 @@ use borrow.Author.Tests.{lt-ltb, le-ltb, ltb-true}
 use Rattle.theorems.specs.ListLaws.{and-left, and-right}
 use Rattle.trees.specs.Plain.{if_then_else_, every, Answer, refused, gives}
 use Rattle.trees.specs.Opening.{Opening, storeSize}
+use Rattle.trees.specs.Verdict.{Branches}
 use Rattle.trees.specs.Held.{Held, moreWanted, accepted, laneOf, openIn, longer, verdict, finished, finishing, feeding}
 use Rattle.trees.specs.Held as held
 use Rattle.trees.specs.Batch.{verdictNumber, isRefusal, noneAccepted, Batched, withVerdict, batching, batch}
@@ -60,7 +61,7 @@ unfolding finishing
 small-answer s l p w =
     subst (λ (f : held.Fed). Small (f .answer)) (sym (feeding-by (heldAt s) l p)) (go (ltb l (heldAt s .opening .numbers .lanes)) (endsAt (heldAt s) l p))
   where
-    done : (v : Answer (List ℕ)) → Small (finished (heldAt s) v)
+    done : (v : Answer Branches) → Small (finished (heldAt s) v)
     done (refused k) = unfold Small finished in tt
     done (gives t) = unfold Small finished in trees-few s w
 

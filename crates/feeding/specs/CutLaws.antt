@@ -22,7 +22,7 @@ use borrow.Author.Tests.{lt-ltb}
 use Rattle.trees.specs.Plain.{if_then_else_, Answer, refused, gives}
 use Rattle.trees.specs.Text.{turned, openAfter, endsText, hasEnd, beforeEnd}
 use Rattle.trees.specs.Held.{Held, Lane, holding, overrun, Fed, moreWanted, accepted, laneOf, withLane, withTree, openIn, longer, newSplits, roomFor, withRoom, verdict, finished, recording, finishing, feeding}
-use Rattle.trees.specs.Verdict.{judged}
+use Rattle.trees.specs.Verdict.{Branches, judgedWith}
 use Rattle.trees.specs.Batch.{textsIn, verdictNumber, withVerdict, Batched, batching}
 use Rattle.theorems.specs.QuoteLaws.{end-turned, has-append}
 use Rattle.theorems.specs.PieceLaws.{longer-longer, open-longer}
@@ -64,23 +64,23 @@ module _ (h : Held) (l : ℕ) (here : LaneThere h l) where
 
     lane-over : (y : Lane) → withLane (withLane h l x) l y ≡ withLane h l y
     unfolding withLane
-    lane-over y = ap (λ (ts : List Lane). record { opening = h .opening; trees = h .trees; texts = ts }) (set-set (h .texts) l x y)
+    lane-over y = ap (λ (ts : List Lane). record { opening = h .opening; trees = h .trees; lengths = h .lengths; texts = ts }) (set-set (h .texts) l x y)
 
     judge-same : (y : Lane) → verdict (withLane h l x) y ≡ verdict h y
     unfolding verdict withLane
     judge-same (overrun q) = refl
-    judge-same (holding s) = go (judged (h .opening .names) s)
+    judge-same (holding s) = go (judgedWith (h .opening .numbers .kept) (h .opening .names) s)
       where
-        go : (v : Answer (List ℕ)) → withRoom (record { opening = h .opening; trees = h .trees; texts = set (h .texts) l x }) v ≡ withRoom h v
+        go : (v : Answer Branches) → withRoom (record { opening = h .opening; trees = h .trees; lengths = h .lengths; texts = set (h .texts) l x }) v ≡ withRoom h v
         go (refused k) = unfold withRoom in refl
         go (gives t) = unfold withRoom roomFor newSplits in refl
 
-    finish-same : (t : ℕ) (v : Answer (List ℕ)) → finishing (withLane h l x) l t v ≡ finishing h l t v
+    finish-same : (t : ℕ) (v : Answer Branches) → finishing (withLane h l x) l t v ≡ finishing h l t v
     unfolding finishing finished recording withTree withLane
     finish-same t (refused k) =
-        ap (λ (ts : List Lane). record { taken = t; answer = refused k; after = record { opening = h .opening; trees = h .trees; texts = ts } }) (set-set (h .texts) l x (holding []))
+        ap (λ (ts : List Lane). record { taken = t; answer = refused k; after = record { opening = h .opening; trees = h .trees; lengths = h .lengths; texts = ts } }) (set-set (h .texts) l x (holding []))
     finish-same t (gives s) =
-        ap (λ (ts : List Lane). record { taken = t; answer = gives (accepted (length (h .trees))); after = record { opening = h .opening; trees = h .trees ++ s ∷ []; texts = ts } })
+        ap (λ (ts : List Lane). record { taken = t; answer = gives (accepted (length (h .trees))); after = record { opening = h .opening; trees = h .trees ++ s .splits ∷ []; lengths = h .lengths ++ s .lengths ∷ []; texts = ts } })
         (set-set (h .texts) l x (holding []))
 
 -- ---- a piece that ends no text, and one behind it
@@ -89,7 +89,7 @@ module _ (h : Held) (l : ℕ) (here : LaneThere h l) where
 abbrev pub takenMore : ℕ → Fed → Fed
 takenMore n f = record { taken = n + f .taken; answer = f .answer; after = f .after }
 
-finish-more : (n : ℕ) (h : Held) (l t : ℕ) (v : Answer (List ℕ)) → takenMore n (finishing h l t v) ≡ finishing h l (n + t) v
+finish-more : (n : ℕ) (h : Held) (l t : ℕ) (v : Answer Branches) → takenMore n (finishing h l t v) ≡ finishing h l (n + t) v
 unfolding finishing
 finish-more n h l t v = refl
 
@@ -174,7 +174,7 @@ module _ (h : Held) (l : ℕ) (here : LaneThere h l) (p : List ℕ) (e : endsAt 
   unfolding openIn openAfter
   first-open = ap openIn (ap (λ (f : Fed). laneOf (f .after) l) (fed-text h l here p e) ∙ emptied (verdict h (longer (laneOf h l) (lastPart h l p))))
     where
-      emptied : (v : Answer (List ℕ)) → laneOf (finishing h l (suc (length (lastPart h l p))) v .after) l ≡ holding []
+      emptied : (v : Answer Branches) → laneOf (finishing h l (suc (length (lastPart h l p))) v .after) l ≡ holding []
       emptied v =
           unfold finishing laneOf withLane in
           ap (λ (ts : List Lane). getD (set ts l (holding [])) l (holding [])) (recording-texts h v) ∙ getD-set-same (h .texts) l (holding []) (holding []) (here .text)

@@ -19,7 +19,7 @@ use Rattle.trees.specs.Plain.{if_then_else_, Answer, refused, gives}
 use Rattle.trees.specs.Opening.{Opening, storeSize}
 use Rattle.trees.specs.Held.{Held, Lane, holding, overrun, laneOf, withLane, withTree, openIn, longer, roomFor, withRoom, verdict, moreWanted, finished, recording, finishing, feeding}
 use Rattle.trees.specs.Held as held
-use Rattle.trees.specs.Verdict.{judged}
+use Rattle.trees.specs.Verdict.{Branches, judgedWith}
 use Rattle.theorems.specs.QuoteLaws.{before-all}
 use Rattle.theorems.specs.FeedingLaws.{endsAt, lastPart}
 use Rattle.answers.specs.declared.Refusal.the-variants as why
@@ -54,7 +54,7 @@ unfolding openingAt
 few-taxa s w = opening-facts s w .ranges .most-taxa
 
 module _ (h : Held) (l : ℕ) (y : Lane) where
-  room-lane : (a : Answer (List ℕ)) → withRoom (withLane h l y) a ≡ withRoom h a
+  room-lane : (a : Answer Branches) → withRoom (withLane h l y) a ≡ withRoom h a
   unfolding withRoom roomFor withLane
   room-lane (refused k) = refl
   room-lane (gives t) = refl
@@ -62,19 +62,19 @@ module _ (h : Held) (l : ℕ) (y : Lane) where
   verdict-lane : (z : Lane) → verdict (withLane h l y) z ≡ verdict h z
   unfolding verdict
   verdict-lane (overrun q) = refl
-  verdict-lane (holding x) = unfold withLane in room-lane (judged (h .opening .names) x)
+  verdict-lane (holding x) = unfold withLane in room-lane (judgedWith (h .opening .numbers .kept) (h .opening .names) x)
 
-  finished-lane : (a : Answer (List ℕ)) → finished (withLane h l y) a ≡ finished h a
+  finished-lane : (a : Answer Branches) → finished (withLane h l y) a ≡ finished h a
   unfolding finished withLane
   finished-lane (refused k) = refl
   finished-lane (gives t) = refl
 
-  recording-lane : (x : Lane) (a : Answer (List ℕ)) → withLane (recording (withLane h l y) a) l x ≡ withLane (recording h a) l x
+  recording-lane : (x : Lane) (a : Answer Branches) → withLane (recording (withLane h l y) a) l x ≡ withLane (recording h a) l x
   unfolding recording withLane withTree
-  recording-lane x (refused k) = ap (λ (ts : List Lane). record { opening = h .opening; trees = h .trees; texts = ts }) (set-set (h .texts) l y x)
-  recording-lane x (gives t) = ap (λ (ts : List Lane). withTree (record { opening = h .opening; trees = h .trees; texts = ts }) t) (set-set (h .texts) l y x)
+  recording-lane x (refused k) = ap (λ (ts : List Lane). record { opening = h .opening; trees = h .trees; lengths = h .lengths; texts = ts }) (set-set (h .texts) l y x)
+  recording-lane x (gives t) = ap (λ (ts : List Lane). withTree (record { opening = h .opening; trees = h .trees; lengths = h .lengths; texts = ts }) t) (set-set (h .texts) l y x)
 
-  recording-size : (x : Lane) (a : Answer (List ℕ)) → withLane (recording h a) l x .opening ≡ h .opening
+  recording-size : (x : Lane) (a : Answer Branches) → withLane (recording h a) l x .opening ≡ h .opening
   unfolding recording withLane withTree
   recording-size x (refused k) = refl
   recording-size x (gives t) = refl
@@ -113,7 +113,7 @@ module _ (s : List ℕ) (l : ℕ) (p : List ℕ) (m : l < numbersAt s .lanes) wh
         y : Lane
         y = longer (laneOf (heldAt s) l) (lastPart (heldAt s) l p)
 
-        v : Answer (List ℕ)
+        v : Answer Branches
         v = verdict (heldAt s) y
 
         lane-is : heldAt u ≡ withLane (heldAt s) l y

@@ -10,6 +10,7 @@ use mathlib.Core.Path.{_≡_}
 use mathlib.Core.Bool.{false}
 use mathlib.Core.List.{List, []}
 use Rattle.trees.specs.Plain.{Answer}
+use Rattle.trees.specs.Verdict.{Branches}
 use Rattle.trees.specs.Held.{Held, holding, laneOf, withLane, openIn, verdict, finished, recording, feeding}
 use Rattle.trees.specs.Held as held
 use Rattle.trees.specs.Batch.{textsIn}
@@ -30,7 +31,7 @@ pub record FedWell (s : List ℕ) (l : ℕ) (p : List ℕ) (r : Fed) (t : List �
   pub left : Left (feeding (heldAt s) l p .after) s l (feeding (heldAt s) l p .answer) t
 
 -- the verdict on the text of lane l
-unfoldable pub verdictOn : List ℕ → ℕ → Answer (List ℕ)
+unfoldable pub verdictOn : List ℕ → ℕ → Answer Branches
 unfolding heldIn verdict laneOf
 verdictOn s l = verdict (heldAt s) (laneOf (heldAt s) l)
 

@@ -1,7 +1,7 @@
-// Feeding the lanes of a collection in lent bytes: one piece, many texts at once, and closing.
+// Feeding the lanes of a collection in lent bytes: one piece, many texts at once, and closing; the verdict on a text.
 //
 // Read `specs/Feeding.antt` for what the calls promise; what they mean is said in crate trees,
-// `specs/Held.antt` and `specs/Batch.antt`. `specs/Texts.antt` has the steps.
+// `specs/Held.antt` and `specs/Batch.antt`. `specs/Texts.antt` has the steps, `specs/Judging.antt` the verdict.
 ghost use Rattle.feeding.specs.Feeding.{FedAs, ClosedAs, batchOf, BatchedAs};
 ghost use lib.ListN.{length};
 use answers::Fed;
@@ -14,6 +14,8 @@ use head::KEYS;
 
 mod texts;
 mod verdicts;
+
+pub use verdicts::judge_text;
 
 // Feeds a piece to a lane: takes it up to the first semicolon that ends a text and that semicolon, or all of it.
 pub fn feed(s: &mut [u8], l: Lane, piece: &[u8]) -> Fed

@@ -21,10 +21,10 @@ unfoldable pub upTo : {A : Type 0} → (ℕ → A) → ℕ → List A
 unfolding fromTo
 upTo f n = fromTo f 0 n
 
--- five numbers of two bytes each
+-- six numbers of two bytes each; those of trees and splits held stand before the last
 unfoldable pub numbersAt : List ℕ → Numbers
 unfolding number
-numbersAt s = record { taxa = number 2 s 0; lanes = number 2 s 2; treeRoom = number 2 s 4; splitRoom = number 2 s 6; places = number 2 s 8 }
+numbersAt s = record { taxa = number 2 s 0; lanes = number 2 s 2; treeRoom = number 2 s 4; splitRoom = number 2 s 6; places = number 2 s 8; kept = number 2 s 14 }
 
 -- 64 places of 33 bytes: a byte for the name's length, then the name
 unfoldable pub nameAt : List ℕ → ℕ → List ℕ

@@ -121,6 +121,7 @@ module _ (s t : List ℕ) (h : (i : ℕ) → i < headBytes → getD s i 0 ≡ ge
         fields-same 2 4 (omega arith),
         fields-same 2 6 (omega arith),
         fields-same 2 8 (omega arith),
+        fields-same 2 14 (omega arith),
       )
 
   module _ (f : headBytes ≤ length s) (g : headBytes ≤ length t) (bytes : (i : ℕ) → getD s i 0 < 256) where

@@ -67,6 +67,15 @@ pub fn places(s: &[u8]) -> u32
     number16(s, 8)
 }
 
+// 1 where lengths are kept, else 0.
+pub fn kept(s: &[u8]) -> u32
+    requires { ⌜ headBytes ≤ length (now s) ⌝ }
+    ensures { λ r. ⌜ r ≡ numbersAt (now (s .entry)) .kept ⌝ }
+    ensures { λ r. ⌜ r < 65536 ⌝ }
+{
+    number16(s, 14)
+}
+
 // The number in the 2 bytes of s from at, in 32 bits.
 fn number16(s: &[u8], at: usize) -> u32
     requires { ⌜ at + 2 ≤ length (now s) ⌝ }

@@ -22,8 +22,8 @@ use Rattle.fields.specs.Field.{number}
 use Rattle.head.specs.Head.{upTo, numbersAt, openingAt}
 use Rattle.head.specs.HeadLaws.{numbers-same, head-same, upTo-same}
 use Rattle.layout.specs.Columns.{columnAt, column-same, upTo-set}
-use Rattle.layout.specs.Store.{laneFrom, treeFrom, masksFrom, identifiersFrom, countsFrom, linksFrom, orderFrom, placesFrom, Parts, listFrom, textFrom, partsAt, maskIn, heldIn, heldAt, ranOverOpen}
-use Rattle.layout.specs.StoreLaws.{lane-from, tree-from, masks-from, identifiers-from, counts-from, links-from, order-from, places-from, Shaped, shaped-at}
+use Rattle.layout.specs.Store.{laneFrom, treeFrom, masksFrom, identifiersFrom, countsFrom, linksFrom, orderFrom, placesFrom, lengthsFrom, Parts, listFrom, branchesOf, lengthsAt, textFrom, partsAt, maskIn, heldIn, heldAt, ranOverOpen}
+use Rattle.layout.specs.StoreLaws.{lane-from, tree-from, masks-from, identifiers-from, counts-from, links-from, order-from, places-from, branches-from, lengths-from, lengths-same, Shaped, shaped-at}
 use Rattle.layout.specs.KeptLaws.{Kept, number-kept, list-kept, text-kept}
 use Rattle.layout.specs.WholeStore.{highestIn, listedIn, wholeAt}
 use Rattle.layout.specs.WholeFacts.{WholeAt, whole-at-facts}
@@ -43,6 +43,7 @@ withText l n x p = record {
   order = p .order;
   starts = p .starts;
   lists = p .lists;
+  branches = p .branches;
   lengths = set (p .lengths) l n;
   texts = set (p .texts) l x;
 }
@@ -64,6 +65,7 @@ module _ (o : Opening) (p : Parts) (l n : ℕ) (x : Lane) where
         counts = f .counts;
         chains = record { links = λ k q. f .chains .links k q ∙ highest-with _ _ k; starts = λ k q. f .chains .starts k q ∙ highest-with _ k _ };
         lanes = λ j q. go j q (eqb j l) refl;
+        branches = f .branches;
       }
     where
       go : (j : ℕ) → j < o .numbers .lanes → (c : Bool) → eqb j l ≡ c → getD (set (p .lengths) l n) j 0 ≤ ranOverOpen
@@ -111,6 +113,18 @@ module _ (s : List ℕ) (w : wholeAt s ≡ true) (l : ℕ) (m : l < numbersAt s 
       let a = treeFrom n i in
       list-kept s t _ (a + 2 + 2 * number 2 s a) (behind _) a (omega (arith, lane-from (n .lanes), tree-from n i)) (omega arith)))
 
+  branches-kept : upTo (λ i. lengthsAt t (lengthsFrom (numbersAt t) i) (branchesOf (numbersAt t) (number 2 t (treeFrom (numbersAt t) i)))) (number 2 t 10)
+      ≡ upTo (λ i. lengthsAt s (lengthsFrom (numbersAt s) i) (branchesOf (numbersAt s) (number 2 s (treeFrom (numbersAt s) i)))) (number 2 s 10)
+  branches-kept =
+      let n = numbersAt s in
+      rw (numbers-kept, number-kept s t 0 headBytes front 2 10 (omega arith) (omega arith))
+      (upTo-same _ _ (number 2 s 10) (λ i h.
+      let a = treeFrom n i in
+      let b = lengthsFrom n i in
+      rw (number-kept s t _ (a + 2) (behind _) 2 a (omega (arith, lane-from (n .lanes), tree-from n i)) (omega arith))
+      (lengths-same t s b b _ (λ j q.
+      number-kept s t _ (b + 8 * j + 8) (behind _) 8 (b + 8 * j) (omega (arith, lane-from (n .lanes), masks-from n, branches-from n, lengths-from n i)) (omega arith)))))
+
   lengths-with : upTo (λ j. number 2 t (laneFrom j)) (numbersAt t .lanes) ≡ set (upTo (λ j. number 2 s (laneFrom j)) (numbersAt s .lanes)) l (number 2 t (laneFrom l))
   lengths-with =
       rw numbers-kept
@@ -136,6 +150,7 @@ module _ (s : List ℕ) (w : wholeAt s ≡ true) (l : ℕ) (m : l < numbersAt s 
         order = column-kept 2 orderFrom _ _ e (omega (arith, order-from n)) i;
         starts = column-kept 2 placesFrom _ _ (ap (λ (x : Numbers). x .places) numbers-kept) (omega (arith, places-from n)) i;
         lists = lists-kept i;
+        branches = branches-kept i;
         lengths = lengths-with i;
         texts = texts-with i;
       }

@@ -2,20 +2,21 @@
 --
 --   ranges                      the opening's numbers are in their ranges
 --   trees-few, splits-few, places-few     there are at most 1,024 trees, 4,096 splits and 8,192 places
---   lane-inside, tree-inside    where lane l and tree i end
+--   lane-inside, tree-inside, lengths-inside     where lane l and tree i end, and the lengths of tree i where they are kept
+--   branch-inside               where the length of the split in place j of tree i ends
 --   mask-inside, identifier-inside, count-inside, link-inside, order-inside, start-inside     where the fields of split k and of place q end
 --   place-below, place-small    a place is below their number, and below 8,192
 use Prim.Native.Nat.{ℕ, _+_, _*_, _≤_, _<_}
-use native.Mathlib.Nat.{mod-lt}
+use native.Mathlib.Nat.{mod-lt, mul-le-mul-right}
 use native.Mathlib.Omega.{arith}
 use mathlib.Core.List.{List}
 use lib.ListN.{length}
-use Rattle.trees.specs.Opening.{mostRoom, laneBytes, treeBytes}
+use Rattle.trees.specs.Opening.{mostRoom, laneBytes, treeBytes, branchBytes}
 use Rattle.trees.specs.Hash.{sumOver, place}
 use Rattle.theorems.specs.OpeningLaws.{InRange, good-opening}
 use Rattle.head.specs.Head.{numbersAt, firstAt, openingAt}
-use Rattle.layout.specs.Store.{laneFrom, treeFrom, masksFrom, identifiersFrom, countsFrom, linksFrom, orderFrom, placesFrom, treesHeldAt, splitsHeldAt}
-use Rattle.layout.specs.StoreLaws.{lane-from, tree-from, masks-from, identifiers-from, counts-from, links-from, order-from, places-from, size-is}
+use Rattle.layout.specs.Store.{laneFrom, treeFrom, masksFrom, identifiersFrom, countsFrom, linksFrom, orderFrom, placesFrom, lengthsFrom, treesHeldAt, splitsHeldAt, branchesAt, mostSplits}
+use Rattle.layout.specs.StoreLaws.{lane-from, tree-from, masks-from, identifiers-from, counts-from, links-from, order-from, places-from, branches-from, lengths-from, size-is, branches-some, entriesAt, branches-length}
 use Rattle.layout.specs.WholeStore.{placeIn}
 use Rattle.layout.specs.WholeFacts.{HeadAt}
 
@@ -40,6 +41,17 @@ module _ (s : List ℕ) (h : HeadAt s) where
 
   pub tree-inside : (i : ℕ) → i < treesHeldAt s → treeFrom (numbersAt s) i + treeBytes ≤ length s
   tree-inside i b = omega (arith, tree-from (numbersAt s) i, masks-from (numbersAt s), size-is s, h .reached, h .trees-fit)
+
+  pub lengths-inside : (i : ℕ) → i < numbersAt s .treeRoom → 1 ≤ numbersAt s .kept → lengthsFrom (numbersAt s) i + branchBytes ≤ length s
+  lengths-inside i b k =
+      let room = numbersAt s .treeRoom in
+      let m : 1 * room ≤ numbersAt s .kept * room = mul-le-mul-right room k in
+      omega (arith, lengths-from (numbersAt s) i, branches-from (numbersAt s), size-is s, h .reached)
+
+  pub branch-inside : (i j : ℕ) → i < treesHeldAt s → j < length (branchesAt s i) → j < mostSplits → lengthsFrom (numbersAt s) i + 8 * j + 8 ≤ length s
+  branch-inside i j b k few =
+      let some = branches-some (numbersAt s) (entriesAt s i) j (omega (arith, branches-length s i b)) in
+      omega (arith, lengths-inside i (omega (arith, h .trees-fit)) (some .0))
 
   -- ---- splits and places
 

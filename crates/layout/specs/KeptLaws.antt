@@ -2,11 +2,13 @@
 --
 --   Kept s t lo hi                        t has the bytes of s from lo up to hi
 --   number-kept, list-kept, text-kept     a number, a tree's list and a lane that lie there
---   lists-kept, lengths-kept, texts-kept     those of all trees and lanes
---   numbers-kept, opening-kept            the opening's numbers, where the first 10 bytes are kept; the opening, where those from 16 on are too
+--   lists-kept, branches-kept, lengths-kept, texts-kept     those of all trees and lanes, and the trees' lengths
+--   numbers-kept, opening-kept            the opening's numbers, where the first 10 bytes and the flag at 14 are kept; the opening, where those
+--                                         from 16 on are too
 --   numbers-put                           the numbers where something is put behind them
 --   run-same                              equal bytes, in two lists and at two places
 use Prim.Native.Nat.{ℕ, _+_, _*_, _≤_, _<_}
+use native.Mathlib.Nat.{mul-le-mul-right}
 use native.Mathlib.Omega.{arith}
 use mathlib.Core.Path.{_≡_, refl, sym, ap, _∙_}
 use mathlib.Core.Logic.{inl}
@@ -17,15 +19,15 @@ use lib.ListN.{length, getD, take, drop, length-drop}
 use lib.Seq.{length-take-le, getD-take, getD-drop, ext-getD}
 use borrow.Author.Tests.{eqb-false}
 use Rattle.trees.specs.Plain.{if_then_else_}
-use Rattle.trees.specs.Opening.{Numbers, laneBytes, headBytes}
+use Rattle.trees.specs.Opening.{Numbers, laneBytes, headBytes, branchBytes}
 use Rattle.trees.specs.Held.{holding, overrun}
 use Rattle.fields.specs.Field.{number, put}
 use Rattle.fields.specs.FieldLaws.{put-outside, number-same}
 use Rattle.head.specs.Head.{upTo, numbersAt, nameAt, namesAt, firstAt, secondAt, openingAt}
 use Rattle.head.specs.HeadLaws.{upTo-same}
 use Rattle.layout.specs.Columns.{columnAt, column-same}
-use Rattle.layout.specs.Store.{laneFrom, treeFrom, listFrom, textFrom, ranOver, ranOverOpen, mostSplits}
-use Rattle.layout.specs.StoreLaws.{lane-from, tree-from}
+use Rattle.layout.specs.Store.{laneFrom, treeFrom, branchesFrom, lengthsFrom, listFrom, branchesOf, lengthsAt, textFrom, ranOver, ranOverOpen, mostSplits}
+use Rattle.layout.specs.StoreLaws.{lane-from, tree-from, lengths-from, branches-some, lengths-same}
 
 pub run-same : (s t : List ℕ) (a b n : ℕ) → a + n ≤ length s → b + n ≤ length t → ((i : ℕ) → i < n → getD s (a + i) 0 ≡ getD t (b + i) 0)
     → take n (drop a s) ≡ take n (drop b t)
@@ -70,6 +72,17 @@ module _ (s t : List ℕ) (lo hi : ℕ) (same : Kept s t lo hi) where
         let y = tree-from n trees in
         upTo-same _ _ trees (λ i h. let x = tree-from n i in list-kept (treeFrom n i) (omega arith) (omega (arith, few i h)))
 
+    -- 512 bytes a tree where lengths are kept, and none where not
+    pub branches-kept : (trees : ℕ) (k : ℕ → ℕ) → lo ≤ branchesFrom n → branchesFrom n + branchBytes * (n .kept * trees) ≤ hi
+        → ((i : ℕ) → i < trees → k i ≤ mostSplits)
+        → upTo (λ i. lengthsAt t (lengthsFrom n i) (branchesOf n (k i))) trees ≡ upTo (λ i. lengthsAt s (lengthsFrom n i) (branchesOf n (k i))) trees
+    branches-kept trees k p q few =
+        upTo-same _ _ trees (λ i h.
+        lengths-same t s (lengthsFrom n i) (lengthsFrom n i) (branchesOf n (k i)) (λ j l.
+        let b = branches-some n (k i) j l in
+        let m : 1 * trees ≤ n .kept * trees = mul-le-mul-right trees (b .0) in
+        number-kept 8 (lengthsFrom n i + 8 * j) (omega (arith, lengths-from n i)) (omega (arith, lengths-from n i, few i h, b .1))))
+
     module _ (p : lo ≤ headBytes) (q : treeFrom n 0 ≤ hi) where
       pub lengths-kept : upTo (λ l. number 2 t (laneFrom l)) (n .lanes) ≡ upTo (λ l. number 2 s (laneFrom l)) (n .lanes)
       lengths-kept = let z = tree-from n 0 in upTo-same _ _ (n .lanes) (λ l h. let x = lane-from l in number-kept 2 (laneFrom l) (omega arith) (omega arith))
@@ -83,14 +96,21 @@ module _ (s t : List ℕ) (lo hi : ℕ) (same : Kept s t lo hi) where
 -- ---- the opening
 
 module _ (s t : List ℕ) (front : Kept s t 0 10) where
-  pub numbers-kept : numbersAt t ≡ numbersAt s
+  pub numbers-kept : Kept s t 14 16 → numbersAt t ≡ numbersAt s
   unfolding numbersAt
-  numbers-kept =
+  numbers-kept flag =
       let e = number-kept s t 0 10 front 2 in
-      rw (e 0 (omega arith) (omega arith), e 2 (omega arith) (omega arith), e 4 (omega arith) (omega arith), e 6 (omega arith) (omega arith), e 8 (omega arith) (omega arith))
+      rw (
+        e 0 (omega arith) (omega arith),
+        e 2 (omega arith) (omega arith),
+        e 4 (omega arith) (omega arith),
+        e 6 (omega arith) (omega arith),
+        e 8 (omega arith) (omega arith),
+        number-kept s t 14 16 flag 2 14 (omega arith) (omega arith),
+      )
 
   -- with at most 64 taxa, and bytes below 256, so that a name of any length ends inside
-  module _ (back : Kept s t 16 headBytes) (long : headBytes ≤ length s) (size : length t ≡ length s) (bytes : (i : ℕ) → getD s i 0 < 256) (few : numbersAt s .taxa ≤ 64) where
+  module _ (back : Kept s t 14 headBytes) (long : headBytes ≤ length s) (size : length t ≡ length s) (bytes : (i : ℕ) → getD s i 0 < 256) (few : numbersAt s .taxa ≤ 64) where
     name-kept : (i : ℕ) → i < 64 → nameAt t i ≡ nameAt s i
     unfolding nameAt
     name-kept i h =
@@ -102,12 +122,12 @@ module _ (s t : List ℕ) (front : Kept s t 0 10) where
     unfolding openingAt numbersAt namesAt firstAt secondAt columnAt
     opening-kept =
         rw (
-          numbers-kept,
+          numbers-kept (λ i p q. back i p (omega arith)),
           number-kept s t 0 10 front 2 0 (omega arith) (omega arith),
           upTo-same (nameAt t) (nameAt s) (number 2 s 0) (λ i h. name-kept i (omega arith)),
           column-same 2 2128 (number 2 s 0) t s (λ i g h. back i (omega arith) (omega arith)),
           column-same 8 2256 (number 2 s 0) t s (λ i g h. back i (omega arith) (omega arith)),
         )
 
-pub numbers-put : (j at v : ℕ) (s : List ℕ) → 10 ≤ at → numbersAt (put j s at v) ≡ numbersAt s
-numbers-put j at v s h = numbers-kept s _ (λ b g l. put-outside j s at v b (inl (omega arith)))
+pub numbers-put : (j at v : ℕ) (s : List ℕ) → 16 ≤ at → numbersAt (put j s at v) ≡ numbersAt s
+numbers-put j at v s h = numbers-kept s _ (λ b g l. put-outside j s at v b (inl (omega arith))) (λ b g l. put-outside j s at v b (inl (omega arith)))

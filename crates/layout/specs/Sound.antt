@@ -8,10 +8,12 @@ use mathlib.Core.Path.{_≡_, ap}
 use mathlib.Core.Bool.{true}
 use mathlib.Core.List.{List}
 use lib.ListN.{length}
+use Rattle.trees.specs.Plain.{every}
 use Rattle.trees.specs.Opening.{Opening}
 use Rattle.trees.specs.Hash.{place}
+use Rattle.trees.specs.Whole.{goodLength}
 use Rattle.head.specs.Head.{numbersAt, openingAt}
-use Rattle.layout.specs.Store.{Parts, partsAt, splitsIn, treesIn, countIn, lengthIn, ranOverOpen}
+use Rattle.layout.specs.Store.{Parts, partsAt, splitsIn, treesIn, countIn, branchesIn, lengthIn, ranOverOpen}
 use Rattle.layout.specs.StoreLaws.{size-is, Shaped, shaped-at}
 use Rattle.layout.specs.WholeStore.{listedIn, wholeAt}
 use Rattle.layout.specs.WholeFacts.{HeadAt, SplitsIn, ListIn, ChainsIn, whole-at-facts, facts-whole-at}
@@ -23,6 +25,7 @@ pub record Sound (o : Opening) (p : Parts) : Type 0 where
   pub counts : (k : ℕ) → k < splitsIn p → countIn p k ≡ listedIn p k (treesIn p)
   pub chains : ChainsIn (place (o .first) (o .numbers .places)) (o .numbers .places) p
   pub lanes : (l : ℕ) → l < o .numbers .lanes → lengthIn p l ≤ ranOverOpen
+  pub branches : (i : ℕ) → i < treesIn p → every goodLength (branchesIn p i) ≡ true
 
 pub whole-sound : (s : List ℕ) → wholeAt s ≡ true → Sound (openingAt s) (partsAt s)
 unfolding openingAt
@@ -35,6 +38,7 @@ whole-sound s e =
       counts = λ k h. w .counts k h .counted;
       chains = w .chains;
       lanes = w .lanes;
+      branches = w .branches;
     }
 
 pub sound-whole : (s : List ℕ) → HeadAt s → Sound (openingAt s) (partsAt s) → ((k : ℕ) → k < splitsIn (partsAt s) → 1 ≤ countIn (partsAt s) k) → wholeAt s ≡ true
@@ -48,6 +52,7 @@ sound-whole s h f g =
       counts = λ k l. record { some-tree = g k l; counted = f .counts k l };
       chains = f .chains;
       lanes = f .lanes;
+      branches = f .branches;
     }
 
 -- ---- bytes with the opening of others

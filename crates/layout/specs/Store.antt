@@ -4,13 +4,16 @@
 --   mostSplits                     the most splits of a tree
 --   laneFrom, treeFrom             where lane l and tree i begin, by the opening's numbers
 --   masksFrom, identifiersFrom, countsFrom, linksFrom, orderFrom, placesFrom     where the splits' columns and the places begin
+--   branchesFrom, lengthsFrom      where the trees' lengths begin, and those of tree i
+--   branchesOf n k                 how many lengths a tree of k splits has
 --   sizeAt s                       the store's size, by its numbers
 --   Parts                          what lies behind the head, as lists
 --   partsAt s                      those of the bytes s
 --   splitsIn, treesIn              how many splits and trees there are
 --   maskIn, identifierIn, countIn, linkIn, startIn     the fields of the split in row k; where the chain of place p starts
 --   orderIn, splitIn, masksIn      the row and the mask of the split with number k; all masks by number
---   listIn, treeIn, lengthIn, laneIn     the rows and the masks of tree i; the stored length of lane l, and the lane
+--   listIn, treeIn, branchesIn     the rows, the masks and the lengths of tree i
+--   lengthIn, laneIn               the stored length of lane l, and the lane
 --   heldIn o p                     what a store with the opening o and the parts p holds
 --   treesHeldAt .. heldAt          the same of the bytes s
 use Prim.Native.Nat.{ℕ, _+_, _*_}
@@ -19,9 +22,11 @@ use mathlib.Core.List.{List, [], map}
 use lib.Dec.{eqb}
 use lib.ListN.{length, getD, take, drop}
 use Rattle.trees.specs.Plain.{if_then_else_}
-use Rattle.trees.specs.Opening.{Numbers, Opening, storeSize, laneBytes, headBytes, treeBytes}
+use Rattle.trees.specs.Value.{Length}
+use Rattle.trees.specs.Opening.{Numbers, Opening, storeSize, laneBytes, headBytes, treeBytes, branchBytes}
 use Rattle.trees.specs.Held.{Held, Lane, holding, overrun}
 use Rattle.fields.specs.Field.{number}
+use Rattle.doubles.specs.Stored.{lengthAt as branchAt}
 use Rattle.head.specs.Head.{upTo, numbersAt, openingAt}
 use Rattle.layout.specs.Columns.{columnAt}
 
@@ -75,6 +80,15 @@ unfoldable pub placesFrom : Numbers → ℕ
 unfolding masksFrom
 placesFrom n = masksFrom n + 24 * n .splitRoom
 
+-- where lengths are kept, 512 bytes a tree behind the places: 8 for the length of each of its splits, in the order of its list
+unfoldable pub branchesFrom : Numbers → ℕ
+unfolding placesFrom
+branchesFrom n = placesFrom n + 2 * n .places
+
+unfoldable pub lengthsFrom : Numbers → ℕ → ℕ
+unfolding branchesFrom
+lengthsFrom n i = branchesFrom n + branchBytes * i
+
 unfoldable pub sizeAt : List ℕ → ℕ
 unfolding storeSize numbersAt
 sizeAt s = storeSize (numbersAt s)
@@ -91,8 +105,9 @@ pub record Parts : Type 0 where
   pub order : List ℕ
   -- where the chain of each place starts: a row and one more, or 0
   pub starts : List ℕ
-  -- the rows of each tree's splits
+  -- the rows of each tree's splits, and their lengths
   pub lists : List (List ℕ)
+  pub branches : List (List Length)
   -- the lanes' lengths as they are stored, and the lanes
   pub lengths : List ℕ
   pub texts : List Lane
@@ -100,6 +115,15 @@ pub record Parts : Type 0 where
 -- the list of a tree that begins at a
 unfoldable pub listFrom : List ℕ → ℕ → List ℕ
 listFrom s a = columnAt 2 (a + 2) (number 2 s a) s
+
+-- "Opening says whether lengths are kept": if so, one for each of a tree's k splits, else none
+unfoldable pub branchesOf : Numbers → ℕ → ℕ
+branchesOf n k = if eqb (n .kept) 0 then 0 else k
+
+-- k lengths from a on
+unfoldable pub lengthsAt : List ℕ → ℕ → ℕ → List Length
+unfolding upTo branchAt
+lengthsAt s a k = upTo (λ j. branchAt s (a + 8 * j)) k
 
 -- the lane that begins at a; a length of 4,609 or 4,610 says that it ran over
 unfoldable pub textFrom : List ℕ → ℕ → Lane
@@ -118,6 +142,7 @@ partsAt s = record {
   order = columnAt 2 (orderFrom (numbersAt s)) (number 2 s 12) s;
   starts = columnAt 2 (placesFrom (numbersAt s)) (numbersAt s .places) s;
   lists = upTo (λ i. listFrom s (treeFrom (numbersAt s) i)) (number 2 s 10);
+  branches = upTo (λ i. lengthsAt s (lengthsFrom (numbersAt s) i) (branchesOf (numbersAt s) (number 2 s (treeFrom (numbersAt s) i)))) (number 2 s 10);
   lengths = upTo (λ l. number 2 s (laneFrom l)) (numbersAt s .lanes);
   texts = upTo (λ l. textFrom s (laneFrom l)) (numbersAt s .lanes);
 }
@@ -161,6 +186,9 @@ listIn p i = getD (p .lists) i []
 abbrev pub treeIn : Parts → ℕ → List ℕ
 treeIn p i = map (maskIn p) (listIn p i)
 
+abbrev pub branchesIn : Parts → ℕ → List Length
+branchesIn p i = getD (p .branches) i []
+
 abbrev pub lengthIn : Parts → ℕ → ℕ
 lengthIn p l = getD (p .lengths) l 0
 
@@ -168,7 +196,7 @@ abbrev pub laneIn : Parts → ℕ → Lane
 laneIn p l = getD (p .texts) l (holding [])
 
 unfoldable pub heldIn : Opening → Parts → Held
-heldIn o p = record { opening = o; trees = map (map (maskIn p)) (p .lists); texts = p .texts }
+heldIn o p = record { opening = o; trees = map (map (maskIn p)) (p .lists); lengths = p .branches; texts = p .texts }
 
 -- ---- the same of bytes
 
@@ -207,6 +235,9 @@ listAt s i = listIn (partsAt s) i
 
 abbrev pub treeAt : List ℕ → ℕ → List ℕ
 treeAt s i = treeIn (partsAt s) i
+
+abbrev pub branchesAt : List ℕ → ℕ → List Length
+branchesAt s i = branchesIn (partsAt s) i
 
 abbrev pub lengthAt : List ℕ → ℕ → ℕ
 lengthAt s l = lengthIn (partsAt s) l

@@ -20,13 +20,13 @@ use Rattle.trees.specs.Opening.{headBytes}
 use Rattle.trees.specs.Plain.{every}
 use Rattle.trees.specs.Mask.{proper}
 use Rattle.trees.specs.Hash.{identifier}
-use Rattle.trees.specs.Whole.{rising, agreeInPairs, goodOpening}
+use Rattle.trees.specs.Whole.{rising, agreeInPairs, goodLength, goodOpening}
 use Rattle.theorems.specs.ListLaws.{and-true, Mem, every-at, every-intro}
 use Rattle.theorems.specs.OpeningLaws.{both}
 use Rattle.head.specs.Head.{numbersAt, secondAt, openingAt}
-use Rattle.layout.specs.Store.{sizeAt, Parts, partsAt, splitsIn, treesIn, maskIn, masksIn, identifierIn, countIn, linkIn, startIn, orderIn, listIn, treeIn, treesHeldAt, splitsHeldAt, lengthAt, mostSplits, ranOverOpen}
+use Rattle.layout.specs.Store.{sizeAt, Parts, partsAt, splitsIn, treesIn, maskIn, masksIn, identifierIn, countIn, linkIn, startIn, orderIn, listIn, treeIn, treesHeldAt, splitsHeldAt, branchesAt, lengthAt, mostSplits, ranOverOpen}
 use Rattle.layout.specs.AllLaws.{all-at, all-intro}
-use Rattle.layout.specs.WholeStore.{allBelow, orderGood, identifierGood, splitsGood, listGood, listedIn, countGood, highestIn, linkGood, startGood, chainsGood, laneGood, wholeIn, goodHead, wholeAt, placeIn, goodSplits, goodChains}
+use Rattle.layout.specs.WholeStore.{allBelow, orderGood, identifierGood, splitsGood, listGood, listedIn, countGood, highestIn, linkGood, startGood, chainsGood, laneGood, branchesGood, wholeIn, goodHead, wholeAt, placeIn, goodSplits, goodChains}
 
 -- ---- the head
 
@@ -170,31 +170,35 @@ pub record WholeAt (s : List ℕ) : Type 0 where
   pub counts : (k : ℕ) → k < splitsHeldAt s → CountAt s k
   pub chains : ChainsAt s
   pub lanes : (l : ℕ) → l < numbersAt s .lanes → lengthAt s l ≤ ranOverOpen
+  pub branches : (i : ℕ) → i < treesHeldAt s → every goodLength (branchesAt s i) ≡ true
 
 pub whole-at-facts : (s : List ℕ) → wholeAt s ≡ true → WholeAt s
-unfolding wholeAt wholeIn openingAt laneGood
+unfolding wholeAt wholeIn openingAt laneGood branchesGood
 whole-at-facts s e =
     let p = partsAt s in
     let a = both (goodHead s) _ e in
     let b = both (goodSplits s) _ (a .1) in
     let c = both (allBelow (listGood p) (treesIn p)) _ (b .1) in
     let d = both (allBelow (countGood p) (splitsIn p)) _ (c .1) in
-    let f = both (goodChains s) (allBelow (laneGood p) (numbersAt s .lanes)) (d .1) in
+    let f = both (goodChains s) _ (d .1) in
+    let g = both (allBelow (laneGood p) (numbersAt s .lanes)) (allBelow (branchesGood p) (treesIn p)) (f .1) in
     record {
       head = head-facts s (a .0);
       splits = splits-facts _ _ p (b .0);
       lists = λ i h. list-facts p i (all-at (listGood p) (treesIn p) (c .0) i h);
       counts = λ k h. count-facts p k (all-at (countGood p) (splitsIn p) (d .0) k h);
       chains = chains-facts _ _ p (f .0);
-      lanes = λ l h. leb-true _ _ (all-at (laneGood p) (numbersAt s .lanes) (f .1) l h);
+      lanes = λ l h. leb-true _ _ (all-at (laneGood p) (numbersAt s .lanes) (g .0) l h);
+      branches = λ i h. all-at (branchesGood p) (treesIn p) (g .1) i h;
     }
 
 pub facts-whole-at : (s : List ℕ) → WholeAt s → wholeAt s ≡ true
-unfolding wholeAt wholeIn openingAt laneGood
+unfolding wholeAt wholeIn openingAt laneGood branchesGood
 facts-whole-at s w =
     let p = partsAt s in
     and-true (facts-head s (w .head))
     (and-true (facts-splits _ _ p (w .splits))
     (and-true (all-intro (listGood p) (treesIn p) (λ i h. facts-list p i (w .lists i h)))
     (and-true (all-intro (countGood p) (splitsIn p) (λ k h. facts-count p k (w .counts k h)))
-    (and-true (facts-chains _ _ p (w .chains)) (all-intro (laneGood p) (numbersAt s .lanes) (λ l h. le-leb _ _ (w .lanes l h)))))))
+    (and-true (facts-chains _ _ p (w .chains))
+    (and-true (all-intro (laneGood p) (numbersAt s .lanes) (λ l h. le-leb _ _ (w .lanes l h))) (all-intro (branchesGood p) (treesIn p) (w .branches)))))))

@@ -8,6 +8,7 @@
 --                      at its highest row, and each row's link leads to the next lower one of the place (ChainLaws: `met-exactly`,
 --                      `met-falls`)
 --   laneGood           "each lane's length is in range"
+--   branchesGood       "stored lengths to be finite and not minus zero"
 --   wholeIn o p        all of it, of the parts p under the opening o
 --   goodHead s         the head is in order
 --   wholeAt s          the lent bytes s are a whole collection
@@ -22,9 +23,9 @@ use Rattle.trees.specs.Mask.{proper}
 use Rattle.trees.specs.Opening.{Opening, headBytes}
 use Rattle.trees.specs.Consensus.{count}
 use Rattle.trees.specs.Hash.{place, identifier}
-use Rattle.trees.specs.Whole.{rising, agreeInPairs, goodOpening}
+use Rattle.trees.specs.Whole.{rising, agreeInPairs, goodLength, goodOpening}
 use Rattle.head.specs.Head.{numbersAt, firstAt, secondAt, openingAt}
-use Rattle.layout.specs.Store.{sizeAt, Parts, partsAt, splitsIn, treesIn, maskIn, masksIn, identifierIn, countIn, linkIn, startIn, orderIn, listIn, treeIn, lengthIn, treesHeldAt, splitsHeldAt, mostSplits, ranOverOpen}
+use Rattle.layout.specs.Store.{sizeAt, Parts, partsAt, splitsIn, treesIn, maskIn, masksIn, identifierIn, countIn, linkIn, startIn, orderIn, listIn, treeIn, branchesIn, lengthIn, treesHeldAt, splitsHeldAt, mostSplits, ranOverOpen}
 
 unfoldable pub allBelow : (ℕ → Bool) → ℕ → Bool
 allBelow p zero = true
@@ -94,15 +95,24 @@ chainsGood h places p = allBelow (linkGood h p) (splitsIn p) && allBelow (startG
 unfoldable pub laneGood : Parts → ℕ → Bool
 laneGood p l = leb (lengthIn p l) ranOverOpen
 
+-- ---- lengths
+
+-- "Whole now asks stored lengths to be finite and not minus zero"; a branch may have none
+unfoldable pub branchesGood : Parts → ℕ → Bool
+unfolding every goodLength
+branchesGood p i = every goodLength (branchesIn p i)
+
 -- ---- all of it
 
 unfoldable pub wholeIn : Opening → Parts → Bool
-unfolding splitsGood allBelow listGood countGood chainsGood place laneGood
+unfolding splitsGood allBelow listGood countGood chainsGood place laneGood branchesGood
 wholeIn o p =
     splitsGood (o .numbers .taxa) (o .second) p
     && (allBelow (listGood p) (treesIn p)
     && (allBelow (countGood p) (splitsIn p)
-    && (chainsGood (place (o .first) (o .numbers .places)) (o .numbers .places) p && allBelow (laneGood p) (o .numbers .lanes))))
+    && (chainsGood (place (o .first) (o .numbers .places)) (o .numbers .places) p
+    && (allBelow (laneGood p) (o .numbers .lanes)
+    && allBelow (branchesGood p) (treesIn p)))))
 
 -- the head is there and in order, and "the lent bytes reach the size of these numbers"; "rooms hold"
 unfoldable pub goodHead : List ℕ → Bool
@@ -156,3 +166,6 @@ goodChains s = chainsGood (placeIn s) (numbersAt s .places) (partsAt s)
 
 abbrev pub goodLaneAt : List ℕ → ℕ → Bool
 goodLaneAt s l = laneGood (partsAt s) l
+
+abbrev pub goodBranchesAt : List ℕ → ℕ → Bool
+goodBranchesAt s i = branchesGood (partsAt s) i

@@ -8,7 +8,7 @@ ghost use lib.ListN.{length};
 ghost use Rattle.trees.specs.Opening.{headBytes};
 ghost use Rattle.fields.specs.Field.{number};
 ghost use Rattle.head.specs.Head.{numbersAt};
-ghost use Rattle.layout.specs.Store.{treesHeldAt, splitsHeldAt, laneFrom, treeFrom, masksFrom, identifiersFrom, countsFrom, linksFrom, orderFrom, placesFrom};
+ghost use Rattle.layout.specs.Store.{treesHeldAt, splitsHeldAt, laneFrom, treeFrom, masksFrom, identifiersFrom, countsFrom, linksFrom, orderFrom, placesFrom, branchesFrom, lengthsFrom};
 use answers::Lane;
 use answers::Tree;
 
@@ -20,6 +20,9 @@ pub const LANE_BYTES: usize = 4616;
 
 // How many bytes a tree takes.
 pub const TREE_BYTES: usize = 128;
+
+// How many bytes the lengths of a tree take, where they are kept.
+pub const BRANCH_BYTES: usize = 512;
 
 // How many bytes a text has at most.
 pub const MOST_TEXT: usize = 4608;
@@ -124,6 +127,27 @@ pub fn places_from(s: &[u8]) -> usize
     ensures { λ r. ⌜ r < 2 ^ 30 ⌝ }
 {
     masks_from(s) + 24 * head::split_room(s) as usize
+}
+
+// Where the trees' lengths begin: behind the places.
+pub fn branches_from(s: &[u8]) -> usize
+    requires { ⌜ headBytes ≤ length (now s) ⌝ }
+    ensures { λ r. ⌜ r ≡ branchesFrom (numbersAt (now (s .entry))) ⌝ }
+    ensures { λ r. ⌜ r < 2 ^ 30 ⌝ }
+{
+    let splits = head::split_room(s) as usize;
+    let places = head::places(s) as usize;
+    masks_from(s) + 24 * splits + 2 * places
+}
+
+// Where the lengths of tree i begin.
+pub fn lengths_from(s: &[u8], i: Tree) -> usize
+    requires { ⌜ headBytes ≤ length (now s) ⌝ }
+    requires { ⌜ i .0 < 65536 ⌝ }
+    ensures { λ r. ⌜ r ≡ lengthsFrom (numbersAt (now (s .entry))) (i .0) ⌝ }
+    ensures { λ r. ⌜ r < 2 ^ 31 ⌝ }
+{
+    branches_from(s) + BRANCH_BYTES * i.0
 }
 
 // The number in the 2 bytes of s from at.

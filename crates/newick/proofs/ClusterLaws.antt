@@ -1,6 +1,5 @@
 -- The masks of a tree's inner nodes give the tree's splits: what they lack are single leaves, and what they have besides is the root.
 --
---   inners ns t        the masks of the inner nodes, children before their parents
 --   inners-clusters    the mask of an inner node is a cluster
 --   clusters-inners    a cluster is the mask of an inner node, or that of one leaf
 --   root-never         the root is no split
@@ -26,17 +25,12 @@ use Rattle.theorems.specs.RisingLaws.{rising-same}
 use Rattle.theorems.specs.OpeningLaws.{GoodOpening}
 use Rattle.theorems.specs.FewLaws.{nothing-never, leaf-never}
 use Rattle.theorems.specs.SplitLaws.{counted-mem, mem-counted, counted-rising}
+use Rattle.newick.specs.Splits.{inners}
 
 -- ---- the masks of the inner nodes
 
-unfoldable pub inners : List (List ℕ) → Nodes → List ℕ
-unfolding taxa
-inners ns nil = []
-inners ns (leaf w e r) = inners ns r
-inners ns (inner c e r) = inners ns c ++ (taxa ns c ∷ inners ns r)
-
 module _ (ns : List (List ℕ)) where
-  inners-clusters : (t : Nodes) (x : ℕ) → Mem x (inners ns t) → Mem x (clusters ns t)
+  pub inners-clusters : (t : Nodes) (x : ℕ) → Mem x (inners ns t) → Mem x (clusters ns t)
   unfolding inners clusters
   inners-clusters nil x h = h
   inners-clusters (leaf w l r) x h = inr (inners-clusters r x h)

@@ -1,11 +1,11 @@
--- The verdict on a text, over a prepared head: one law for each way out of `judge`, and what it asks of `gather_splits`.
+-- The verdict on a text, over a prepared head: one law for each way out of `read_tree` and `judge`.
 --
---   judged-none         the text is no tree
+--   read-none           the text is no tree
 --   summing-asks        it is one: the tokens of its first leaves lie in it
---   judged-wrong        a leaf is no taxon, or a taxon comes twice
---   judged-missing      a taxon is missing
---   gathering-asks      no leaf has a fault, and no taxon is missing: the spans are in order
---   judged-splits       and their splits are those of the text
+--   read-wrong          a leaf is no taxon, or a taxon comes twice
+--   read-missing        a taxon is missing
+--   read-sound          no leaf has a fault, and no taxon is missing: the spans are in order
+--   judged-faulty, judged-splits     the verdict; the splits of the spans are those of the text
 use Prim.Native.Nat.{ℕ, zero, suc, _+_, _*_, _^_, _≤_, _<_, min}
 use native.Mathlib.Omega.{arith}
 use native.Mathlib.Nat.{zero-add}
@@ -39,9 +39,12 @@ use Rattle.answers.specs.declared.Refusal.the-variants as why
 use Rattle.records.specs.Records.{wide, withRecords}
 use Rattle.head.specs.Head.{numbersAt, openingAt}
 use Rattle.newick.specs.Judge.{JudgedAs}
+use Rattle.newick.specs.Splits.{inners}
+use Rattle.newick.specs.Sound.{SoundTree, spanRoom, TreeRead}
+use Rattle.newick.specs.declared.Tree.{Tree}
+use Rattle.newick.specs.declared.Tree.the-variants.{Faulty, Sound}
 use Rattle.newick.specs.Shape.{spans, Shaped, ShapeRead}
-use Rattle.newick.specs.Chains.{Spans}
-use Rattle.newick.specs.Running.{labelsAt, labelTaxa, spanMasks, Running}
+use Rattle.newick.specs.Running.{labelsAt, labelTaxa, spanMasks}
 use Rattle.newick.specs.Leaves.{mostLeaves, Tokens, AllSummed, LeavesSummed}
 use Rattle.newick.specs.declared.Judged.the-variants.{Refused, Splits}
 use Rattle.newick.specs.declared.shape.Mark.{Mark}
@@ -64,10 +67,6 @@ faulty ns s t (suc k) h e f = rw e at (judged-step ns s) ∙ rw f at (tree-step 
 faultless : (ns : List (List ℕ)) (s : List ℕ) (t : Nodes) → reading s ≡ some t → leafFault ns 0 (leaves t) ≡ 0 → judged ns s ≡ gives (splitsOf ns t)
 faultless ns s t e f = rw e at (judged-step ns s) ∙ rw f at (tree-step ns t)
 
-unread-none : (o : Opening) (s u : List ℕ) → reading s ≡ none → JudgedAs o s (Refused why.BadForm) u u
-unfolding JudgedAs refusalNumber
-unread-none o s u e = (unread (o .names) s e, refl)
-
 some-number : (r : Refusal) → 0 < refusalNumber r
 unfolding refusalNumber
 some-number why.NotWhole = omega arith
@@ -86,6 +85,8 @@ some-number why.NoSuchNumber = omega arith
 some-number why.NoTrees = omega arith
 some-number why.BadBlock = omega arith
 some-number why.RepeatedKey = omega arith
+some-number why.InexactLength = omega arith
+some-number why.NoLength = omega arith
 
 -- leaves without a fault: their taxa are all taxa
 all-seen : (ns : List (List ℕ)) (t : Nodes) → leafFault ns 0 (leaves t) ≡ 0 → taxa ns t ≡ everyTaxon (length ns)
@@ -128,10 +129,9 @@ module _ (o : Opening) (g : GoodOpening o) (s l u : List ℕ) (t : Nodes) (k : �
   leaves-are : leaves t ≡ labelsAt s l k ++ drop k (leaves t)
   leaves-are = sym (ap (λ z. z ++ drop k (leaves t)) (first k (omega arith)) ∙ take-append-drop k (leaves t))
 
-  tree-wrong : (r : Refusal) → LeavesSummed o s l k u (Wrong r) → (v : List ℕ) → JudgedAs o s (Refused r) v v
-  unfolding JudgedAs LeavesSummed
-  tree-wrong r h v =
-      (faulty (o .names) s t (refusalNumber r) (some-number r) is-read (ap (leafFault (o .names) 0) leaves-are ∙ h (drop k (leaves t))), refl)
+  tree-wrong : (r : Refusal) → LeavesSummed o s l k u (Wrong r) → judged (o .names) s ≡ refused (refusalNumber r)
+  unfolding LeavesSummed
+  tree-wrong r h = faulty (o .names) s t (refusalNumber r) (some-number r) is-read (ap (leafFault (o .names) 0) leaves-are ∙ h (drop k (leaves t)))
 
   module _ (a : AllSummed o s l k u) where
     some-taxa : k ≤ 64
@@ -152,10 +152,8 @@ module _ (o : Opening) (g : GoodOpening o) (s l u : List ℕ) (t : Nodes) (k : �
         ∙ a .judged []
         ∙ ap₂ (λ (x n : ℕ). if eqb x (everyTaxon n) then 0 else 10) (sym (a .masked k (omega arith))) (g .named .count)
 
-    tree-missing : (getD u (wide * k) 0 ≡ everyTaxon (o .numbers .taxa) → ⊥) → (v : List ℕ) → JudgedAs o s (Refused why.MissingTaxon) v v
-    unfolding JudgedAs refusalNumber
-    tree-missing h v =
-        (faulty (o .names) s t 10 (omega arith) is-read (leaf-fault ∙ if-false 0 10 (ne-eqb (getD u (wide * k) 0) (everyTaxon (o .numbers .taxa)) h)), refl)
+    tree-missing : (getD u (wide * k) 0 ≡ everyTaxon (o .numbers .taxa) → ⊥) → judged (o .names) s ≡ refused 10
+    tree-missing h = faulty (o .names) s t 10 (omega arith) is-read (leaf-fault ∙ if-false 0 10 (ne-eqb (getD u (wide * k) 0) (everyTaxon (o .numbers .taxa)) h))
 
     module _ (every : getD u (wide * k) 0 ≡ everyTaxon (o .numbers .taxa)) (nodes nodes′ : List ℕ) (room : length nodes ≡ 128) (spanned : nodes′ ≡ sets nodes 0 (spans 0 t)) (n : ℕ) (nested : 2 * n ≡ length (spans 0 t)) where
       no-fault : leafFault (o .names) 0 (leaves t) ≡ 0
@@ -183,26 +181,28 @@ module _ (o : Opening) (g : GoodOpening o) (s l u : List ℕ) (t : Nodes) (k : �
           let b : length xs ≤ k = omega (arith, all-leaves, ap length e, length-append xs zs) in
           a .masked (length xs) b ∙ ap (labelTaxa (o .names)) (first (length xs) b ∙ ap (take (length xs)) e ∙ take-append-seam xs zs)
 
-      splits-are : counted (o .numbers .taxa) (spanMasks u nodes′ n) ≡ splitsOf (o .names) t
-      splits-are =
-          ap₂ counted (sym (g .named .count))
-          (ap (spanMasks u nodes′) count
+      tree-masks : spanMasks u nodes′ n ≡ inners (o .names) t
+      tree-masks =
+          ap (spanMasks u nodes′) count
           ∙ spans-inners (o .names) t u nodes′ (drop (0 + length (spans 0 t)) nodes) lie masked
-          (λ xs vs zs e. parts-apart (o .names) xs vs zs (ap (leafFault (o .names) 0) (sym e) ∙ no-fault)))
-          ∙ inners-splits o g (reading-sound s t is-read) (all-seen (o .names) t no-fault)
+          (λ xs vs zs e. parts-apart (o .names) xs vs zs (ap (leafFault (o .names) 0) (sym e) ∙ no-fault))
 
-      tree-splits : (i : ℕ) (v w : List ℕ)
-          → (i ≡ length (counted (o .numbers .taxa) (spanMasks u nodes′ n))) × (w ≡ withRecords o (counted (o .numbers .taxa) (spanMasks u nodes′ n)) v)
-          → JudgedAs o s (Splits i) v w
-      unfolding JudgedAs
-      tree-splits i v w p =
-          (counted (o .numbers .taxa) (spanMasks u nodes′ n), faultless (o .names) s t is-read no-fault ∙ ap gives (sym splits-are), p .0, p .1)
+      tree-sound : SoundTree o s k n u nodes′
+      tree-sound = record {
+        tree = t;
+        reads = is-read;
+        no-fault = no-fault;
+        sums = (some-taxa, a .running, every);
+        spans = (gathering-room, record { rises = λ j h. gathering-lies j h .0; within = λ j h. gathering-lies j h .1 });
+        masks = tree-masks;
+      }
 
 -- ---- by what was read of the text, over a head
 
 module _ (o : Opening) (s : List ℕ) (c : Mark) (tokens nodes tokens′ nodes′ : List ℕ) (h : ShapeRead s c tokens nodes tokens′ nodes′) where
-  pub judged-none : length s < c .at → (v : List ℕ) → JudgedAs o s (Refused why.BadForm) v v
-  judged-none b v = unread-none o s v (h .fault b)
+  pub read-none : length s < c .at → (u l l′ : List ℕ) → TreeRead o s (Faulty why.BadForm) u l l′
+  unfolding TreeRead refusalNumber
+  read-none b u l l′ = unread (o .names) s (h .fault b)
 
   module _ (room : length tokens ≡ 130) (b : c .at ≤ length s) (k : ℕ) (few : k ≡ min (c .leaves) mostLeaves) where
     tree : Nodes
@@ -222,30 +222,49 @@ module _ (o : Opening) (s : List ℕ) (c : Mark) (tokens nodes tokens′ nodes�
     summing-asks = let e = fewest in (omega arith, tokens-lie s tokens tokens′ (shaped .labels) (shaped .tokened) k (omega arith) (omega arith))
 
     module _ (g : GoodOpening o) (u : List ℕ) (f : Summed) (l : LeavesSummed o s tokens′ k u f) where
-      pub judged-wrong : (r : Refusal) → f ≡ Wrong r → (v : List ℕ) → JudgedAs o s (Refused r) v v
-      judged-wrong r e = tree-wrong o g s tokens′ u tree k (shaped .reads) fewest first r (subst (LeavesSummed o s tokens′ k u) e l)
+      pub read-wrong : (r : Refusal) → f ≡ Wrong r → (a b : List ℕ) → TreeRead o s (Faulty r) u a b
+      unfolding TreeRead
+      read-wrong r e a b = tree-wrong o g s tokens′ u tree k (shaped .reads) fewest first r (subst (LeavesSummed o s tokens′ k u) e l)
 
       module _ (e : f ≡ Distinct) where
         summed : AllSummed o s tokens′ k u
         unfolding LeavesSummed
         summed = rw e at l
 
-        pub judged-missing : (getD u (wide * k) 0 ≡ everyTaxon (o .numbers .taxa) → ⊥) → (v : List ℕ) → JudgedAs o s (Refused why.MissingTaxon) v v
-        judged-missing = tree-missing o g s tokens′ u tree k (shaped .reads) fewest first summed
+        pub read-missing : (getD u (wide * k) 0 ≡ everyTaxon (o .numbers .taxa) → ⊥) → (a b : List ℕ) → TreeRead o s (Faulty why.MissingTaxon) u a b
+        unfolding TreeRead refusalNumber
+        read-missing n a b = tree-missing o g s tokens′ u tree k (shaped .reads) fewest first summed n
 
-        module _ (every : getD u (wide * k) 0 ≡ everyTaxon (o .numbers .taxa)) (size : length nodes ≡ 128) where
-          pub gathering-asks : ((k ≤ 64) × Running o k u × (getD u (wide * k) 0 ≡ everyTaxon (o .numbers .taxa))) × (c .inner ≤ 64) × Spans k (c .inner) nodes′
-          gathering-asks =
-              let lies = gathering-lies o g s tokens′ u tree k (shaped .reads) fewest first summed every nodes nodes′ size (shaped .spanned) (c .inner) (shaped .nested) in (
-                (some-taxa o g s tokens′ u tree k (shaped .reads) fewest first summed, summed .running, every),
-                gathering-room o g s tokens′ u tree k (shaped .reads) fewest first summed every nodes nodes′ size (shaped .spanned) (c .inner) (shaped .nested),
-                record { rises = λ j a. lies j a .0; within = λ j a. lies j a .1 },
-              )
+        pub read-sound : getD u (wide * k) 0 ≡ everyTaxon (o .numbers .taxa) → TreeRead o s (Sound k (c .inner)) u nodes nodes′
+        unfolding TreeRead
+        read-sound every size = tree-sound o g s tokens′ u tree k (shaped .reads) fewest first summed every nodes nodes′ size (shaped .spanned) (c .inner) (shaped .nested)
 
-          pub judged-splits : (i : ℕ) (v w : List ℕ)
-              → (i ≡ length (counted (o .numbers .taxa) (spanMasks u nodes′ (c .inner)))) × (w ≡ withRecords o (counted (o .numbers .taxa) (spanMasks u nodes′ (c .inner))) v)
-              → JudgedAs o s (Splits i) v w
-          judged-splits = tree-splits o g s tokens′ u tree k (shaped .reads) fewest first summed every nodes nodes′ size (shaped .spanned) (c .inner) (shaped .nested)
+-- ---- from there to the verdict
+
+module _ (o : Opening) (s u l₀ l : List ℕ) (t : Tree) (p : TreeRead o s t u l₀ l) where
+  pub judged-faulty : (r : Refusal) → t ≡ Faulty r → (v : List ℕ) → JudgedAs o s (Refused r) v v
+  unfolding TreeRead JudgedAs
+  judged-faulty r e v = (subst (λ z. TreeRead o s z u l₀ l) e p, refl)
+
+  pub sound-read : (k n : ℕ) → t ≡ Sound k n → length l₀ ≡ spanRoom → SoundTree o s k n u l
+  unfolding TreeRead
+  sound-read k n e = subst (λ z. TreeRead o s z u l₀ l) e p
+
+module _ (o : Opening) (s u l : List ℕ) where
+  module _ (g : GoodOpening o) (k n : ℕ) (w : SoundTree o s k n u l) where
+    pub sound-splits : counted (o .numbers .taxa) (spanMasks u l n) ≡ splitsOf (o .names) (w .tree)
+    sound-splits =
+        ap₂ counted (sym (g .named .count)) (w .masks)
+        ∙ inners-splits o g (reading-sound s (w .tree) (w .reads)) (all-seen (o .names) (w .tree) (w .no-fault))
+
+    pub sound-judged : judged (o .names) s ≡ gives (splitsOf (o .names) (w .tree))
+    sound-judged = faultless (o .names) s (w .tree) (w .reads) (w .no-fault)
+
+    pub judged-splits : (i : ℕ) (v t : List ℕ)
+        → (i ≡ length (counted (o .numbers .taxa) (spanMasks u l n))) × (t ≡ withRecords o (counted (o .numbers .taxa) (spanMasks u l n)) v)
+        → JudgedAs o s (Splits i) v t
+    unfolding JudgedAs
+    judged-splits i v t p = (counted (o .numbers .taxa) (spanMasks u l n), sound-judged ∙ ap gives (sym sound-splits), p .0, p .1)
 
 pub every-taxon-here : (h : List ℕ) (n r : ℕ) → n ≡ numbersAt h .taxa → r ≡ everyTaxon n → r ≡ everyTaxon (openingAt h .numbers .taxa)
 unfolding openingAt

@@ -11,3 +11,10 @@ pub mod SpanLaws
 pub mod TokenLaws
 pub mod JudgeLaws
 pub mod ShapeLaws
+pub mod SymbolLaws
+pub mod NotingLaws
+pub mod TwiceLaws
+pub mod WordLaws
+pub mod EdgeWordLaws
+pub mod PlacedLaws
+pub mod JudgeLengthLaws

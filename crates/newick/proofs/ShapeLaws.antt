@@ -30,7 +30,7 @@ use Rattle.newick.specs.declared.shape.Mark.{Mark}
 
 -- ---- runs of stores
 
-sets-append : (vs l : List ℕ) (i : ℕ) (ws : List ℕ) → sets l i (vs ++ ws) ≡ sets (sets l i vs) (i + length vs) ws
+pub sets-append : (vs l : List ℕ) (i : ℕ) (ws : List ℕ) → sets l i (vs ++ ws) ≡ sets (sets l i vs) (i + length vs) ws
 sets-append [] l i ws = ap (λ (j : ℕ). sets l j ws) (sym (add-zero i))
 sets-append (v ∷ vs) l i ws = sets-append vs (set l i v) (suc i) ws ∙ ap (λ (j : ℕ). sets (sets (set l i v) (suc i) vs) j ws) (omega arith)
 
@@ -359,7 +359,7 @@ module _ (s : List ℕ) (d : ℕ) (c : Mark) (tokens nodes : List ℕ) where
 
 -- ---- a whole text
 
-symbols-none : (s : List ℕ) (i : ℕ) → length s ≤ i → symbolsAt s i ≡ []
+pub symbols-none : (s : List ℕ) (i : ℕ) → length s ≤ i → symbolsAt s i ≡ []
 unfolding ended
 symbols-none s i h = symbols-end s i h []
 

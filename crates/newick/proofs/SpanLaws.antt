@@ -28,9 +28,9 @@ use Rattle.theorems.specs.MaskLaws.{without-sub}
 use Rattle.theorems.specs.FewLaws.{width-beside, leaves-beside}
 use Rattle.records.specs.Records.{wide}
 use Rattle.newick.specs.Shape.{spans}
+use Rattle.newick.specs.Splits.{inners}
 use Rattle.newick.specs.Running.{labelTaxa, spanMasks}
 use Rattle.newick.proofs.LabelLaws.{taxa-append, leaves-taxa}
-use Rattle.newick.proofs.ClusterLaws.{inners}
 
 -- ---- how many they are
 

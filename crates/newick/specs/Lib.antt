@@ -3,4 +3,8 @@ pub mod Splits
 pub mod Running
 pub mod Leaves
 pub mod Chains
+pub mod Words
+pub mod Noting
+pub mod Placing
+pub mod Sound
 pub mod Judge

@@ -1,13 +1,14 @@
 // Reading a tree: the verdict on a text over an opening's names, and the records of an accepted text's splits: masks, places and
-// identifiers.
+// identifiers; where lengths are kept, the splits' lengths too.
 //
-// The contracts cite `specs/Judge.antt` (`Prepared`, `JudgedAs`); crate trees, `specs/Verdict.antt`, says
-// what `judged` is, and crate records, `specs/Records.antt`, what the records of splits are.
+// The contracts cite `specs/Judge.antt` (`Prepared`, `JudgedAs`, `JudgedWith`); crate trees, `specs/Verdict.antt`, says what `judged`
+// and `judgedWith` are, crate records, `specs/Records.antt`, what the records of splits are, and `specs/Words.antt` a length as a word.
 use answers::Refusal;
 use head::KEYS;
 use leaves::MOST_LEAVES;
 use leaves::SUMS;
 use leaves::Summed;
+use noting::MOST_LENGTHS;
 use shape::NODES;
 use shape::TOKENS;
 ghost use mathlib.Core.Path.{_≡_};
@@ -16,10 +17,14 @@ ghost use lib.ListN.{length};
 ghost use Rattle.trees.specs.Held.{mostText};
 ghost use Rattle.records.specs.Records.{mostWords};
 ghost use Rattle.head.specs.Head.{openingAt};
-ghost use Rattle.newick.specs.Judge.{Prepared, JudgedAs};
+ghost use Rattle.newick.specs.Words.{mostLengths};
+ghost use Rattle.newick.specs.Sound.{TreeRead};
+ghost use Rattle.newick.specs.Judge.{Prepared, JudgedAs, JudgedWith};
 
 mod leaves;
+mod noting;
 mod ordered;
+mod placing;
 mod shape;
 mod splits;
 
@@ -27,6 +32,12 @@ mod splits;
 pub enum Judged {
     Refused(Refusal),
     Splits(usize),
+}
+
+// What a text is: a fault of its form or of its leaves, or a tree with so many leaves and inner nodes.
+pub enum Tree {
+    Faulty(Refusal),
+    Sound(usize, usize),
 }
 
 // The verdict on a text, by the index of the names; the records of its splits stand at the front of a list.
@@ -42,25 +53,87 @@ pub fn judge(
     requires { ⌜ mostWords ≤ length (now records) ⌝ }
     ensures { λ r. ⌜ JudgedAs (openingAt (now (head .entry))) (now (text .entry)) r (now (records .entry)) (now (records .exit)) ⌝ }
 {
-    let mut tokens = [0u16; TOKENS];
+    let mut sums = [0u64; SUMS];
     let mut nodes = [0u16; NODES];
-    let c = shape::read_shape(text, &mut tokens, &mut nodes);
+    let t = read_tree(head, starts, links, text, &mut sums, &mut nodes);
+    match t {
+        Tree::Faulty(r) => Judged::Refused(r),
+        Tree::Sound(k, n) => {
+            Judged::Splits(ordered::gather_splits(head, k, &sums, n, &nodes, records))
+        }
+    }
+}
+
+// The verdict where lengths are kept; the lengths of the splits stand at the front of another list, in the order of the records.
+pub fn judge_lengths(
+    head: &[u8],
+    starts: &[u8; KEYS],
+    links: &[u8; 64],
+    text: &[u8],
+    records: &mut [u64],
+    lengths: &mut [u64],
+) -> Judged
+    requires { ⌜ Prepared (now head) (now starts) (now links) ⌝ }
+    requires { ⌜ length (now text) ≤ mostText ⌝ }
+    requires { ⌜ (mostWords ≤ length (now records)) × (mostLengths ≤ length (now lengths)) ⌝ }
+    ensures { λ r. ⌜ JudgedWith (openingAt (now (head .entry))) (now (text .entry)) r (now (records .entry)) (now (lengths .entry)) (now (records .exit)) (now (lengths .exit)) ⌝ }
+{
+    let mut sums = [0u64; SUMS];
+    let mut nodes = [0u16; NODES];
+    let t = read_tree(head, starts, links, text, &mut sums, &mut nodes);
+    match t {
+        Tree::Faulty(r) => Judged::Refused(r),
+        Tree::Sound(k, n) => {
+            let mut words = [0u64; MOST_LENGTHS];
+            if !noting::note_lengths(text, &mut words) {
+                return Judged::Refused(Refusal::InexactLength);
+            }
+            let s = ordered::gather_splits(head, k, &sums, n, &nodes, records);
+            placing::place_lengths(
+                head::taxa(head),
+                &sums,
+                n - 1,
+                &nodes,
+                &words,
+                s,
+                records,
+                lengths,
+            );
+            Judged::Splits(s)
+        }
+    }
+}
+
+// Reads a text up to its leaves: their running sums, and the spans of its inner nodes.
+fn read_tree(
+    head: &[u8],
+    starts: &[u8; KEYS],
+    links: &[u8; 64],
+    text: &[u8],
+    sums: &mut [u64; SUMS],
+    nodes: &mut [u16; NODES],
+) -> Tree
+    requires { ⌜ Prepared (now head) (now starts) (now links) ⌝ }
+    requires { ⌜ length (now text) ≤ mostText ⌝ }
+    ensures { λ r. ⌜ TreeRead (openingAt (now (head .entry))) (now (text .entry)) r (now (sums .exit)) (now (nodes .entry)) (now (nodes .exit)) ⌝ }
+{
+    let mut tokens = [0u16; TOKENS];
+    let c = shape::read_shape(text, &mut tokens, nodes);
     if text.len() < c.at {
-        return Judged::Refused(Refusal::BadForm);
+        return Tree::Faulty(Refusal::BadForm);
     }
     let k = fewer(c.leaves, MOST_LEAVES);
-    let mut sums = [0u64; SUMS];
-    let l = leaves::sum_leaves(head, starts, links, text, k, &tokens, &mut sums);
+    let l = leaves::sum_leaves(head, starts, links, text, k, &tokens, sums);
     match l {
-        Summed::Wrong(r) => Judged::Refused(r),
+        Summed::Wrong(r) => Tree::Faulty(r),
         Summed::Distinct => {
             if !masks::is_same(
-                records::mask_of(&sums, k),
+                records::mask_of(sums, k),
                 masks::every_taxon(head::taxa(head)),
             ) {
-                return Judged::Refused(Refusal::MissingTaxon);
+                return Tree::Faulty(Refusal::MissingTaxon);
             }
-            Judged::Splits(ordered::gather_splits(head, k, &sums, c.inner, &nodes, records))
+            Tree::Sound(k, c.inner)
         }
     }
 }

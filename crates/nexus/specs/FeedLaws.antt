@@ -20,6 +20,7 @@ use lib.Seq.{length-take-le, drop-drop, take-suc-set, drop-set-lt}
 use borrow.Author.Tests.{lt-ltb, le-ltb, ltb-true}
 use Rattle.trees.specs.Plain.{every, Answer, refused, gives}
 use Rattle.trees.specs.Opening.{Opening, storeSize}
+use Rattle.trees.specs.Verdict.{Branches}
 use Rattle.trees.specs.Held.{Held, holding, mostText, longer, verdict, finished, recording}
 use Rattle.trees.specs.Batch.{verdictNumber, isRefusal, noneAccepted, withVerdict}
 use Rattle.trees.specs.Nexus.{uncommented, Pair}
@@ -68,17 +69,17 @@ judges-hands s x n p r t h j =
     let e = verdict-is s x n p h in
     record {
       answer = j .answer ∙ ap (finished (heldAt s)) e;
-      holds = subst (λ (v : Answer (List ℕ)). Holds (recording (heldAt s) v) s t) e (j .holds);
+      holds = subst (λ (v : Answer Branches). Holds (recording (heldAt s) v) s t) e (j .holds);
       found = λ k q. j .found k (e ∙ q);
     }
 
-pub small-finished : (s : List ℕ) → wholeAt s ≡ true → (v : Answer (List ℕ)) → Small (finished (heldAt s) v)
+pub small-finished : (s : List ℕ) → wholeAt s ≡ true → (v : Answer Branches) → Small (finished (heldAt s) v)
 unfolding Small finished
 small-finished s w (refused k) = tt
 small-finished s w (gives t) = omega (arith, trees-length s, trees-few s (whole-at-facts s w .head))
 
 -- a verdict whose number is a refusal's
-refusal-only : (h : Held) (v : Answer (List ℕ)) → isRefusal (verdictNumber (finished h v)) ≡ true → (k : ℕ) × (v ≡ refused k)
+refusal-only : (h : Held) (v : Answer Branches) → isRefusal (verdictNumber (finished h v)) ≡ true → (k : ℕ) × (v ≡ refused k)
 unfolding verdictNumber finished
 refusal-only h (refused k) e = (k, refl)
 refusal-only h (gives t) e = absurd (omega (arith, ltb-true (256 + length (h .trees)) 256 e))
@@ -155,7 +156,7 @@ module _ (ps : List Pair) (f : List ℕ) (from n : ℕ) (s v t w : List ℕ) (at
       line-is : uncommented false (part (k .from) (k .end) f) ≡ next
       line-is = l .gives next later-ones next-read .1
 
-      verdict-there : Answer (List ℕ)
+      verdict-there : Answer Branches
       verdict-there = onText (heldAt t) (replaced ps next)
 
       judged-there : onText (heldAt t) (replaced ps (uncommented false (part (k .from) (k .end) f))) ≡ verdict-there

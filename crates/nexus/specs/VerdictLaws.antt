@@ -9,7 +9,7 @@ use mathlib.Core.List.{List}
 use lib.ListN.{take}
 use borrow.Author.Tests.{lt-ltb, le-ltb}
 use Rattle.trees.specs.Plain.{Answer, refused, gives}
-use Rattle.trees.specs.Verdict.{judged}
+use Rattle.trees.specs.Verdict.{Branches, judgedWith}
 use Rattle.trees.specs.Held.{overrun, holding, mostText, roomFor, withRoom, verdict, finished, recording, accepted}
 use Rattle.theorems.specs.ListLaws.{if-true, if-false}
 use Rattle.answers.specs.declared.Progress.{Progress}
@@ -23,22 +23,25 @@ use Rattle.recording.specs.Recording.{Accepts}
 use Rattle.nexus.specs.Verdicts.{laneWith, Judges}
 
 module _ (s text : List ℕ) (n : ℕ) where
-  abbrev verdictThere : Answer (List ℕ)
+  abbrev verdictThere : Answer Branches
   verdictThere = verdict (heldAt s) (laneWith n text)
+
+  abbrev judgedHere : Answer Branches
+  judgedHere = judgedWith (openingAt s .numbers .kept) (openingAt s .names) (take n text)
 
   pub text-over : mostText < n → verdictThere ≡ refused 6
   unfolding verdict
   text-over h = ap (verdict (heldAt s)) (if-true (overrun false) (holding (take n text)) (lt-ltb _ _ h))
 
-  text-fits : n ≤ mostText → verdictThere ≡ withRoom (heldAt s) (judged (openingAt s .names) (take n text))
+  text-fits : n ≤ mostText → verdictThere ≡ withRoom (heldAt s) judgedHere
   unfolding verdict heldIn
   text-fits h = ap (verdict (heldAt s)) (if-false (overrun false) (holding (take n text)) (le-ltb _ _ h))
 
-  pub text-refused : n ≤ mostText → (k : ℕ) → judged (openingAt s .names) (take n text) ≡ refused k → verdictThere ≡ refused k
+  pub text-refused : n ≤ mostText → (k : ℕ) → judgedHere ≡ refused k → verdictThere ≡ refused k
   unfolding withRoom
   text-refused h k e = text-fits h ∙ ap (withRoom (heldAt s)) e
 
-  pub text-room : n ≤ mostText → (x : List ℕ) → judged (openingAt s .names) (take n text) ≡ gives x → verdictThere ≡ roomFor (heldAt s) x
+  pub text-room : n ≤ mostText → (x : Branches) → judgedHere ≡ gives x → verdictThere ≡ roomFor (heldAt s) x
   unfolding withRoom
   text-room h x e = text-fits h ∙ ap (withRoom (heldAt s)) e
 
@@ -51,17 +54,17 @@ module _ (s text : List ℕ) (n : ℕ) where
       found = λ j q. refl;
     }
 
-    pub judges-room : (x y t : List ℕ) (r : Progress) → y ≡ x → verdictThere ≡ roomFor (heldAt s) x → Accepts (roomFor (heldAt s) y) s r t → Judges s text n r t
-    judges-room x y t r d v g = go (roomFor (heldAt s) x) refl (subst (λ (z : List ℕ). Accepts (roomFor (heldAt s) z) s r t) d g)
+    pub judges-room : (x y : Branches) (t : List ℕ) (r : Progress) → y ≡ x → verdictThere ≡ roomFor (heldAt s) x → Accepts (roomFor (heldAt s) y) s r t → Judges s text n r t
+    judges-room x y t r d v g = go (roomFor (heldAt s) x) refl (subst (λ (z : Branches). Accepts (roomFor (heldAt s) z) s r t) d g)
       where
-        go : (z : Answer (List ℕ)) → roomFor (heldAt s) x ≡ z → Accepts (roomFor (heldAt s) x) s r t → Judges s text n r t
+        go : (z : Answer Branches) → roomFor (heldAt s) x ≡ z → Accepts (roomFor (heldAt s) x) s r t → Judges s text n r t
         go (refused k) e q =
             unfold Accepts in
-            let p = subst (λ (z : Answer (List ℕ)). Accepts z s r t) e q in
+            let p = subst (λ (z : Answer Branches). Accepts z s r t) e q in
             subst (Judges s text n r) (sym (p .1)) (judges-refused r k (v ∙ e) (p .0))
         go (gives u) e q =
             unfold Accepts finished recording in
-            let p = subst (λ (z : Answer (List ℕ)). Accepts z s r t) e q in
+            let p = subst (λ (z : Answer Branches). Accepts z s r t) e q in
             record {
               answer = rw (v ∙ e) (p .0 ∙ ap (λ (m : ℕ). gives (accepted m)) (sym (trees-length s)));
               holds = rw (v ∙ e) (p .1);

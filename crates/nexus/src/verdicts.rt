@@ -1,12 +1,10 @@
 // The verdict on a plain text, handed whole to an empty lane, in a whole store whose names are indexed. No lane is touched.
 ghost use mathlib.Core.Path.{_≡_};
 ghost use mathlib.Core.Bool.{true};
-ghost use Prim.Native.Nat.{_≤_};
 ghost use lib.ListN.{length};
 ghost use Rattle.trees.specs.Held.{mostText};
 ghost use Rattle.head.specs.Head.{namesAt};
 ghost use Rattle.head.specs.Index.{Indexed};
-ghost use Rattle.layout.specs.Store.{ranOver};
 ghost use Rattle.layout.specs.WholeStore.{wholeAt};
 ghost use Rattle.nexus.specs.Verdicts.{Judges};
 use answers::Progress;
@@ -33,9 +31,10 @@ pub(crate) fn judge_text(
         return Progress::Refused(Refusal::TooLong);
     }
     let mut records = [0u64; MOST_WORDS];
-    let judged = newick::judge(s, starts, links, &text[..n], &mut records);
+    let mut lengths = [0u64; 64];
+    let judged = feeding::judge_text(s, starts, links, &text[..n], &mut records, &mut lengths);
     match judged {
         Judged::Refused(r) => Progress::Refused(r),
-        Judged::Splits(k) => recording::accept(s, k, &records),
+        Judged::Splits(k) => recording::accept(s, k, &records, &lengths),
     }
 }

@@ -1,12 +1,14 @@
 -- The laws of an opening's numbers and constants. Assumes nothing.
 --
---   size-least                 a store has at least its head
+--   flag-most                  whether lengths are kept is in its range
+--   size-least, size-kept, size-not-kept     a store has at least its head; its size with lengths and without
 --   failed, passed             what a test that the code negates says
 --   between-most               a number in its range is at most the most
 --   range-not-taxa, range-not-lanes, range-not-trees, range-not-splits, range-places     the ranges, one after another
 --   constants-not-first, constants-not-second, constants-below     the constants, one list after another
 --   every-none, every-more, every-not, every-all     a test of every member, as a loop makes it
 use Prim.Native.Nat.{ℕ, suc, _+_, _*_, _^_, _≤_, _<_}
+use native.Mathlib.Nat.{zero-mul, one-mul}
 use native.Mathlib.Numerals.{add-one}
 use native.Mathlib.Omega.{arith}
 use mathlib.Core.Path.{_≡_, refl, sym, ap, _∙_}
@@ -15,10 +17,11 @@ use mathlib.Core.List.{List, [], _∷_}
 use lib.Dec.{leb, ltb}
 use lib.ListN.{length, getD, drop, drop-of-length-le}
 use lib.Seq.{drop-cons}
-use borrow.Author.Tests.{leb-true, lt-ltb, eq-eqb, ne-eqb, not-true, not-false}
+use borrow.Author.Tests.{leb-true, le-leb, lt-ltb, eq-eqb, ne-eqb, not-true, not-false}
 use Rattle.trees.specs.Plain.{every}
-use Rattle.trees.specs.Opening.{Numbers, between, inRange, storeSize, goodConstants, mostRoom, headBytes}
+use Rattle.trees.specs.Opening.{Numbers, between, inRange, storeSize, goodConstants, mostRoom, headBytes, laneBytes, treeBytes, branchBytes}
 use Rattle.theorems.specs.ListLaws.{and-right}
+use Rattle.opening.specs.Given.{flagOf, numbersOf}
 
 -- ---- the size of a store
 
@@ -27,7 +30,28 @@ pub size-least : (x : Numbers) → headBytes ≤ storeSize x
 unfolding storeSize
 size-least x = omega arith
 
+pub flag-most : (b : Bool) → flagOf b ≤ 1
+unfolding flagOf
+flag-most true = omega arith
+flag-most false = omega arith
+
+-- as the code adds it up
+module _ (taxa lanes treeRoom splitRoom places : ℕ) (b : Bool) where
+  pub size-kept : b ≡ true
+      → headBytes + laneBytes * lanes + treeBytes * treeRoom + 24 * splitRoom + 2 * places + branchBytes * treeRoom ≡ storeSize (numbersOf taxa lanes treeRoom splitRoom places b)
+  unfolding storeSize flagOf
+  size-kept e = rw (e, one-mul treeRoom)
+
+  pub size-not-kept : b ≡ false
+      → headBytes + laneBytes * lanes + treeBytes * treeRoom + 24 * splitRoom + 2 * places ≡ storeSize (numbersOf taxa lanes treeRoom splitRoom places b)
+  unfolding storeSize flagOf
+  size-not-kept e = rw (e, zero-mul treeRoom) (omega arith)
+
 -- ---- the answer of a test
+
+and-last : (b : Bool) → (b && true) ≡ b
+and-last true = refl
+and-last false = refl
 
 module _ (r b : Bool) (e : r ≡ b) where
   pub failed : not r ≡ true → b ≡ false
@@ -61,9 +85,9 @@ module _ (x : Numbers) where
         unfolding inRange
         range-not-splits e = rw (a, b, d, e)
 
-        pub range-places : between 1 mostRoom (x .splitRoom) ≡ true → inRange x ≡ between 1 (2 * x .splitRoom) (x .places)
+        pub range-places : between 1 mostRoom (x .splitRoom) ≡ true → x .kept ≤ 1 → inRange x ≡ between 1 (2 * x .splitRoom) (x .places)
         unfolding inRange
-        range-places e = rw (a, b, d, e)
+        range-places e k = rw (a, b, d, e, le-leb _ _ k) (and-last (between 1 (2 * x .splitRoom) (x .places)))
 
 -- ---- a test of every member
 
@@ -106,7 +130,3 @@ module _ (x : Numbers) (first second : List ℕ) where
     constants-below q b =
         let w : every (λ c. ltb c (2 ^ 64)) second ≡ true = every-all _ second 0 (λ i. lt-ltb _ _ (b i)) in
         rw (eq-eqb _ _ p, eq-eqb _ _ q, w) (and-last (every (λ c. ltb c (x .places)) first))
-      where
-        and-last : (b : Bool) → (b && true) ≡ b
-        and-last true = refl
-        and-last false = refl

@@ -9,15 +9,15 @@ use Prim.Native.Nat.{ℕ}
 use mathlib.Core.List.{List}
 use Rattle.trees.specs.Opening.{Opening, headBytes}
 use Rattle.fields.specs.Run.{cleared}
-use Rattle.opening.specs.Writing.{puts, withNames, inOrder}
+use Rattle.opening.specs.Writing.{puts, withNames, withNumbers}
 
 unfoldable pub clear : List ℕ → List ℕ
 unfolding cleared
 clear s = cleared s 0 headBytes
 
 unfoldable pub numbered : List ℕ → Opening → List ℕ
-unfolding clear puts
-numbered s o = puts 2 (clear s) 0 (inOrder (o .numbers))
+unfolding clear withNumbers
+numbered s o = withNumbers (clear s) (o .numbers)
 
 unfoldable pub called : List ℕ → Opening → List ℕ
 unfolding numbered withNames

@@ -23,7 +23,7 @@ use Rattle.theorems.specs.ListLaws.{and-left, and-right}
 use Rattle.theorems.specs.NameLaws.{isName-short}
 use Rattle.theorems.specs.OpeningLaws.{in-range, constants, named, GoodOpening, first-below, second-below}
 use Rattle.fields.specs.Field.{number}
-use Rattle.fields.specs.FieldLaws.{number-same}
+use Rattle.fields.specs.FieldLaws.{put-length, put-outside, number-put, number-put-outside, number-same}
 use Rattle.fields.specs.Run.{cleared}
 use Rattle.fields.specs.RunLaws.{cleared-length, cleared-outside, number-cleared-inside}
 use Rattle.head.specs.Head.{numbersAt, nameAt, namesAt, firstAt, secondAt, openingAt}
@@ -31,7 +31,7 @@ use Rattle.head.specs.HeadLaws.{names-length as listed-names, first-length as l
 use Rattle.opening.specs.Given.{openingWith}
 use Rattle.opening.specs.Places.{Lies}
 use Rattle.opening.specs.PlacesLaws.{lies-name, lies-kept}
-use Rattle.opening.specs.Writing.{puts, withNames, inOrder}
+use Rattle.opening.specs.Writing.{puts, withNames, inOrder, withNumbers}
 use Rattle.opening.specs.HeadWriting.{clear, numbered, called, firsts, written}
 use Rattle.opening.specs.WritingLaws.{puts-length, puts-outside, number-puts-outside, puts-at, names-length, names-outside, names-lie}
 
@@ -60,11 +60,11 @@ module _ (o : Opening) (g : GoodOpening o) where
 
 -- ---- the calls that write it
 
-pub written-calls : (s t u v w z : List ℕ) (o : Opening) → t ≡ cleared s 0 headBytes → u ≡ puts 2 t 0 (inOrder (o .numbers))
+pub written-calls : (s t u v w z : List ℕ) (o : Opening) → t ≡ cleared s 0 headBytes → u ≡ withNumbers t (o .numbers)
     → v ≡ withNames u 0 (o .names) → w ≡ puts 2 v 2128 (o .first) → z ≡ puts 8 w 2256 (o .second) → z ≡ written s o
 unfolding written
 written-calls s t u v w z o a b d e f =
-    let p : u ≡ puts 2 (cleared s 0 headBytes) 0 (inOrder (o .numbers)) = b ∙ ap (λ (l : List ℕ). puts 2 l 0 (inOrder (o .numbers))) a in
+    let p : u ≡ withNumbers (cleared s 0 headBytes) (o .numbers) = b ∙ ap (λ (l : List ℕ). withNumbers l (o .numbers)) a in
     let q = d ∙ ap (λ (l : List ℕ). withNames l 0 (o .names)) p in
     f ∙ ap (λ (l : List ℕ). puts 8 l 2256 (o .second)) (e ∙ ap (λ (l : List ℕ). puts 2 l 2128 (o .first)) q)
 
@@ -78,9 +78,13 @@ module _ (s : List ℕ) (o : Opening) (g : GoodOpening o) (f : headBytes ≤ len
   unfolding clear
   clear-length = cleared-length s 0 headBytes
 
+  -- without the flag
+  abbrev five : List ℕ
+  five = puts 2 (clear s) 0 (inOrder (o .numbers))
+
   numbered-length : length (numbered s o) ≡ length s
-  unfolding numbered
-  numbered-length = puts-length 2 (inOrder (o .numbers)) (clear s) 0 ∙ clear-length
+  unfolding numbered withNumbers
+  numbered-length = put-length 2 five 14 (o .numbers .kept) ∙ puts-length 2 (inOrder (o .numbers)) (clear s) 0 ∙ clear-length
 
   called-length : length (called s o) ≡ length s
   unfolding called
@@ -118,20 +122,38 @@ module _ (s : List ℕ) (o : Opening) (g : GoodOpening o) (f : headBytes ≤ len
   numbers-below (suc (suc (suc (suc (suc i))))) = omega arith
 
   number-at : (i : ℕ) → i < 5 → number 2 (written s o) (0 + 2 * i) ≡ getD (inOrder (o .numbers)) i 0
-  unfolding numbered
+  unfolding numbered withNumbers
   number-at i h =
       let l = clear-length in
       number-same 2 _ (numbered s o) _ (0 + 2 * i) (λ j m. to-numbered (0 + 2 * i + j) (omega arith))
+      ∙ number-put-outside 2 2 five 14 (o .numbers .kept) (0 + 2 * i) (inl (omega arith))
       ∙ puts-at 2 (inOrder (o .numbers)) (clear s) 0 i (omega arith) numbers-below h
+
+  kept-at : number 2 (written s o) 14 ≡ o .numbers .kept
+  unfolding numbered withNumbers
+  kept-at =
+      let l = puts-length 2 (inOrder (o .numbers)) (clear s) 0 in
+      let m = clear-length in
+      let r = g .ranges in
+      number-same 2 _ (numbered s o) 14 14 (λ j m. to-numbered (14 + j) (omega arith)) ∙ number-put 2 five 14 (o .numbers .kept) (omega arith) (omega arith)
 
   numbers-read : numbersAt (written s o) ≡ o .numbers
   unfolding numbersAt
-  numbers-read = rw (number-at 0 (omega arith), number-at 1 (omega arith), number-at 2 (omega arith), number-at 3 (omega arith), number-at 4 (omega arith))
+  numbers-read =
+      rw (
+        number-at 0 (omega arith),
+        number-at 1 (omega arith),
+        number-at 2 (omega arith),
+        number-at 3 (omega arith),
+        number-at 4 (omega arith),
+        kept-at,
+      )
 
-  pub written-none : (a : ℕ) → 10 ≤ a → a + 2 ≤ 16 → number 2 (written s o) a ≡ 0
-  unfolding numbered clear
+  pub written-none : (a : ℕ) → 10 ≤ a → a + 2 ≤ 14 → number 2 (written s o) a ≡ 0
+  unfolding numbered withNumbers clear
   written-none a p q =
       number-same 2 _ (numbered s o) a a (λ j m. to-numbered (a + j) (omega arith))
+      ∙ number-put-outside 2 2 five 14 (o .numbers .kept) a (inl (omega arith))
       ∙ number-puts-outside 2 2 (inOrder (o .numbers)) (clear s) 0 a (inr (omega arith))
       ∙ number-cleared-inside s 0 headBytes 2 a (omega arith) (omega arith) (omega arith)
 
@@ -196,7 +218,7 @@ module _ (s : List ℕ) (o : Opening) (g : GoodOpening o) (f : headBytes ≤ len
   -- ---- the bytes behind the head
 
   byte-kept : (i : ℕ) → headBytes ≤ i → getD (written s o) i 0 ≡ getD s i 0
-  unfolding written firsts called numbered clear
+  unfolding written firsts called numbered withNumbers clear
   byte-kept i h =
       let r = g .ranges in
       let n = g .named .count in
@@ -205,6 +227,7 @@ module _ (s : List ℕ) (o : Opening) (g : GoodOpening o) (f : headBytes ≤ len
       puts-outside 8 (o .second) (firsts s o) 2256 i (inr (omega arith))
       ∙ puts-outside 2 (o .first) (called s o) 2128 i (inr (omega arith))
       ∙ names-outside (o .names) (numbered s o) 0 i short (inr (omega arith))
+      ∙ put-outside 2 five 14 (o .numbers .kept) i (inr (omega arith))
       ∙ puts-outside 2 (inOrder (o .numbers)) (clear s) 0 i (inr (omega arith))
       ∙ cleared-outside s 0 headBytes i (inr (omega arith))
 

@@ -3,7 +3,8 @@
 --   puts k s at vs       s with the numbers vs, k bytes each, one behind the other from at on
 --   withName s i w       s with the name w in place i
 --   withNames s i ws     s with the names ws in the places from i on
---   inOrder x            the five numbers in the order of the head
+--   inOrder x            the first five numbers in the order of the head
+--   withNumbers s x      s with the numbers x: five from 0 on, and behind those of trees and splits held whether lengths are kept
 use Prim.Native.Nat.{ℕ, suc, _+_, _*_}
 use mathlib.Core.List.{List, [], _∷_}
 use lib.ListN.{length, set}
@@ -28,3 +29,7 @@ withNames s i (w ∷ ws) = withNames (withName s i w) (suc i) ws
 
 abbrev pub inOrder : Numbers → List ℕ
 inOrder x = x .taxa ∷ x .lanes ∷ x .treeRoom ∷ x .splitRoom ∷ x .places ∷ []
+
+unfoldable pub withNumbers : List ℕ → Numbers → List ℕ
+unfolding puts put
+withNumbers s x = put 2 (puts 2 s 0 (inOrder x)) 14 (x .kept)

@@ -2,7 +2,7 @@
 --
 --   puts-length, puts-outside, number-puts-outside, puts-at     numbers put one behind the other
 --   puts-more, puts-all                 numbers as the loop puts them
---   numbers-put                         the five numbers as the code puts them
+--   numbers-put                         the numbers as the code puts them
 --   name-length, name-outside, name-lies     one name
 --   names-length, names-outside, names-lie   names in their places
 --   names-more, names-all               names as the loop writes them
@@ -24,7 +24,7 @@ use Rattle.fields.specs.RunLaws.{copied-length, copied-inside, copied-outside}
 use Rattle.head.specs.Head.{nameAt}
 use Rattle.opening.specs.Places.{Lies}
 use Rattle.opening.specs.PlacesLaws.{lies-kept}
-use Rattle.opening.specs.Writing.{puts, withName, withNames, inOrder}
+use Rattle.opening.specs.Writing.{puts, withName, withNames, withNumbers}
 
 -- ---- numbers, one behind the other
 
@@ -79,11 +79,11 @@ module _ (k : ℕ) where
   unfolding puts
   puts-all vs s at i h = rw (drop-of-length-le vs h)
 
--- the five numbers
-pub numbers-put : (s t u v w z : List ℕ) (x : Numbers) → t ≡ put 2 s 0 (x .taxa) → u ≡ put 2 t 2 (x .lanes) → v ≡ put 2 u 4 (x .treeRoom)
-    → w ≡ put 2 v 6 (x .splitRoom) → z ≡ put 2 w 8 (x .places) → z ≡ puts 2 s 0 (inOrder x)
-unfolding puts
-numbers-put s t u v w z x a b d e f = rw (f, e, d, b, a)
+-- the numbers
+pub numbers-put : (s t u v w y z : List ℕ) (x : Numbers) → t ≡ put 2 s 0 (x .taxa) → u ≡ put 2 t 2 (x .lanes) → v ≡ put 2 u 4 (x .treeRoom)
+    → w ≡ put 2 v 6 (x .splitRoom) → y ≡ put 2 w 8 (x .places) → z ≡ put 2 y 14 (x .kept) → z ≡ withNumbers s x
+unfolding withNumbers puts
+numbers-put s t u v w y z x a b d e f g = rw (g, f, e, d, b, a)
 
 -- ---- one name
 

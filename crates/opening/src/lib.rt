@@ -5,7 +5,7 @@
 // what is refused, and crate head, `specs/Head.antt`, how it lies in the bytes. The laws that callers
 // use stand in `GivenLaws`; `Walk` and `Writing` say what the functions between the public ones do.
 ghost use mathlib.Core.Path.{_≡_};
-ghost use mathlib.Core.Bool.{true};
+ghost use mathlib.Core.Bool.{Bool, true};
 ghost use Prim.Native.Nat.{ℕ, _≤_, _<_};
 ghost use lib.Dec.{ltb};
 ghost use lib.ListN.{length, getD, drop};
@@ -15,10 +15,11 @@ ghost use Rattle.trees.specs.Opening.{between, inRange, storeSize, goodConstant
 ghost use Rattle.theorems.specs.OpeningLaws.{InRange};
 ghost use Rattle.fields.specs.Field.{number};
 ghost use Rattle.head.specs.Head.{nameAt, openingAt};
-ghost use Rattle.opening.specs.Given.{numbersOf, openingWith};
+ghost use Rattle.opening.specs.Given.{flagOf, numbersOf, openingWith};
 ghost use Rattle.opening.specs.Places.{firstNames};
-ghost use Rattle.opening.specs.Writing.{puts, withName, withNames, inOrder};
+ghost use Rattle.opening.specs.Writing.{puts, withName, withNames, withNumbers};
 ghost use Rattle.opening.specs.HeadWriting.{written};
+use layout::BRANCH_BYTES;
 use layout::HEAD_BYTES;
 use layout::LANE_BYTES;
 use layout::MOST_ROOM;
@@ -31,7 +32,7 @@ pub use names::read_names;
 
 // Whether the numbers of an opening are in their ranges.
 pub fn numbers_in_range(taxa: u32, lanes: u32, tree_room: u32, split_room: u32, places: u32) -> bool
-    ensures { λ r. ⌜ r ≡ inRange (numbersOf taxa lanes «tree_room» «split_room» places) ⌝ }
+    ensures { λ r. ⌜ ((kept : Bool) → r ≡ inRange (numbersOf taxa lanes «tree_room» «split_room» places kept)) ⌝ }
 {
     if !is_between(4, 64, taxa) {
         return false;
@@ -59,21 +60,32 @@ fn is_between(least: u32, most: u32, x: u32) -> bool
 }
 
 // How many bytes a store of these numbers takes.
-pub fn store_size(taxa: u32, lanes: u32, tree_room: u32, split_room: u32, places: u32) -> usize
-    requires { ⌜ inRange (numbersOf taxa lanes «tree_room» «split_room» places) ≡ true ⌝ }
-    ensures { λ r. ⌜ r ≡ storeSize (numbersOf taxa lanes «tree_room» «split_room» places) ⌝ }
+pub fn store_size(
+    taxa: u32,
+    lanes: u32,
+    tree_room: u32,
+    split_room: u32,
+    places: u32,
+    kept: bool,
+) -> usize
+    requires { ⌜ inRange (numbersOf taxa lanes «tree_room» «split_room» places kept) ≡ true ⌝ }
+    ensures { λ r. ⌜ r ≡ storeSize (numbersOf taxa lanes «tree_room» «split_room» places kept) ⌝ }
 {
-    HEAD_BYTES
+    let size = HEAD_BYTES
         + LANE_BYTES * lanes as usize
         + TREE_BYTES * tree_room as usize
         + 24 * split_room as usize
-        + 2 * places as usize
+        + 2 * places as usize;
+    if kept {
+        return size + BRANCH_BYTES * tree_room as usize;
+    }
+    size
 }
 
 // Whether both lists are as long as there are taxa, and the first list's constants below the places.
 pub fn constants_good(places: u32, taxa: u32, first: &[u64], second: &[u64]) -> bool
-    ensures { λ r. ⌜ ((lanes treeRoom splitRoom : ℕ) →
-        r ≡ goodConstants (numbersOf taxa lanes treeRoom splitRoom places) (now (first .entry)) (now (second .entry))) ⌝ }
+    ensures { λ r. ⌜ ((lanes treeRoom splitRoom : ℕ) (kept : Bool) →
+        r ≡ goodConstants (numbersOf taxa lanes treeRoom splitRoom places kept) (now (first .entry)) (now (second .entry))) ⌝ }
 {
     let n = taxa as usize;
     if first.len() != n {
@@ -107,42 +119,63 @@ pub fn write_head(
     tree_room: u32,
     split_room: u32,
     places: u32,
+    kept: bool,
     names: &[u8],
     first: &[u64],
     second: &[u64],
 )
     requires { ⌜ headBytes ≤ length (now s) ⌝ }
-    requires { ⌜ inRange (numbersOf taxa lanes «tree_room» «split_room» places) ≡ true ⌝ }
-    requires { ⌜ goodConstants (numbersOf taxa lanes «tree_room» «split_room» places) (now first) (now second) ≡ true ⌝ }
+    requires { ⌜ inRange (numbersOf taxa lanes «tree_room» «split_room» places kept) ≡ true ⌝ }
+    requires { ⌜ goodConstants (numbersOf taxa lanes «tree_room» «split_room» places kept) (now first) (now second) ≡ true ⌝ }
     requires { ⌜ headBytes ≤ length (now names) ⌝ }
     requires { ⌜ goodNames taxa (firstNames taxa (now names)) ≡ true ⌝ }
     ensures { λ r. ⌜ now (s .exit) ≡ written (now (s .entry))
-        (openingWith (numbersOf taxa lanes «tree_room» «split_room» places) (firstNames taxa (now (names .entry))) (now (first .entry)) (now (second .entry))) ⌝ }
+        (openingWith (numbersOf taxa lanes «tree_room» «split_room» places kept) (firstNames taxa (now (names .entry))) (now (first .entry)) (now (second .entry))) ⌝ }
     ensures { λ r. ⌜ openingAt (now (s .exit))
-        ≡ openingWith (numbersOf taxa lanes «tree_room» «split_room» places) (firstNames taxa (now (names .entry))) (now (first .entry)) (now (second .entry)) ⌝ }
+        ≡ openingWith (numbersOf taxa lanes «tree_room» «split_room» places kept) (firstNames taxa (now (names .entry))) (now (first .entry)) (now (second .entry)) ⌝ }
     ensures { λ r. ⌜ number 2 (now (s .exit)) 10 ≡ 0 ⌝ }
     ensures { λ r. ⌜ number 2 (now (s .exit)) 12 ≡ 0 ⌝ }
     ensures { λ r. ⌜ drop headBytes (now (s .exit)) ≡ drop headBytes (now (s .entry)) ⌝ }
     ensures { λ r. ⌜ length (now (s .exit)) ≡ length (now (s .entry)) ⌝ }
 {
     fields::clear_run(s, 0, HEAD_BYTES);
-    write_numbers(s, taxa, lanes, tree_room, split_room, places);
+    write_numbers(s, taxa, lanes, tree_room, split_room, places, kept);
     write_names(s, names, taxa as usize);
     write_first(s, first);
     write_second(s, second);
 }
 
-// Writes the five numbers, two bytes each.
-fn write_numbers(s: &mut [u8], taxa: u32, lanes: u32, tree_room: u32, split_room: u32, places: u32)
+// Writes the numbers, two bytes each, and behind the places for how many trees and splits are held
+// whether lengths are kept.
+fn write_numbers(
+    s: &mut [u8],
+    taxa: u32,
+    lanes: u32,
+    tree_room: u32,
+    split_room: u32,
+    places: u32,
+    kept: bool,
+)
     requires { ⌜ headBytes ≤ length (now s) ⌝ }
-    requires { ⌜ InRange (numbersOf taxa lanes «tree_room» «split_room» places) ⌝ }
-    ensures { λ r. ⌜ now (s .exit) ≡ puts 2 (now (s .entry)) 0 (inOrder (numbersOf taxa lanes «tree_room» «split_room» places)) ⌝ }
+    requires { ⌜ InRange (numbersOf taxa lanes «tree_room» «split_room» places kept) ⌝ }
+    ensures { λ r. ⌜ now (s .exit) ≡ withNumbers (now (s .entry)) (numbersOf taxa lanes «tree_room» «split_room» places kept) ⌝ }
 {
     fields::put16(s, 0, taxa as u16);
     fields::put16(s, 2, lanes as u16);
     fields::put16(s, 4, tree_room as u16);
     fields::put16(s, 6, split_room as u16);
     fields::put16(s, 8, places as u16);
+    fields::put16(s, 14, flag(kept));
+}
+
+// 1 where lengths are kept, else 0.
+fn flag(kept: bool) -> u16
+    ensures { λ r. ⌜ r ≡ flagOf kept ⌝ }
+{
+    if kept {
+        return 1;
+    }
+    0
 }
 
 // Writes the first n names, each into its place.

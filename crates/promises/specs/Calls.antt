@@ -1,7 +1,7 @@
 -- Every kind of call on a collection, what the definitions answer, and their run of many calls. No proof stands here.
 --
 --   Question             what may be asked of a collection; a list is a lent buffer, as it is before the call
---   Reply                how it is answered: by a number or a split, and by the lent buffers as they are left
+--   Reply                how it is answered: by a number, a split, a double or three, and by the lent buffers as they are left
 --   reply h q            what the collection h answers to q
 --   Made                 a call: `one`, a feeding or a closing; `many`, a batch, with its lane, its piece and the lent buffer for its verdicts;
 --                        `file`, a NEXUS file, with the lent buffer for its verdicts; `ask`, a question; `reopen`, an opening that is refused, with its numbers, its name list and its constants
@@ -25,6 +25,7 @@ use mathlib.Core.Bool.{Bool, true, false}
 use mathlib.Core.List.{List, [], _∷_, _++_, map}
 use mathlib.Core.Option.{none, some}
 use lib.Dec.{ltb}
+use lib.Ieee.{Float}
 use lib.ListN.{length, take, drop}
 use Rattle.trees.specs.Plain.{if_then_else_, Answer, refused, gives}
 use Rattle.trees.specs.Text.{semicolon, beforeEnd}
@@ -35,7 +36,8 @@ use Rattle.trees.specs.Batch.{textsIn, Batched, batch}
 use Rattle.trees.specs.Nexus.{File}
 use Rattle.trees.specs.NexusReading.{readFile}
 use Rattle.trees.specs.NexusCall.{keysOf, plainTexts, nexus}
-use Rattle.trees.specs.Questions.{treesHeld, splitsHeld, splitList, splitNumber, treeNumber, oneSidedOf, doubledOf, matrixOf, collisionsOf, strictOf, majorityOf, bothOf, writtenOf}
+use Rattle.trees.specs.Sums.{Sums}
+use Rattle.trees.specs.Questions.{treesHeld, splitsHeld, splitList, splitNumber, treeNumber, oneSidedOf, doubledOf, matrixOf, collisionsOf, strictOf, majorityOf, bothOf, writtenOf, weightedOf, sumsOf}
 use Rattle.trees.specs.Runs.{Call, feed, hand, Heard, answer, next, Final, acceptedAs, refusedWith, finals}
 use Rattle.theorems.specs.Quiet.{Leaves}
 use Rattle.answers.specs.Filled.{lengthGiven, front, firstOf, secondOf, lengthsGiven}
@@ -56,6 +58,8 @@ pub data Question : Type 0 where
   majority : List ℕ → Question
   both : List ℕ → List ℕ → Question
   write-accepted : ℕ → List ℕ → Question
+  weighted : ℕ → ℕ → Question
+  split-lengths : ℕ → Question
 
 pub data Reply : Type 0 where
   number : Answer ℕ → Reply
@@ -63,6 +67,8 @@ pub data Reply : Type 0 where
   filled : Answer ℕ → List ℕ → Reply
   bothFilled : Answer ℕ → List ℕ → List ℕ → Reply
   eachFilled : Answer (ℕ × ℕ) → List ℕ → List ℕ → Reply
+  weight : Answer Float → Reply
+  sums : Answer Sums → Reply
 
 -- "Every written answer stands at its buffer's front; the rest of a longer buffer keeps its values"
 unfoldable pub fill : Answer (List ℕ) → List ℕ → Reply
@@ -79,7 +85,7 @@ unfolding lengthsGiven front firstOf secondOf
 fillEach x xs ys = eachFilled (lengthsGiven x) (front (firstOf x) xs) (front (secondOf x) ys)
 
 unfoldable pub reply : Held → Question → Reply
-unfolding fill fillBoth fillEach treesHeld splitsHeld splitList splitNumber treeNumber oneSidedOf doubledOf matrixOf collisionsOf strictOf majorityOf bothOf writtenOf
+unfolding fill fillBoth fillEach treesHeld splitsHeld splitList splitNumber treeNumber oneSidedOf doubledOf matrixOf collisionsOf strictOf majorityOf bothOf writtenOf weightedOf sumsOf
 reply h tree-count = number (treesHeld h)
 reply h split-count = number (splitsHeld h)
 reply h (one-split k) = split (splitNumber h k)
@@ -93,6 +99,9 @@ reply h (strict out) = fill (strictOf h (length out)) out
 reply h (majority out) = fill (majorityOf h (length out)) out
 reply h (both xs ys) = fillEach (bothOf h (length xs) (length ys)) xs ys
 reply h (write-accepted i out) = fill (writtenOf h i (length out)) out
+-- doubles, bit for bit
+reply h (weighted i j) = weight (weightedOf h i j)
+reply h (split-lengths k) = sums (sumsOf h k)
 
 -- ---- calls
 
@@ -235,6 +244,8 @@ isCollisions (ask (strict out)) = false
 isCollisions (ask (majority out)) = false
 isCollisions (ask (both xs ys)) = false
 isCollisions (ask (write-accepted i out)) = false
+isCollisions (ask (weighted i j)) = false
+isCollisions (ask (split-lengths k)) = false
 isCollisions (reopen x names first second) = false
 
 -- an answer to no call is none

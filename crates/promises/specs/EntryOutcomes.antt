@@ -2,7 +2,8 @@
 -- TextsOutcomes. Each theorem is over the function's own `Post`, and none asks anything of the arguments. Assumes nothing.
 --
 --   agree-once, is-whole-once                                     the tests
---   refusal-number-once, verdict-number-once, size-once, tree-count-once, split-count-once, one-split-once, one-sided-once, doubled-once, collisions-once
+--   refusal-number-once, verdict-number-once, size-once, tree-count-once, split-count-once, one-split-once, one-sided-once, doubled-once, weighted-once, split-lengths-once,
+--   collisions-once
 --                                                                 the questions without a buffer
 --   split-list-once, tree-splits-once, matrix-once, strict-once, majority-once, both-once, write-accepted-once
 --                                                                 the questions with one: the answer, and every element of the buffer
@@ -37,9 +38,11 @@ use Rattle.table.proofs.split_count.Reads as split-count
 use Rattle.table.proofs.one_split.Reads as one-split
 use Rattle.table.proofs.split_list.Reads as split-list
 use Rattle.table.proofs.tree_splits.Reads as tree-splits
+use Rattle.table.proofs.split_lengths.Reads as split-lengths
 use Rattle.comparing.proofs.one_sided.Reads as one-sided
 use Rattle.comparing.proofs.doubled.Reads as doubled
 use Rattle.comparing.proofs.matrix.Reads as matrix
+use Rattle.comparing.proofs.weighted.Reads as weighted
 use Rattle.comparing.proofs.collisions.Reads as collisions
 use Rattle.consensus.proofs.strict.Reads as strict
 use Rattle.consensus.proofs.majority.Reads as majority
@@ -47,8 +50,8 @@ use Rattle.consensus.proofs.both.Reads as both-trees
 use Rattle.consensus.proofs.write_accepted.Reads as write-accepted
 use Rattle.feeding.proofs.feed.Reads as feed
 use Rattle.feeding.proofs.close.Reads as close
-use Rattle.promises.specs.Once.{Once, AnswerOnce, arg1, arg2, arg3, arg4, arg5, arg6, arg7, arg8, arg9, SameStore, Free, nothing, lane, store, SameBut}
-use Rattle.promises.specs.Outcomes.{both, split-one, progress-one, finish-both, number-both, lengths-both, filled-both, holds-both, outside-both}
+use Rattle.promises.specs.Once.{Once, AnswerOnce, arg1, arg2, arg3, arg4, arg5, arg6, arg7, arg8, arg9, arg10, SameStore, Free, nothing, lane, store, SameBut}
+use Rattle.promises.specs.Outcomes.{both, split-one, weight-one, split-lengths-one, progress-one, finish-both, number-both, lengths-both, filled-both, holds-both, outside-both}
 
 -- ---- tests
 
@@ -83,6 +86,12 @@ one-sided-once k x q r y z a b = number-both q r a b
 
 pub doubled-once : AnswerOnce doubled.Post
 doubled-once k x q r y z a b = number-both q r a b
+
+pub weighted-once : AnswerOnce weighted.Post
+weighted-once k x q r y z a b = weight-one q r (both a b)
+
+pub split-lengths-once : AnswerOnce split-lengths.Post
+split-lengths-once k x q r y z a b = split-lengths-one q r (both a b)
 
 pub collisions-once : AnswerOnce collisions.Post
 collisions-once k x q r y z a b = number-both q r a b
@@ -123,8 +132,8 @@ opened-both (refused n) q r s t u a b = (finish-both q r (a .0) (b .0), both (a 
 opened-both (gives o) q r s t u a b = (finish-both q r (a .0) (b .0), holds-both (opened o) s t u (a .1) (b .1))
 
 pub open-once : Once open-call.Post
-    (λ x q r y z. (q ≡ r) × SameBut (openedFree (opening (numbersOf (arg2 x) (arg3 x) (arg4 x) (arg5 x) (arg6 x))
-    (now (arg7 x)) (now (arg8 x)) (now (arg9 x)) (length (now (arg1 x))))) (now (arg1 y)) (now (arg1 z)))
+    (λ x q r y z. (q ≡ r) × SameBut (openedFree (opening (numbersOf (arg2 x) (arg3 x) (arg4 x) (arg5 x) (arg6 x) (arg7 x))
+    (now (arg8 x)) (now (arg9 x)) (now (arg10 x)) (length (now (arg1 x))))) (now (arg1 y)) (now (arg1 z)))
 open-once k x q r y z a b = opened-both _ q r _ _ _ a b
 
 -- ---- feeding and closing

@@ -10,11 +10,11 @@
 --               open-after-once, is-plain-label-once, read-label-once, read-up-to-once
 --   words       decimal-once
 --   records     mask-of-once, place-of-once, identifier-of-once, insert-record-once, put-record-once
---   head        taxa-once, lanes-once, tree-room-once, split-room-once, places-once, first-constant-once, second-constant-once, find-
---               taxon-once, key-of-once, same-runs-once
+--   head        taxa-once, lanes-once, tree-room-once, split-room-once, places-once, kept-once, first-constant-once,
+--               second-constant-once, find-taxon-once, key-of-once, same-runs-once
 --   opening     numbers-in-range-once, constants-good-once, read-names-once, names-good-once, store-size-once, write-head-once
 --   layout      trees-held-once, splits-held-once, lane-from-once, tree-from-once, masks-from-once, identifiers-from-once, counts-
---               from-once, links-from-once, order-from-once, places-from-once, number16-once
+--               from-once, links-from-once, order-from-once, places-from-once, branches-from-once, lengths-from-once, number16-once
 --   rows        row-of-once, mask-at-once, identifier-at-once, count-at-once, link-at-once, start-at-once, rows-tree-from-once,
 --               splits-in-once, row-in-once, copy-tree-once
 --   lanes       lane-length-once, text-of-once, quotes-open-once, closing-answer-once
@@ -22,6 +22,7 @@
 --   colliding   collision-number-once
 --   consensus   write-strict-once, write-majority-once
 use mathlib.Core.Path.{_≡_}
+use mathlib.Core.Bool.{false}
 use denote.Ref.{now}
 use Rattle.fields.proofs.get16.Reads as get16
 use Rattle.fields.proofs.get32.Reads as get32
@@ -68,6 +69,7 @@ use Rattle.head.proofs.lanes.Reads as lanes
 use Rattle.head.proofs.tree_room.Reads as tree-room
 use Rattle.head.proofs.split_room.Reads as split-room
 use Rattle.head.proofs.places.Reads as places
+use Rattle.head.proofs.kept.Reads as kept
 use Rattle.head.proofs.first_constant.Reads as first-constant
 use Rattle.head.proofs.second_constant.Reads as second-constant
 use Rattle.head.proofs.find_taxon.Reads as find-taxon
@@ -89,6 +91,8 @@ use Rattle.layout.proofs.counts_from.Reads as counts-from
 use Rattle.layout.proofs.links_from.Reads as links-from
 use Rattle.layout.proofs.order_from.Reads as order-from
 use Rattle.layout.proofs.places_from.Reads as places-from
+use Rattle.layout.proofs.branches_from.Reads as branches-from
+use Rattle.layout.proofs.lengths_from.Reads as lengths-from
 use Rattle.layout.proofs.number16.Reads as number16
 use Rattle.rows.proofs.row_of.Reads as row-of
 use Rattle.rows.proofs.mask_at.Reads as mask-at
@@ -257,6 +261,9 @@ split-room-once k x q r y z a b = both (a .0) (b .0)
 pub places-once : AnswerOnce places.Post
 places-once k x q r y z a b = both (a .0) (b .0)
 
+pub kept-once : AnswerOnce kept.Post
+kept-once k x q r y z a b = both (a .0) (b .0)
+
 pub first-constant-once : AnswerOnce first-constant.Post
 first-constant-once k x q r y z a b = both (a .0) (b .0)
 
@@ -275,10 +282,10 @@ same-runs-once k x q r y z a b = both a b
 -- ---- opening
 
 pub numbers-in-range-once : AnswerOnce numbers-in-range.Post
-numbers-in-range-once k x q r y z a b = both a b
+numbers-in-range-once k x q r y z a b = both (a false) (b false)
 
 pub constants-good-once : AnswerOnce constants-good.Post
-constants-good-once k x q r y z a b = both (a 0 0 0) (b 0 0 0)
+constants-good-once k x q r y z a b = both (a 0 0 0 false) (b 0 0 0 false)
 
 pub read-names-once : AnswerOnce read-names.Post
 read-names-once k x q r y z a b = both (a .0) (b .0)
@@ -323,6 +330,12 @@ order-from-once k x q r y z a b = both (a .0) (b .0)
 
 pub places-from-once : AnswerOnce places-from.Post
 places-from-once k x q r y z a b = both (a .0) (b .0)
+
+pub branches-from-once : AnswerOnce branches-from.Post
+branches-from-once k x q r y z a b = both (a .0) (b .0)
+
+pub lengths-from-once : AnswerOnce lengths-from.Post
+lengths-from-once k x q r y z a b = both (a .0) (b .0)
 
 pub number16-once : AnswerOnce number16.Post
 number16-once k x q r y z a b = both (a .0) (b .0)

@@ -4,6 +4,7 @@
 --   find-slot-once                            where a mask goes in a rising list
 --   build-index-once                          the index of the names, in every entry that is used
 --   judge-once                                the verdict on a text, and the list of records
+--   judge-lengths-once, judge-text-once       the verdict where lengths are kept, and where they may be; both lists
 --   write-tree-once                           a tree written
 use Prim.Native.Nat.{ℕ, _≤_, _<_}
 use native.Mathlib.Omega.{arith}
@@ -13,7 +14,9 @@ use mathlib.Core.List.{List, [], _∷_, _++_}
 use lib.ListN.{length, getD, take, drop, List·getD-append}
 use lib.Seq.{length-take-le, getD-at, getD-take}
 use denote.Ref.{now}
+use Rattle.trees.specs.Plain.{Answer, refused, gives}
 use Rattle.trees.specs.Opening.{Opening}
+use Rattle.trees.specs.Verdict.{Branches, judgedWith}
 use Rattle.theorems.specs.ListLaws.{Mem, less-or-not}
 use Rattle.theorems.specs.RisingLaws.{Rising}
 use Rattle.answers.specs.Answers.{refusalNumber}
@@ -26,17 +29,21 @@ use Rattle.records.specs.declared.Slot.{Slot}
 use Rattle.records.specs.declared.Slot.the-variants.{Free, Taken}
 use Rattle.head.specs.Index.{keys}
 use Rattle.head.specs.Head.{namesAt}
-use Rattle.newick.specs.Judge.{JudgedAs}
+use Rattle.newick.specs.Words.{withWords}
+use Rattle.newick.specs.Judge.{JudgedAs, JudgedWith}
 use Rattle.newick.specs.declared.Judged.{Judged}
 use Rattle.newick.specs.declared.Judged.the-variants.{Refused, Splits}
+use Rattle.feeding.specs.Judging.{JudgedIn}
 use Rattle.writer.specs.Text.{Wrote}
 use Rattle.writer.specs.declared.Text.{Text}
 use Rattle.writer.specs.declared.Text.the-variants.{Bytes, TooShort}
 use Rattle.records.proofs.find_slot.Reads as find-slot
 use Rattle.head.proofs.build_index.Reads as build-index
 use Rattle.newick.proofs.judge.Reads as judge
+use Rattle.newick.proofs.judge_lengths.Reads as judge-lengths
+use Rattle.feeding.proofs.judge_text.Reads as judge-text
 use Rattle.writer.proofs.write_tree.Reads as write-tree
-use Rattle.promises.specs.Once.{Once, OnceIf, arg1, arg2, arg3, arg4, arg5}
+use Rattle.promises.specs.Once.{Once, OnceIf, arg1, arg2, arg3, arg4, arg5, arg6}
 use Rattle.promises.specs.Calls.{refusalIn}
 use Rattle.promises.specs.Outcomes.{refusal-one, valueOr, both}
 
@@ -101,6 +108,41 @@ judged-both o s (Splits j) (Splits k) u v w x y =
 
 pub judge-once : Once judge.Post (λ x q r y z. (q ≡ r) × (now (arg5 y) ≡ now (arg5 z)))
 judge-once k x q r y z a b = judged-both _ _ q r _ _ _ a b
+
+-- a text with its lengths, of which the verdict is j
+module _ (o : Opening) (j : Answer Branches) (u v : List ℕ) where
+  abbrev Given : Judged → List ℕ → List ℕ → Type 0
+  Given (Refused r) t w = (j ≡ refused (refusalNumber r)) × (t ≡ u) × (w ≡ v)
+  Given (Splits k) t w = (b : Branches) × (j ≡ gives b) × (k ≡ length (b .splits)) × (t ≡ withRecords o (b .splits) u) × (w ≡ withWords (b .lengths) v)
+
+  given-both : (q r : Judged) (t w x z : List ℕ) → Given q t w → Given r x z → (q ≡ r) × (t ≡ x) × (w ≡ z)
+  unfolding refusalIn valueOr
+  given-both (Refused m) (Refused n) t w x z a b = (ap Refused (refusal-one m n (ap refusalIn (sym (a .0) ∙ b .0))), both (a .1) (b .1), both (a .2) (b .2))
+  given-both (Refused m) (Splits n) t w x z a b = absurd (gives≢refused (b .0) (refusalNumber m) (sym (b .1) ∙ a .0))
+  given-both (Splits m) (Refused n) t w x z a b = absurd (gives≢refused (a .0) (refusalNumber n) (sym (a .1) ∙ b .0))
+  given-both (Splits m) (Splits n) t w x z a b =
+      let e : a .0 ≡ b .0 = ap (valueOr (a .0)) (sym (a .1) ∙ b .1) in (
+        ap Splits (a .2 ∙ ap (λ (c : Branches). length (c .splits)) e ∙ sym (b .2)),
+        a .3 ∙ ap (λ (c : Branches). withRecords o (c .splits) u) e ∙ sym (b .3),
+        a .4 ∙ ap (λ (c : Branches). withWords (c .lengths) v) e ∙ sym (b .4),
+      )
+
+module _ (o : Opening) (s u v t w : List ℕ) where
+  with-given : (q : Judged) → JudgedWith o s q u v t w → Given o (judgedWith 1 (o .names) s) u v q t w
+  unfolding JudgedWith
+  with-given (Refused r) a = a
+  with-given (Splits k) a = a
+
+  in-given : (q : Judged) → JudgedIn o s q u v t w → Given o (judgedWith (o .numbers .kept) (o .names) s) u v q t w
+  unfolding JudgedIn
+  in-given (Refused r) a = a
+  in-given (Splits k) a = a
+
+pub judge-lengths-once : Once judge-lengths.Post (λ x q r y z. (q ≡ r) × (now (arg5 y) ≡ now (arg5 z)) × (now (arg6 y) ≡ now (arg6 z)))
+judge-lengths-once k x q r y z a b = given-both _ _ _ _ q r _ _ _ _ (with-given _ _ _ _ _ _ q a) (with-given _ _ _ _ _ _ r b)
+
+pub judge-text-once : Once judge-text.Post (λ x q r y z. (q ≡ r) × (now (arg5 y) ≡ now (arg5 z)) × (now (arg6 y) ≡ now (arg6 z)))
+judge-text-once k x q r y z a b = given-both _ _ _ _ q r _ _ _ _ (in-given _ _ _ _ _ _ q a) (in-given _ _ _ _ _ _ r b)
 
 -- ---- a tree written
 

@@ -2,7 +2,8 @@
 --
 --   doubles     put-length-once, get-length-once, holds-length-once
 --   lengths     length-of-once
---   weighing    weighted-once, first-sum-once, add-sum-once
+--   weighing    weighing-weighted-once, first-sum-once, add-sum-once
+--   rows        length-in-once
 use mathlib.Core.Path.{_≡_, refl, sym, ap, subst}
 use mathlib.Core.Option.{Option, none, some}
 use lib.Ieee.{Float}
@@ -14,17 +15,15 @@ use Rattle.lengths.proofs.length_of.Reads as length-of
 use Rattle.weighing.proofs.weighted.Reads as weighted
 use Rattle.weighing.proofs.first_sum.Reads as first-sum
 use Rattle.weighing.proofs.add_sum.Reads as add-sum
-use Rattle.trees.specs.Sums.{Sums}
+use Rattle.rows.proofs.length_in.Reads as length-in
 use Rattle.doubles.specs.declared.Length.{Length}
 use Rattle.doubles.specs.declared.Length.the-variants.{Absent, Given}
 use Rattle.doubles.specs.Stored.{branchGiven}
 use Rattle.lengths.specs.declared.Value.{Value}
 use Rattle.lengths.specs.declared.Value.the-variants.{Outside, Inside}
 use Rattle.lengths.specs.Answer.{valueGiven}
-use Rattle.weighing.specs.declared.Lengths.{Lengths}
-use Rattle.weighing.specs.Summed.{sumsGiven}
 use Rattle.promises.specs.Once.{Once, AnswerOnce, arg1}
-use Rattle.promises.specs.Outcomes.{both}
+use Rattle.promises.specs.Outcomes.{sums-one, both}
 
 -- ---- answers that mean the same are the same
 
@@ -52,10 +51,6 @@ value-one Outside (Inside y) e = absurd (subst Some (sym e) tt)
 value-one (Inside x) Outside e = absurd (subst Some e tt)
 value-one (Inside x) (Inside y) e = ap (λ (o : Option Float). Inside (givenOr x o)) e
 
-sums-one : (a b : Lengths) → sumsGiven a ≡ sumsGiven b → a ≡ b
-unfolding sumsGiven
-sums-one a b e = λ i. record { shortest = e i .shortest; longest = e i .longest; sum = e i .sum }
-
 -- ---- doubles
 
 pub put-length-once : Once put-length.Post (λ x q r y z. now (arg1 y) ≡ now (arg1 z))
@@ -74,11 +69,16 @@ length-of-once k x q r y z a b = value-one q r (both a b)
 
 -- ---- weighing
 
-pub weighted-once : AnswerOnce weighted.Post
-weighted-once k x q r y z a b = both a b
+pub weighing-weighted-once : AnswerOnce weighted.Post
+weighing-weighted-once k x q r y z a b = both a b
 
 pub first-sum-once : AnswerOnce first-sum.Post
 first-sum-once k x q r y z a b = sums-one q r (both a b)
 
 pub add-sum-once : AnswerOnce add-sum.Post
 add-sum-once k x q r y z a b = sums-one q r (both a b)
+
+-- ---- the stored length of a tree's split
+
+pub length-in-once : AnswerOnce length-in.Post
+length-in-once k x q r y z a b = branch-one q r (both a b)

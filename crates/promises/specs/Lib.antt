@@ -19,6 +19,8 @@ pub mod SheetOutcomes
 pub mod TextsOutcomes
 pub mod EqualOutcomes
 pub mod LengthOutcomes
+pub mod NumberCallLaws
+pub mod NotKeptCallLaws
 pub mod ReadOutcomes
 pub mod InnerOutcomes
 pub mod StoreOutcomes

@@ -4,7 +4,9 @@
 --   Once Post Same        two outcomes that the promise allows on the same arguments are the same, as Same says
 --   OnceIf Pre Post Same  the same, of arguments that the `requires` allow
 --   AnswerOnce Post       they are equal in the answer; nothing else changes
---   arg1 .. arg9          the arguments
+--   AnswerIs Post P       every answer that the promise allows is as P says, of the arguments
+--   BothWays Post         two answers that it allows, the second argument and the third exchanged, are equal
+--   arg1 .. arg10         the arguments
 --   SameStore t u         two lent bytes are alike in whether they are whole, in what they hold, in how many they are, and in those past
 --                         the size
 --   Free                  what a call leaves free in the lent bytes: nothing, one lane's own bytes, or the store's
@@ -28,6 +30,12 @@ OnceIf {K} {A} {R} {E} Pre Post Same = (k : K) (x : A) (q r : R) (y z : E) → P
 
 abbrev pub AnswerOnce : {K A R E : Type 0} → (K → A → R → E → Type 0) → Type 0
 AnswerOnce Post = Once Post (λ x q r y z. q ≡ r)
+
+abbrev pub AnswerIs : {K A R E : Type 0} → (K → A → R → E → Type 0) → (A → R → Type 0) → Type 0
+AnswerIs {K} {A} {R} {E} Post P = (k : K) (x : A) (r : R) (y : E) → Post k x r y → P x r
+
+abbrev pub BothWays : {K S T R E : Type 0} → (K → S × (T × (T × Unit {0})) → R → E → Type 0) → Type 0
+BothWays {K} {S} {T} {R} {E} Post = (k : K) (s : S) (a b : T) (q r : R) (y z : E) → Post k (s, (a, (b, tt))) q y → Post k (s, (b, (a, tt))) r z → q ≡ r
 
 -- ---- arguments
 
@@ -57,6 +65,9 @@ arg8 x = x .1 .1 .1 .1 .1 .1 .1 .0
 
 abbrev pub arg9 : {A B C D E F G H I J : Type 0} → A × (B × (C × (D × (E × (F × (G × (H × (I × J)))))))) → I
 arg9 x = x .1 .1 .1 .1 .1 .1 .1 .1 .0
+
+abbrev pub arg10 : {A B C D E F G H I J K : Type 0} → A × (B × (C × (D × (E × (F × (G × (H × (I × (J × K))))))))) → J
+arg10 x = x .1 .1 .1 .1 .1 .1 .1 .1 .1 .0
 
 -- ---- lent bytes
 

@@ -1,7 +1,8 @@
 -- What two outcomes of a promise have in common, by what it says: the laws from which each promise's own theorem is a line or two.
 -- Assumes nothing.
 --
---   refusal-one, finish-one, number-one, lengths-one, split-one, progress-one     answers that mean the same are the same
+--   refusal-one, finish-one, number-one, lengths-one, split-one, weight-one, sums-one, split-lengths-one, progress-one     answers that mean the same
+--                                         are the same
 --   valueOr                               what an answer gives
 --   both                                  two that are equal to a third
 --   finish-both, number-both, lengths-both     two answers that mean the same third
@@ -25,11 +26,16 @@ use Rattle.answers.specs.declared.Number.{Number}
 use Rattle.answers.specs.declared.Number.the-variants as number
 use Rattle.answers.specs.declared.Recorded.{Recorded}
 use Rattle.answers.specs.declared.Recorded.the-variants as recorded
+use Rattle.answers.specs.declared.Weight.{Weight}
+use Rattle.answers.specs.declared.Weight.the-variants as weight
+use Rattle.answers.specs.declared.Lengths.{Lengths}
+use Rattle.answers.specs.declared.SplitLengths.{SplitLengths}
+use Rattle.answers.specs.declared.SplitLengths.the-variants as three
 use Rattle.answers.specs.declared.Progress.{Progress}
 use Rattle.answers.specs.declared.Progress.the-variants as progress
 use Rattle.answers.specs.declared.Both.{Both}
 use Rattle.answers.specs.declared.Both.the-variants as lengths
-use Rattle.answers.specs.Answers.{refusalNumber, finishGiven, numberGiven, bothGiven, splitGiven, progressGiven}
+use Rattle.answers.specs.Answers.{refusalNumber, finishGiven, numberGiven, bothGiven, splitGiven, weightGiven, sumsGiven, splitLengthsGiven, progressGiven}
 use Rattle.answers.specs.AnswerLaws.{gives≢refused}
 use Rattle.head.specs.Head.{openingAt}
 use Rattle.layout.specs.Store.{sizeAt, heldAt, heldIn}
@@ -58,7 +64,9 @@ refusalOf n =
     else if eqb n 13 then why.NoSuchNumber
     else if eqb n 14 then why.NoTrees
     else if eqb n 15 then why.BadBlock
-    else why.RepeatedKey
+    else if eqb n 16 then why.RepeatedKey
+    else if eqb n 17 then why.InexactLength
+    else why.NoLength
 
 numbered : (r : Refusal) → refusalOf (refusalNumber r) ≡ r
 unfolding refusalOf refusalNumber
@@ -78,6 +86,8 @@ numbered why.NoSuchNumber = refl
 numbered why.NoTrees = refl
 numbered why.BadBlock = refl
 numbered why.RepeatedKey = refl
+numbered why.InexactLength = refl
+numbered why.NoLength = refl
 
 pub refusal-one : (a b : Refusal) → refusalNumber a ≡ refusalNumber b → a ≡ b
 refusal-one a b e = sym (numbered a) ∙ ap refusalOf e ∙ numbered b
@@ -114,6 +124,24 @@ split-one (recorded.Refused r) (recorded.Refused q) e = ap recorded.Refused (ref
 split-one (recorded.Refused r) (recorded.Gives m c) e = absurd (gives≢refused (m, c) (refusalNumber r) (sym e))
 split-one (recorded.Gives m c) (recorded.Refused r) e = absurd (gives≢refused (m, c) (refusalNumber r) e)
 split-one (recorded.Gives m c) (recorded.Gives n d) e = ap (λ (x : ℕ × ℕ). recorded.Gives (x .0) (x .1)) (ap (valueOr (m, c)) e)
+
+pub weight-one : (a b : Weight) → weightGiven a ≡ weightGiven b → a ≡ b
+unfolding weightGiven refusalIn valueOr
+weight-one (weight.Refused r) (weight.Refused q) e = ap weight.Refused (refusal-one r q (ap refusalIn e))
+weight-one (weight.Refused r) (weight.Gives x) e = absurd (gives≢refused x (refusalNumber r) (sym e))
+weight-one (weight.Gives x) (weight.Refused r) e = absurd (gives≢refused x (refusalNumber r) e)
+weight-one (weight.Gives x) (weight.Gives y) e = ap weight.Gives (ap (valueOr x) e)
+
+pub sums-one : (a b : Lengths) → sumsGiven a ≡ sumsGiven b → a ≡ b
+unfolding sumsGiven
+sums-one a b e = λ i. record { shortest = e i .shortest; longest = e i .longest; sum = e i .sum }
+
+pub split-lengths-one : (a b : SplitLengths) → splitLengthsGiven a ≡ splitLengthsGiven b → a ≡ b
+unfolding splitLengthsGiven refusalIn valueOr
+split-lengths-one (three.Refused r) (three.Refused q) e = ap three.Refused (refusal-one r q (ap refusalIn e))
+split-lengths-one (three.Refused r) (three.Gives x) e = absurd (gives≢refused (sumsGiven x) (refusalNumber r) (sym e))
+split-lengths-one (three.Gives x) (three.Refused r) e = absurd (gives≢refused (sumsGiven x) (refusalNumber r) e)
+split-lengths-one (three.Gives x) (three.Gives y) e = ap three.Gives (sums-one x y (ap (valueOr (sumsGiven x)) e))
 
 treeOr0 : held.Progress → ℕ
 treeOr0 moreWanted = 0

@@ -2,7 +2,7 @@
 -- whole to an empty lane of a whole store over the same names, the same or another. Assumes nothing.
 --
 --   ReadBackAs u s n a t     feeding n bytes of a tree with the splits s to the lent bytes u answers a and leaves t: the tree is accepted,
---                            and is then the last, or is refused with 11 or 12, each exactly when there is no such room
+--                            and is then the last, without lengths, or is refused with 11 or 12, each exactly when there is no such room
 --   strict-reads-back, majority-reads-back, both-read-back, accepted-reads-back     so is what the calls write
 use Prim.Native.Nat.{ℕ, _<_}
 use native.Mathlib.Omega.{arith}
@@ -20,6 +20,7 @@ use Rattle.trees.specs.Held.{Held, holding, laneOf, Progress, accepted, feeding
 use Rattle.trees.specs.Questions.{ifRoom, ifTree, ifTrees, tree, strictOf, majorityOf, together, bothOf, writtenOf}
 use Rattle.trees.specs.Runs.{feed, fed, closedLane, answer, next}
 use Rattle.trees.specs.Whole.{goodTree}
+use Rattle.theorems.specs.Absent.{absent}
 use Rattle.theorems.specs.ReadBackLaws.{NoTreeRoom, NoSplitRoom, ReadBack, reads-back, strict-whole, majority-whole, tree-whole}
 use Rattle.answers.specs.Filled.{lengthGiven, front, firstOf, secondOf, lengthsGiven}
 use Rattle.answers.specs.AnswerLaws.{gives≢refused}
@@ -27,7 +28,7 @@ use Rattle.layout.specs.Store.{heldAt}
 use Rattle.layout.specs.WholeStore.{wholeAt}
 use Rattle.store.specs.HeldWholeLaws.{held-whole}
 use Rattle.store.specs.Lent.{Holds}
-use Rattle.promises.specs.Calls.{strict, majority, both, write-accepted, Reply, number, split, filled, bothFilled, eachFilled, fill, fillEach, reply, one, Told, heard, batched, replied, notOpened, told, after}
+use Rattle.promises.specs.Calls.{strict, majority, both, write-accepted, Reply, number, split, filled, bothFilled, eachFilled, weight, sums, fill, fillEach, reply, one, Told, heard, batched, replied, notOpened, told, after}
 use Rattle.promises.specs.Steps.{Asked, Step}
 use Rattle.promises.specs.StepLaws.{asked-follows, step-follows}
 use Rattle.promises.specs.Outcomes.{valueOr}
@@ -40,6 +41,8 @@ numberIn (split a) = refused 0
 numberIn (filled a out) = a
 numberIn (bothFilled a masks counts) = a
 numberIn (eachFilled a xs ys) = refused 0
+numberIn (weight a) = refused 0
+numberIn (sums a) = refused 0
 
 bufferIn : Reply → List ℕ
 bufferIn (number a) = []
@@ -47,6 +50,8 @@ bufferIn (split a) = []
 bufferIn (filled a out) = out
 bufferIn (bothFilled a masks counts) = masks
 bufferIn (eachFilled a xs ys) = xs
+bufferIn (weight a) = []
+bufferIn (sums a) = []
 
 -- what is given is the list ys
 abbrev Only : List ℕ → Answer (List ℕ) → Type 0
@@ -107,7 +112,10 @@ pub record ReadBackAs (u s : List ℕ) (n : ℕ) (a : Told) (t : List ℕ) : Typ
   pub eleven : (a ≡ heard (fed n (refused 11))) ↔ NoTreeRoom (heldAt u)
   pub twelve : (a ≡ heard (fed n (refused 12))) ↔ NoSplitRoom (heldAt u) s
   pub last-tree : a ≡ heard (fed n (gives (accepted (length (heldAt u .trees))))) → heldAt t .trees ≡ heldAt u .trees ++ s ∷ []
+  pub last-lengths : a ≡ heard (fed n (gives (accepted (length (heldAt u .trees)))))
+      → heldAt t .lengths ≡ heldAt u .lengths ++ absent (heldAt u .opening .numbers .kept) s ∷ []
   pub no-tree : (a ≡ heard (fed n (gives (accepted (length (heldAt u .trees))))) → ⊥) → heldAt t .trees ≡ heldAt u .trees
+  pub no-lengths : (a ≡ heard (fed n (gives (accepted (length (heldAt u .trees))))) → ⊥) → heldAt t .lengths ≡ heldAt u .lengths
 
 answerIn : Told → Answer Progress
 answerIn (heard (fed n a)) = a
@@ -133,7 +141,9 @@ module _ (s u : List ℕ) (w : wholeAt s ≡ true) (v : wholeAt u ≡ true) (nam
       eleven = ((λ e. r .eleven .0 (forth (refused 11) e)), λ e. back (refused 11) (r .eleven .1 e));
       twelve = ((λ e. r .twelve .0 (forth (refused 12) e)), λ e. back (refused 12) (r .twelve .1 e));
       last-tree = λ e. held ∙ r .last-tree (forth _ e);
+      last-lengths = λ e. lengths ∙ r .last-lengths (forth _ e);
       no-tree = λ e. held ∙ r .no-tree (λ d. e (back _ d));
+      no-lengths = λ e. lengths ∙ r .no-lengths (λ d. e (back _ d));
     }
       where
         r : ReadBack (heldAt u) c (length text) (feeding (heldAt u) l text)
@@ -144,6 +154,9 @@ module _ (s u : List ℕ) (w : wholeAt s ≡ true) (v : wholeAt u ≡ true) (nam
 
         held : heldAt t .trees ≡ feeding (heldAt u) l text .after .trees
         held = unfold after next in ap (λ (h : Held). h .trees) (f .0 .held)
+
+        lengths : heldAt t .lengths ≡ feeding (heldAt u) l text .after .lengths
+        lengths = unfold after next in ap (λ (h : Held). h .lengths) (f .0 .held)
 
         is : a ≡ heard (fed (length text) (feeding (heldAt u) l text .answer))
         is = unfold told answer in f .1 ∙ ap (λ (k : ℕ). heard (fed k (feeding (heldAt u) l text .answer))) (r .taken)

@@ -7,7 +7,7 @@
 --                             answer is the definitions'
 --   same-verdicts             the verdicts, those of a batch in their places, are those of the whole texts, handed in one after another
 --   same-verdicts-so-far      and so they are at any point of the run
---   same-trees                so are the trees
+--   same-trees, same-lengths  so are the trees and their lengths
 --   same-questions            a question at any point of the run is answered as the whole texts before it give, handed in one after another
 --   constants-do-not-show     two runs of the same calls, whose openings differ in the number of places and the constants alone, have the
 --                             same answers, but for the collision number
@@ -31,7 +31,7 @@ use Rattle.layout.specs.Store.{heldAt}
 use Rattle.layout.specs.WholeStore.{wholeAt}
 use Rattle.store.specs.Lent.{Holds}
 use Rattle.summary.specs.PartLaws.{holds-then}
-use Rattle.promises.specs.Calls.{Question, tree-count, split-count, one-split, split-list, tree-splits, one-sided, doubled, matrix, collisions, strict, majority, both, write-accepted, number, split, fill, fillBoth, fillEach, reply, Made, one, many, file, ask, reopen, Told, replied, told, after, toldAll, afterAll, handed, handedAll, verdictsTold, isCollisions, otherTold}
+use Rattle.promises.specs.Calls.{Question, tree-count, split-count, one-split, split-list, tree-splits, one-sided, doubled, matrix, collisions, strict, majority, both, write-accepted, weighted, split-lengths, number, split, weight, sums, fill, fillBoth, fillEach, reply, Made, one, many, file, ask, reopen, Told, replied, told, after, toldAll, afterAll, handed, handedAll, verdictsTold, isCollisions, otherTold}
 use Rattle.promises.specs.Steps.{Opens, Steps}
 use Rattle.promises.specs.BatchLaws.{after-handed, verdicts-handed, SameTexts, same-texts, handed-same, told-same}
 use Rattle.promises.specs.StepLaws.{opening-follows, step-follows, all-opening, steps-follow, told-lent}
@@ -93,6 +93,8 @@ module _ (h k : Held) (s : SameAnswers h k) where
   reply-same (majority out) c = ap (λ (x : Answer (List ℕ)). fill x out) (s .majority (length out))
   reply-same (both xs ys) c = ap (λ (x : Answer (List ℕ × List ℕ)). fillEach x xs ys) (s .both (length xs) (length ys))
   reply-same (write-accepted i out) c = ap (λ (x : Answer (List ℕ)). fill x out) (s .written i (length out))
+  reply-same (weighted i j) c = ap weight (s .weighted i j)
+  reply-same (split-lengths i) c = ap sums (s .sums i)
 
 -- ---- from one accepted opening on
 
@@ -124,11 +126,16 @@ module _ (x : Numbers) (names first second before s : List ℕ) (o : Opens x nam
     pub same-verdicts : verdictsTold as′ ≡ finals (answers begun (texts cs))
     same-verdicts = ap verdictsTold (run-follows .1) ∙ verdicts-whole cs
 
-    -- the trees too
+    -- the trees too, and their lengths
     pub same-trees : heldAt t .trees ≡ ending begun (texts cs) .trees
     same-trees =
         ap (λ (h : Held). h .trees) (run-follows .0 .held ∙ after-all cs begun)
         ∙ lanes-make-no-difference (openingOf x names first second) (handedAll begun cs) .1
+
+    pub same-lengths : heldAt t .lengths ≡ ending begun (texts cs) .lengths
+    same-lengths =
+        ap (λ (h : Held). h .lengths) (run-follows .0 .held ∙ after-all cs begun)
+        ∙ lanes-make-no-difference (openingOf x names first second) (handedAll begun cs) .2
 
   -- and so at any point of a run, behind the calls cs
   pub same-verdicts-so-far : (cs ds : List Made) (as′ : List Told) (t : List ℕ) → Steps s (cs ++ ds) as′ t
@@ -172,7 +179,9 @@ module _ (h k : Held) (s : Twins h k) where
           lanes = part-stays (λ y. y .numbers .lanes) h k cs (s .alike .lanes);
           treeRoom = part-stays (λ y. y .numbers .treeRoom) h k cs (s .alike .treeRoom);
           splitRoom = part-stays (λ y. y .numbers .splitRoom) h k cs (s .alike .splitRoom);
+          kept = part-stays (λ y. y .numbers .kept) h k cs (s .alike .kept);
           trees = r .trees;
+          lengths = r .lengths;
         };
         unfinished = r .texts;
       }
@@ -222,7 +231,10 @@ module _ (x : Numbers) (m : ℕ) (names first second first′ second′ before b
     (o : Opens x names first second before s) (o′ : Opens (withPlaces x m) names first′ second′ before′ s′) where
   twins-begun : Twins (opened (openingOf x names first second)) (opened (openingOf (withPlaces x m) names first′ second′))
   unfolding opened withPlaces
-  twins-begun = record { alike = record { names = refl; lanes = refl; treeRoom = refl; splitRoom = refl; trees = refl }; unfinished = refl }
+  twins-begun = record {
+    alike = record { names = refl; lanes = refl; treeRoom = refl; splitRoom = refl; kept = refl; trees = refl; lengths = refl };
+    unfinished = refl;
+  }
 
   pub constants-do-not-show : (cs : List Made) (as′ bs : List Told) (t t′ : List ℕ) → Steps s cs as′ t → Steps s′ cs bs t′
       → otherTold cs as′ ≡ otherTold cs bs

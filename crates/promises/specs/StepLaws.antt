@@ -20,7 +20,7 @@ use Rattle.trees.specs.Held.{Held, opened, feeding, closing}
 use Rattle.trees.specs.Held as held
 use Rattle.trees.specs.Batch.{Batched, batch}
 use Rattle.trees.specs.NexusCall.{nexus}
-use Rattle.trees.specs.Questions.{treesHeld, splitsHeld, splitList, splitNumber, treeNumber, oneSidedOf, doubledOf, matrixOf, collisionsOf, strictOf, majorityOf, bothOf, writtenOf}
+use Rattle.trees.specs.Questions.{treesHeld, splitsHeld, splitList, splitNumber, treeNumber, oneSidedOf, doubledOf, matrixOf, collisionsOf, strictOf, majorityOf, bothOf, writtenOf, weightedOf, sumsOf}
 use Rattle.trees.specs.Runs.{feed, hand, close, fed, closedLane, answer, next}
 use Rattle.theorems.specs.ListLaws.{by-test}
 use Rattle.theorems.specs.FeedingLaws.{feeding-by}
@@ -40,8 +40,8 @@ use Rattle.table.specs.Promises.{OpenedAs}
 use Rattle.feeding.specs.Feeding.{reached, fedOf, closedOf, batchOf, FedAs, ClosedAs, BatchedAs}
 use Rattle.nexus.specs.Fed.{nexusOf, NexusAs}
 use Rattle.summary.specs.PartLaws.{holds-then}
-use Rattle.promises.specs.Calls.{Question, tree-count, split-count, one-split, split-list, tree-splits, one-sided, doubled, matrix, collisions, strict, majority, both, write-accepted, Reply, number, split, filled, bothFilled, eachFilled, fill, fillBoth, fillEach, reply, Made, one, many, file, ask, reopen, Told, heard, batched, replied, notOpened, numbersIn, afterBatch, refusalIn, told, after, toldAll, afterAll, handed}
-use Rattle.promises.specs.Steps.{Asked, Opens, Step, Steps}
+use Rattle.promises.specs.Calls.{Question, tree-count, split-count, one-split, split-list, tree-splits, one-sided, doubled, matrix, collisions, strict, majority, both, write-accepted, weighted, split-lengths, Reply, number, split, filled, bothFilled, eachFilled, weight, sums, fill, fillBoth, fillEach, reply, Made, one, many, file, ask, reopen, Told, heard, batched, replied, notOpened, numbersIn, afterBatch, refusalIn, told, after, toldAll, afterAll, handed}
+use Rattle.promises.specs.Steps.{Asked, Opened, Opens, Step, Steps}
 use Rattle.promises.specs.BatchLaws.{after-handed}
 
 -- ---- openings
@@ -49,6 +49,10 @@ use Rattle.promises.specs.BatchLaws.{after-handed}
 module _ (x : Numbers) (names first second : List ℕ) where
   abbrev begun : Opening
   begun = openingOf x names first second
+
+  -- the numbers, with k for whether lengths are kept
+  abbrev keeping : ℕ → Numbers
+  keeping k = record { taxa = x .taxa; lanes = x .lanes; treeRoom = x .treeRoom; splitRoom = x .splitRoom; places = x .places; kept = k }
 
   -- what is accepted is what was given
   abbrev AsGiven : Answer Opening → Type 0
@@ -102,14 +106,18 @@ module _ (x : Numbers) (names first second : List ℕ) where
     accepted-opening r (refused j) g q e = absurd (gives≢refused tt j (sym e ∙ q .0))
     accepted-opening r (gives o) g q e = subst (λ (y : Opening). Holds (opened y) s t) g (q .1)
 
+    -- the numbers of the call's own arguments are these
+    opened-as : (r : Finish) → Opened x names first second s r t → OpenedAs (opening x names first second (length s)) r s t
+    opened-as r q = subst (λ (k : ℕ). OpenedAs (opening (keeping k) names first second (length s)) r s t) (q .1) (q .2)
+
     pub opening-follows : Opens x names first second s t → Holds (opened begun) s t
     unfolding Opens
-    opening-follows q = accepted-opening (q .0) (opening x names first second (length s)) (as-given (length s)) (q .1) (q .2)
+    opening-follows q = accepted-opening (q .0) (opening x names first second (length s)) (as-given (length s)) (opened-as (q .0) (q .1)) (q .2)
 
     reopened : (a : Told) → Step s (reopen x names first second) a t
         → (k : ℕ) × (opening x names first second (length s) ≡ refused k) × (t ≡ s) × (a ≡ notOpened k)
     unfolding Step
-    reopened a q = let r = refused-opening (q .0) (q .1) (opening x names first second (length s)) (q .2) (q .3) in (q .1, r .0, r .1, q .4)
+    reopened a q = let r = refused-opening (q .0) (q .1) (opening x names first second (length s)) (opened-as (q .0) (q .2)) (q .3) in (q .1, r .0, r .1, q .4)
 
     -- "All lent memory stays as found"
     pub refusal-changes-nothing : (a : Told) → Step s (reopen x names first second) a t → t ≡ s
@@ -149,6 +157,8 @@ module _ (s : List ℕ) (w : wholeAt s ≡ true) where
       ∙ ap (λ (y : Answer (List ℕ × List ℕ)). fillEach y m c) (when-whole s (λ h. bothOf h (length m) (length c)) w)
   asked-follows (write-accepted i o) a x =
       x .3 ∙ filled-is _ _ (when-whole s (λ h. writtenOf h i (length o)) w) (x .0) o (x .1) (x .2 .0) (x .2 .1)
+  asked-follows (weighted i j) a x = x .2 ∙ ap weight (x .1 ∙ when-whole s (λ h. weightedOf h i j) w)
+  asked-follows (split-lengths k) a x = x .2 ∙ ap sums (x .1 ∙ when-whole s (λ h. sumsOf h k) w)
 
 -- ---- feeding and closing
 

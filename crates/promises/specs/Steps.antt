@@ -9,6 +9,7 @@
 --   Opens x names first second before s     an opening may be accepted in the bytes `before` and leave s
 use Prim.Native.Nat.{ℕ}
 use mathlib.Core.Path.{_≡_}
+use mathlib.Core.Bool.{Bool}
 use mathlib.Core.List.{List, [], _∷_}
 use denote.Ref.{RefT}
 use Rattle.trees.specs.Plain.{refused, gives}
@@ -19,16 +20,21 @@ use Rattle.answers.specs.declared.Finish.{Finish}
 use Rattle.answers.specs.declared.Number.{Number}
 use Rattle.answers.specs.declared.Recorded.{Recorded}
 use Rattle.answers.specs.declared.Both.{Both}
-use Rattle.answers.specs.Answers.{finishGiven, numberGiven, bothGiven, splitGiven, progressGiven}
+use Rattle.answers.specs.declared.Weight.{Weight}
+use Rattle.answers.specs.declared.SplitLengths.{SplitLengths}
+use Rattle.answers.specs.Answers.{finishGiven, numberGiven, bothGiven, splitGiven, weightGiven, splitLengthsGiven, progressGiven}
+use Rattle.opening.specs.Given.{flagOf}
 use Rattle.table.proofs.«open».Reads as opens
 use Rattle.table.proofs.tree_count.Reads as treeCount
 use Rattle.table.proofs.split_count.Reads as splitCount
 use Rattle.table.proofs.one_split.Reads as oneSplit
 use Rattle.table.proofs.split_list.Reads as splitList
 use Rattle.table.proofs.tree_splits.Reads as treeSplits
+use Rattle.table.proofs.split_lengths.Reads as splitLengths
 use Rattle.comparing.proofs.one_sided.Reads as oneSided
 use Rattle.comparing.proofs.doubled.Reads as doubles
 use Rattle.comparing.proofs.matrix.Reads as matrices
+use Rattle.comparing.proofs.weighted.Reads as weighs
 use Rattle.comparing.proofs.collisions.Reads as colliding
 use Rattle.consensus.proofs.strict.Reads as stricts
 use Rattle.consensus.proofs.majority.Reads as majorities
@@ -38,7 +44,7 @@ use Rattle.feeding.proofs.feed.Reads as feeds
 use Rattle.feeding.proofs.close.Reads as closes
 use Rattle.feeding.proofs.batch.Reads as batches
 use Rattle.nexus.proofs.feed_file.Reads as files
-use Rattle.promises.specs.Calls.{Question, tree-count, split-count, one-split, split-list, tree-splits, one-sided, doubled, matrix, collisions, strict, majority, both, write-accepted, Reply, number, split, filled, bothFilled, eachFilled, Made, one, many, file, ask, reopen, Told, heard, batched, replied, notOpened}
+use Rattle.promises.specs.Calls.{Question, tree-count, split-count, one-split, split-list, tree-splits, one-sided, doubled, matrix, collisions, strict, majority, both, write-accepted, weighted, split-lengths, Reply, number, split, filled, bothFilled, eachFilled, weight, sums, Made, one, many, file, ask, reopen, Told, heard, batched, replied, notOpened}
 
 abbrev pub lent : List ℕ → RefT (List ℕ)
 lent s = record { ptr = (0, 0); name = 0; now = s }
@@ -54,7 +60,7 @@ Fills post a = (r : Number) × (out : List ℕ) × post r out × (a ≡ filled (
 
 -- the store is lent to be read, the buffers to be written
 unfoldable pub Asked : List ℕ → Question → Reply → Type 0
-unfolding numberGiven bothGiven splitGiven
+unfolding numberGiven bothGiven splitGiven weightGiven splitLengthsGiven
 Asked s tree-count = Counts (λ r. treeCount.Post ([], tt) (lent s, tt) r (lent s, tt))
 Asked s split-count = Counts (λ r. splitCount.Post ([], tt) (lent s, tt) r (lent s, tt))
 Asked s (one-split k) = λ a.
@@ -79,16 +85,23 @@ Asked s (both m c) = λ a.
     × (a ≡ eachFilled (bothGiven r) m′ c′)
 Asked s (write-accepted i o) =
     Fills (λ r o′. writes.Post ([], ([], tt)) (lent s, (record { 0 = i }, (lent o, tt))) r (lent s, (record { 0 = i }, (lent o′, tt))))
+Asked s (weighted i j) = λ a.
+    (r : Weight) × weighs.Post ([], tt) (lent s, (record { 0 = i }, (record { 0 = j }, tt))) r (lent s, (record { 0 = i }, (record { 0 = j }, tt)))
+    × (a ≡ weight (weightGiven r))
+Asked s (split-lengths k) = λ a.
+    (r : SplitLengths) × splitLengths.Post ([], tt) (lent s, (record { 0 = k }, tt)) r (lent s, (record { 0 = k }, tt)) × (a ≡ sums (splitLengthsGiven r))
 
 -- ---- openings
 
--- what opening with these arguments may answer of the bytes s, and leave
-abbrev Opened : Numbers → List ℕ → List ℕ → List ℕ → List ℕ → Finish → List ℕ → Type 0
+-- what opening with these arguments may answer of the bytes s, and leave; whether lengths are kept is a bool, so no call is made of numbers
+-- with another `kept` than 0 or 1
+abbrev pub Opened : Numbers → List ℕ → List ℕ → List ℕ → List ℕ → Finish → List ℕ → Type 0
 Opened x names first second s r t =
-    opens.Post ([], ([], ([], ([], tt))))
-    (lent s, (x .taxa, (x .lanes, (x .treeRoom, (x .splitRoom, (x .places, (lent names, (lent first, (lent second, tt)))))))))
+    (kept : Bool) × (flagOf kept ≡ x .kept)
+    × opens.Post ([], ([], ([], ([], tt))))
+    (lent s, (x .taxa, (x .lanes, (x .treeRoom, (x .splitRoom, (x .places, (kept, (lent names, (lent first, (lent second, tt))))))))))
     r
-    (lent t, (x .taxa, (x .lanes, (x .treeRoom, (x .splitRoom, (x .places, (lent names, (lent first, (lent second, tt)))))))))
+    (lent t, (x .taxa, (x .lanes, (x .treeRoom, (x .splitRoom, (x .places, (kept, (lent names, (lent first, (lent second, tt))))))))))
 
 unfoldable pub Opens : Numbers → List ℕ → List ℕ → List ℕ → List ℕ → List ℕ → Type 0
 unfolding finishGiven

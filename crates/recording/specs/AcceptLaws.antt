@@ -18,7 +18,9 @@ use Rattle.trees.specs.Plain.{if_then_else_, every, Answer, refused, gives}
 use Rattle.trees.specs.Mask.{proper}
 use Rattle.trees.specs.Consensus.{count}
 use Rattle.trees.specs.Opening.{storeSize}
-use Rattle.trees.specs.Held.{newSplits, roomFor, withTree, accepted}
+use Rattle.trees.specs.Value.{Length}
+use Rattle.trees.specs.Verdict.{Branches}
+use Rattle.trees.specs.Held.{Held, newSplits, roomFor, withTree, accepted}
 use Rattle.trees.specs.Whole.{rising, goodTree}
 use Rattle.theorems.specs.ListLaws.{and-left, and-right, Mem, mem-member, less-or-not, mem-getD}
 use Rattle.theorems.specs.LackingLaws.{lacking-mem}
@@ -28,41 +30,43 @@ use Rattle.answers.specs.Answers.{progressGiven}
 use Rattle.records.specs.Records.{masksOf}
 use Rattle.records.specs.RecordLaws.{masks-length, masks-at}
 use Rattle.head.specs.Head.{numbersAt, openingAt}
-use Rattle.layout.specs.Store.{sizeAt, partsAt, maskIn, countIn, treesHeldAt, splitsHeldAt, masksAt, heldAt}
+use Rattle.layout.specs.Store.{sizeAt, branchesOf, partsAt, maskIn, countIn, treesHeldAt, splitsHeldAt, masksAt, heldAt}
+use Rattle.layout.specs.StoreLaws.{lengths-length}
 use Rattle.layout.specs.WholeStore.{listedIn, wholeAt}
 use Rattle.layout.specs.WholeFacts.{HeadAt, whole-at-facts}
-use Rattle.layout.specs.Sound.{parts-whole}
+use Rattle.layout.specs.Sound.{Sound, parts-whole}
 use Rattle.layout.specs.UpToLaws.{length-map, map-at, mem-at, one-more, oneIf}
 use Rattle.layout.specs.OrderLaws.{mask-same}
 use Rattle.layout.specs.OpeningKeptLaws.{numbers-held, size-held}
 use Rattle.store.specs.RecordedAtLaws.{trees-length, recorded-at, recorded-length}
 use Rattle.store.specs.HeldWholeLaws.{held-numbers}
 use Rattle.store.specs.Lent.{Holds}
-use Rattle.recording.specs.Added.{withList, Rows, Listed}
+use Rattle.recording.specs.Added.{withList, Rows, Becomes, nextLengths, Listed}
 use Rattle.recording.specs.ListSoundLaws.{list-counted, list-sound, list-held}
-use Rattle.recording.specs.Recording.{SplitsOf, newIn, Stands, RowsOf, Grown, Accepts}
+use Rattle.recording.specs.Recording.{SplitsOf, lengthsGiven, LengthsOf, treeGiven, newIn, Stands, RowsOf, Grown, Accepts}
 use Rattle.recording.specs.NewLaws.{mem-mask, stands-new}
+use Rattle.recording.specs.GrownLaws.{grown-head}
 
 -- ---- the verdict
 
-module _ (s t : List ℕ) (w : wholeAt s ≡ true) where
-  room : roomFor (heldAt s) t
+module _ (s : List ℕ) (b : Branches) (w : wholeAt s ≡ true) where
+  room : roomFor (heldAt s) b
       ≡ (if eqb (treesHeldAt s) (numbersAt s .treeRoom) then refused 11
-      else if ltb (numbersAt s .splitRoom) (splitsHeldAt s + length (newIn (partsAt s) t)) then refused 12 else gives t)
+      else if ltb (numbersAt s .splitRoom) (splitsHeldAt s + length (newIn (partsAt s) (b .splits))) then refused 12 else gives b)
   unfolding roomFor newSplits
   room = rw (trees-length s, recorded-length s w, held-numbers s, recorded-at s w)
 
-  pub no-tree-room : treesHeldAt s ≡ numbersAt s .treeRoom → roomFor (heldAt s) t ≡ refused 11
+  pub no-tree-room : treesHeldAt s ≡ numbersAt s .treeRoom → roomFor (heldAt s) b ≡ refused 11
   no-tree-room e = room ∙ rw (eq-eqb _ _ e)
 
   module _ (d : treesHeldAt s ≡ numbersAt s .treeRoom → ⊥) where
-    pub no-split-room : numbersAt s .splitRoom < splitsHeldAt s + length (newIn (partsAt s) t) → roomFor (heldAt s) t ≡ refused 12
+    pub no-split-room : numbersAt s .splitRoom < splitsHeldAt s + length (newIn (partsAt s) (b .splits)) → roomFor (heldAt s) b ≡ refused 12
     no-split-room h = room ∙ rw (ne-eqb _ _ d, lt-ltb _ _ h)
 
-    room-enough : splitsHeldAt s + length (newIn (partsAt s) t) ≤ numbersAt s .splitRoom → roomFor (heldAt s) t ≡ gives t
+    room-enough : splitsHeldAt s + length (newIn (partsAt s) (b .splits)) ≤ numbersAt s .splitRoom → roomFor (heldAt s) b ≡ gives b
     room-enough h = room ∙ rw (ne-eqb _ _ d, le-ltb _ _ h)
 
-pub refuses : (a : Answer (List ℕ)) (s : List ℕ) (r : Progress) (k : ℕ) → a ≡ refused k → progressGiven r ≡ refused k → Accepts a s r s
+pub refuses : (a : Answer Branches) (s : List ℕ) (r : Progress) (k : ℕ) → a ≡ refused k → progressGiven r ≡ refused k → Accepts a s r s
 unfolding Accepts
 refuses a s r k e q = rw e (q, refl)
 
@@ -113,28 +117,43 @@ module _ (s : List ℕ) (whole : wholeAt s ≡ true) (n : ℕ) (rs : List ℕ) (
       let e : getD (take n rows) (j .0) 0 ≡ k = mask-same (partsAt u) (g .sound .shaped .order) (g .sound .splits) _ k (y .0) h (y .1 ∙ sym (j .2)) in
       subst (λ (x : ℕ). Mem x (take n rows)) e (mem-getD (take n rows) (j .0) (omega (arith, j .1, rows-length)))
 
-  module _ (room-in : splitsHeldAt s + length (newIn (partsAt s) (masksOf n rs)) ≤ numbersAt s .splitRoom) (h : HeadAt u) (v : List ℕ) (l : Listed u (take n rows) v) where
-    -- each split is listed by a tree: an old one was, and a new one is now
-    some-tree : (k : ℕ) → k < splitsHeldAt u → (k < splitsHeldAt s) ⊎ (splitsHeldAt s ≤ k) → 1 ≤ countIn (withList (take n rows) (partsAt u)) k
-    unfolding oneIf
-    some-tree k b (inl a) = omega (arith, list-counted (take n rows) (partsAt u) k b, old-count k b a)
-    some-tree k b (inr a) = omega (arith, rw (mem-member k (take n rows) (new-row k b a)) at (list-counted (take n rows) (partsAt u) k b))
+  module _ (ws : List ℕ) (good : LengthsOf s n ws) (lengths : nextLengths u n ≡ lengthsGiven s n ws)
+      (room-in : splitsHeldAt s + length (newIn (partsAt s) (masksOf n rs)) ≤ numbersAt s .splitRoom) (v : List ℕ) (l : Listed u (take n rows) v) where
+    abbrev xs : List Length
+    xs = lengthsGiven s n ws
 
-    recorded : Holds (withTree (heldAt s) (masksOf n rs)) s v
+    listed : Becomes u (withList (take n rows) (lengthsGiven s n ws) (partsAt u)) v
+    listed = subst (λ (x : List Length). Becomes u (withList (take n rows) x (partsAt u)) v) (ap (nextLengths u) rows-length ∙ lengths) l
+
+    sound : Sound (openingAt u) (withList (take n rows) (lengthsGiven s n ws) (partsAt u))
+    unfolding openingAt
+    sound =
+        let long : length xs ≡ branchesOf (numbersAt u) (length (take n rows)) = ap length (sym lengths) ∙ rw rows-length (lengths-length u _ _) in
+        list-sound (openingAt u) (take n rows) xs (partsAt u) (g .sound) rows-in long (good .good)
+
+    -- each split is listed by a tree: an old one was, and a new one is now
+    some-tree : (k : ℕ) → k < splitsHeldAt u → (k < splitsHeldAt s) ⊎ (splitsHeldAt s ≤ k) → 1 ≤ countIn (withList (take n rows) (lengthsGiven s n ws) (partsAt u)) k
+    unfolding oneIf
+    some-tree k b (inl a) = omega (arith, list-counted (take n rows) xs (partsAt u) k b, old-count k b a)
+    some-tree k b (inr a) = omega (arith, rw (mem-member k (take n rows) (new-row k b a)) at (list-counted (take n rows) xs (partsAt u) k b))
+
+    recorded : Holds (withTree (heldAt s) (treeGiven s n rs ws)) s v
     unfolding withTree withList sizeAt
     recorded =
-        let p = withList (take n rows) (partsAt u) in
-        let sound = list-sound (openingAt u) (take n rows) (partsAt u) (g .sound) rows-in in
+        let p = withList (take n rows) xs (partsAt u) in
+        let h : HeadAt u = grown-head s whole n rs room-in n u g (omega arith) in
         let size : storeSize (heldAt s .opening .numbers) ≡ sizeAt s = ap storeSize (held-numbers s) in
         record {
           whole =
-              parts-whole u v p h (l .size) (l .opening) (l .parts) sound (omega (arith, one-more (partsAt u .lists) (take n rows), trees-in)) (h .splits-fit)
+              parts-whole u v p h (l .size) (l .opening) (listed .parts) sound (omega (arith, one-more (partsAt u .lists) (take n rows), trees-in)) (h .splits-fit)
               (λ k b. some-tree k b (less-or-not k (splitsHeldAt s)));
-          held = rw (l .opening, l .parts) (list-held (openingAt u) (take n rows) (partsAt u)) ∙ ap₂ withTree (g .held) tree-in;
+          held =
+              rw (l .opening, listed .parts) (list-held (openingAt u) (take n rows) xs (partsAt u))
+              ∙ ap₂ (λ (x : Held) (y : List ℕ). withTree x (record { splits = y; lengths = xs })) (g .held) tree-in;
           size = l .size ∙ g .size;
           behind = λ i b. l .behind i (omega (arith, size, size-held s u (g .opening))) ∙ g .behind i (omega (arith, size));
         }
 
-    pub records : (a : Progress) → progressGiven a ≡ gives (accepted (treesHeldAt s)) → Accepts (roomFor (heldAt s) (masksOf n rs)) s a v
+    pub records : (a : Progress) → progressGiven a ≡ gives (accepted (treesHeldAt s)) → Accepts (roomFor (heldAt s) (treeGiven s n rs ws)) s a v
     unfolding Accepts
-    records a q = rw (room-enough s (masksOf n rs) whole d room-in) (q, recorded)
+    records a q = rw (room-enough s (treeGiven s n rs ws) whole d room-in) (q, recorded)

@@ -18,22 +18,24 @@ use lib.ListN.{length, getD, take, drop}
 use lib.Seq.{take-suc, take-length, drop-cons, drop-length}
 use borrow.Author.Tests.{eqb-true, eqb-false}
 use Rattle.trees.specs.Plain.{member}
+use Rattle.trees.specs.Value.{Length}
 use Rattle.trees.specs.Opening.{Numbers, headBytes, treeBytes, mostRoom}
 use Rattle.theorems.specs.ListLaws.{less-or-not, mem-getD, mem-member, member-not}
 use Rattle.theorems.specs.RisingLaws.{Rising}
 use Rattle.fields.specs.Field.{number, put}
-use Rattle.fields.specs.FieldLaws.{put-length, put-outside, number-put, number-put-outside}
+use Rattle.fields.specs.FieldLaws.{put-length, put-outside, number-put, number-put-outside, number-same}
 use Rattle.head.specs.Head.{fromTo, upTo, numbersAt, openingAt}
 use Rattle.head.specs.HeadLaws.{upTo-same}
 use Rattle.layout.specs.Columns.{columnAt, column-same, column-beside, column-more, upTo-more}
-use Rattle.layout.specs.Store.{treeFrom, masksFrom, identifiersFrom, countsFrom, linksFrom, orderFrom, placesFrom, sizeAt, listFrom, partsAt, treesHeldAt, splitsHeldAt, maskAt, countAt}
-use Rattle.layout.specs.StoreLaws.{tree-from, masks-from, identifiers-from, counts-from, links-from, order-from, places-from, size-is, trees-held-is, splits-held-is, count-is, list-length, length-is}
+use Rattle.layout.specs.Store.{treeFrom, masksFrom, identifiersFrom, countsFrom, linksFrom, orderFrom, placesFrom, branchesFrom, lengthsFrom, sizeAt, listFrom, branchesOf, lengthsAt, partsAt, treesHeldAt, splitsHeldAt, maskAt, countAt}
+use Rattle.layout.specs.StoreLaws.{tree-from, masks-from, identifiers-from, counts-from, links-from, order-from, places-from, branches-from, lengths-from, lengths-same, size-is, trees-held-is, splits-held-is, count-is, list-length, length-is}
 use Rattle.layout.specs.WholeFacts.{HeadAt}
 use Rattle.layout.specs.Sound.{Sound}
 use Rattle.layout.specs.UpToLaws.{mem-map, oneIf, listed-most}
 use Rattle.layout.specs.InsideLaws.{ranges}
 use Rattle.layout.specs.KeptLaws.{Kept, number-kept, lists-kept, lengths-kept, texts-kept, numbers-kept, opening-kept}
-use Rattle.recording.specs.Added.{withList, Rows, Listed}
+use Rattle.recording.specs.Added.{withList, Rows, nextLengths, Listed}
+use Rattle.recording.specs.LengthLaws.{branches-behind}
 
 -- ---- where things lie
 
@@ -174,21 +176,34 @@ module _ (s rs : List ℕ) (z : Room s) (f : Sound (openingAt s) (partsAt s)) (r
         rw y (number-put-outside 4 2 _ 10 _ _ (inr (omega (arith, z))) ∙ number-put-outside 4 2 u _ _ _ (inr (omega (arith, z)))) in
         omega (arith, rw (drop-length rs) at (e .counts k h))
 
+    entries : number 2 t (nextFrom s) ≡ length rs
+    entries =
+        rw y
+        (number-put-outside 2 2 (put 2 u (nextFrom s) (length rs)) 10 (treesHeldAt s + 1) (nextFrom s) (inr (omega (arith, z .list)))
+        ∙ number-put 2 u (nextFrom s) (length rs) (omega (arith, e .size, z)) (omega (arith, r .few)))
+
     new : listFrom t (nextFrom s) ≡ rs
     unfolding listFrom
     new =
-        let a = number-put-outside 2 2 (put 2 u (nextFrom s) (length rs)) 10 (treesHeldAt s + 1) (nextFrom s) (inr (omega (arith, z .list))) in
-        let b = number-put 2 u (nextFrom s) (length rs) (omega (arith, e .size, z)) (omega (arith, r .few)) in
-        rw (y, a, b)
+        rw (entries, y)
         (column-beside 2 (nextFrom s + 2) (length rs) 2 10 _ _ (inl (omega (arith, z .list)))
         ∙ column-beside 2 (nextFrom s + 2) (length rs) 2 (nextFrom s) _ u (inl (omega arith))
         ∙ e .rows
         ∙ take-length rs)
 
-    parts : partsAt t ≡ withList rs (partsAt s)
+    rear : (i : ℕ) → branchesFrom n ≤ i → getD t i 0 ≡ getD s i 0
+    rear i a = behind i (omega (arith, z .links, branches-from n, places-from n))
+
+    new-lengths : lengthsAt t (lengthsFrom n (treesHeldAt s)) (branchesOf n (number 2 t (nextFrom s))) ≡ nextLengths s (length rs)
+    new-lengths =
+        rw entries
+        (lengths-same t s (lengthsFrom n (treesHeldAt s)) (lengthsFrom n (treesHeldAt s)) _ (λ j h.
+        number-same 8 t s _ _ (λ b l. rear (lengthsFrom n (treesHeldAt s) + 8 * j + b) (omega (arith, lengths-from n (treesHeldAt s))))))
+
+    parts : (xs : List Length) → nextLengths s (length rs) ≡ xs → partsAt t ≡ withList rs xs (partsAt s)
     unfolding partsAt withList columnAt openingAt
-    parts =
-        let m = numbers-kept s t front in
+    parts xs q =
+        let m = numbers-kept s t front (λ i a b. before i (omega arith) (omega (arith, z .list))) in
         let c = splits-held-is s in
         rw (
           m,
@@ -207,8 +222,13 @@ module _ (s rs : List ℕ) (z : Room s) (f : Sound (openingAt s) (partsAt s)) (r
           lists-kept s t 12 (nextFrom s) before n (number 2 s 10) (omega (arith, z .list)) (omega (arith, ap (treeFrom n) (trees-held-is s))) (λ i h.
               let k : i < treesHeldAt s = omega (arith, trees-held-is s) in
               omega (arith, f .lists i k .few, list-length s i k)),
+          upTo-more (λ i. lengthsAt t (lengthsFrom n i) (branchesOf n (number 2 t (treeFrom n i)))) (number 2 s 10),
+          branches-behind s t n (number 2 s 10) rear (λ i h.
+              let a = tree-from n i in
+              number-kept s t 12 (nextFrom s) before 2 (treeFrom n i) (omega arith) (omega (arith, tree-from n (treesHeldAt s), trees-held-is s))),
           ← trees-held-is s,
           new,
+          new-lengths ∙ q,
           lengths-kept s t 12 (nextFrom s) before n (omega arith) (z .list .1),
           texts-kept s t 12 (nextFrom s) before n (omega arith) (z .list .1) (omega (arith, z)) size (λ k h. omega (arith, f .lanes k h, length-is s k h)),
         )
@@ -216,4 +236,4 @@ module _ (s rs : List ℕ) (z : Room s) (f : Sound (openingAt s) (partsAt s)) (r
     pub entered : ((i : ℕ) → getD s i 0 < 256) → Listed s rs t
     entered bytes =
         let a = opening-kept s t front (λ i a b. before i (omega arith) (omega (arith, z .list))) (omega (arith, z)) size bytes (z .few .0) in
-        record { parts = parts; opening = a; size = size; behind = λ i a. behind i (omega (arith, z .links)) }
+        record { parts = parts _ refl; opening = a; size = size; behind = λ i a. behind i (omega (arith, z .links)) }

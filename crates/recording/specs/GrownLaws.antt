@@ -5,16 +5,19 @@
 --   grown-old                   a split that the store has changes nothing
 --   next-asks                   what adding a new split asks
 --   grown-new                   a new split stands in its row
+--   grown-kept                  bytes with the same parts have grown alike
+--   lengths-asks, lengths-in    what putting the tree's lengths asks, and what it leaves
 use Prim.Native.Nat.{ℕ, _+_, _-_, _*_, _≤_, _<_}
 use native.Mathlib.Omega.{arith}
-use mathlib.Core.Path.{_≡_, refl, sym, ap, _∙_, subst}
+use mathlib.Core.Path.{_≡_, refl, sym, ap, ap₂, _∙_, subst}
 use mathlib.Core.Logic.{⊎-elim}
 use mathlib.Core.Bool.{true, false, true≢false}
-use mathlib.Core.List.{List, [], _∷_, _++_, append-assoc, append-nil}
-use lib.ListN.{length, getD, length-append}
+use mathlib.Core.List.{List, [], _∷_, _++_, map, append-assoc, append-nil}
+use lib.ListN.{length, getD, take, length-append}
 use Rattle.trees.specs.Plain.{every, member}
 use Rattle.trees.specs.Mask.{proper}
 use Rattle.trees.specs.Hash.{identifier}
+use Rattle.trees.specs.Opening.{Numbers}
 use Rattle.trees.specs.Whole.{goodTree}
 use Rattle.theorems.specs.ListLaws.{and-left, and-right, Mem, mem-cases, member-not, every-at, mem-getD}
 use Rattle.theorems.specs.LackingLaws.{lacking-mem}
@@ -23,16 +26,16 @@ use Rattle.theorems.specs.RisingLaws.{rising-true}
 use Rattle.records.specs.Records.{masksOf}
 use Rattle.records.specs.RecordLaws.{masks-length, masks-at}
 use Rattle.head.specs.Head.{numbersAt, secondAt, openingAt}
-use Rattle.layout.specs.Store.{Parts, partsAt, splitsHeldAt, masksAt}
+use Rattle.layout.specs.Store.{Parts, branchesOf, partsAt, splitsHeldAt, masksAt, heldIn}
 use Rattle.layout.specs.WholeStore.{wholeAt, placeIn}
 use Rattle.layout.specs.WholeFacts.{HeadAt, whole-at-facts}
 use Rattle.layout.specs.Sound.{Sound, whole-sound}
 use Rattle.layout.specs.UpToLaws.{mem-at, one-more, rising-at}
 use Rattle.layout.specs.OrderLaws.{masks-mem}
 use Rattle.layout.specs.OpeningKeptLaws.{numbers-held, first-held, second-held, size-held, head-held}
-use Rattle.recording.specs.Added.{Added, withSplit}
+use Rattle.recording.specs.Added.{Becomes, Added, nextLengths, LengthsPut, withSplit}
 use Rattle.recording.specs.SplitSoundLaws.{split-sound, split-held}
-use Rattle.recording.specs.Recording.{SplitsOf, newIn, RowsOf, Grown}
+use Rattle.recording.specs.Recording.{SplitsOf, lengthOfWord, lengthsGiven, LengthsOf, newIn, RowsOf, Grown}
 use Rattle.recording.specs.NewLaws.{mask-mem, mem-mask, new-none, new-old, new-next, new-within, row-recorded, row-known, row-unknown}
 
 module _ (s : List ℕ) (whole : wholeAt s ≡ true) (n : ℕ) (rs : List ℕ) where
@@ -120,3 +123,22 @@ module _ (s : List ℕ) (whole : wholeAt s ≡ true) (n : ℕ) (rs : List ℕ) w
               size = a .size ∙ g .size;
               behind = λ i q. a .behind i (omega (arith, size-held s u (g .opening))) ∙ g .behind i q;
             }
+
+pub grown-kept : (s ms u v : List ℕ) → Grown s ms u → Becomes u (partsAt u) v → Grown s ms v
+unfolding heldIn
+grown-kept s ms u v g b = record {
+  sound = rw (b .opening, b .parts) (g .sound);
+  masks = ap (λ (p : Parts). p .masks) (b .parts) ∙ g .masks;
+  lists = ap (λ (p : Parts). p .lists) (b .parts) ∙ g .lists;
+  held = ap₂ heldIn (b .opening) (b .parts) ∙ g .held;
+  opening = b .opening ∙ g .opening;
+  size = b .size ∙ g .size;
+  behind = λ i h. b .behind i (omega (arith, size-held s u (g .opening))) ∙ g .behind i h;
+}
+
+module _ (s ms u : List ℕ) (g : Grown s ms u) (n : ℕ) (ws : List ℕ) where
+  pub lengths-asks : LengthsOf s n ws → branchesOf (numbersAt u) n ≤ length ws
+  lengths-asks l = rw (numbers-held s u (g .opening)) (l .reach)
+
+  pub lengths-in : (v : List ℕ) → LengthsPut u n ws v → nextLengths v n ≡ lengthsGiven s n ws
+  lengths-in v p = p .lengths ∙ ap (λ (x : Numbers). map lengthOfWord (take (branchesOf x n) ws)) (numbers-held s u (g .opening))

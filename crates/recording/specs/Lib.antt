@@ -1,6 +1,7 @@
 -- The definitions that the contracts cite, and their laws.
 pub mod Added
 pub mod ListSoundLaws
+pub mod LengthLaws
 pub mod EnteringLaws
 pub mod Recording
 pub mod RowLaws

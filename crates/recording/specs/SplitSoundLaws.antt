@@ -158,6 +158,8 @@ module _ (o : Opening) (m : ℕ) (p : Parts) (f : Sound o p) where
         links = one-more (p .links) _ ∙ ap suc (s .links) ∙ sym e;
         order = row-length (maskIn p) m (splitsIn p) (p .order) ∙ ap suc (s .order) ∙ sym e;
         starts = length-set (p .starts) _ _ ∙ s .starts;
+        branches = s .branches;
+        branches-each = s .branches-each;
         lengths = s .lengths;
         texts = s .texts;
       }
@@ -174,4 +176,5 @@ module _ (o : Opening) (m : ℕ) (p : Parts) (f : Sound o p) where
         counts = λ k l. count-new k (rw e at l);
         chains = record { links = λ k l. link-new below k (rw e at l); starts = λ q l. rw e (start-new below q l) };
         lanes = f .lanes;
+        branches = f .branches;
       }

@@ -11,7 +11,7 @@ ghost use Rattle.records.specs.Records.{masksOf};
 ghost use Rattle.head.specs.Head.{numbersAt};
 ghost use Rattle.layout.specs.Store.{partsAt, splitsHeldAt, heldAt};
 ghost use Rattle.layout.specs.WholeStore.{wholeAt};
-ghost use Rattle.recording.specs.Recording.{SplitsOf, newIn, RowsOf, Accepts, Grown};
+ghost use Rattle.recording.specs.Recording.{SplitsOf, LengthsOf, treeGiven, newIn, RowsOf, Accepts, Grown};
 use answers::Progress;
 use answers::Refusal;
 use answers::Tree;
@@ -20,11 +20,13 @@ mod adding;
 mod finding;
 mod listing;
 
-// Records the tree whose splits stand in the first n records, unless there is no room for it (11) or for its new splits (12).
-pub fn accept(s: &mut [u8], n: usize, records: &[u64]) -> Progress
+// Records the tree whose splits stand in the first n records and, where lengths are kept, its lengths, unless there is no room for it
+// (11) or for its new splits (12).
+pub fn accept(s: &mut [u8], n: usize, records: &[u64], lengths: &[u64]) -> Progress
     requires { ⌜ wholeAt (now s) ≡ true ⌝ }
     requires { ⌜ SplitsOf (now s) n (now records) ⌝ }
-    ensures { λ r. ⌜ Accepts (roomFor (heldAt (now (s .entry))) (masksOf n (now (records .entry)))) (now (s .entry)) r (now (s .exit)) ⌝ }
+    requires { ⌜ LengthsOf (now s) n (now lengths) ⌝ }
+    ensures { λ r. ⌜ Accepts (roomFor (heldAt (now (s .entry))) (treeGiven (now (s .entry)) n (now (records .entry)) (now (lengths .entry)))) (now (s .entry)) r (now (s .exit)) ⌝ }
 {
     let trees = layout::trees_held(s);
     if trees == head::tree_room(s) as usize {
@@ -36,6 +38,7 @@ pub fn accept(s: &mut [u8], n: usize, records: &[u64]) -> Progress
         return Progress::Refused(Refusal::NoSplitRoom);
     }
     add_new(s, n, records, &rows);
+    listing::put_lengths(s, n, lengths);
     listing::list_tree(s, n, &rows);
     Progress::Accepted(Tree(trees))
 }

@@ -1,18 +1,23 @@
 // What is read of a store whose head is in order: the row of a split, by its number or by its place in
-// a tree, the fields of a row, where the chain of a place starts, and the masks of a tree.
+// a tree, the fields of a row, where the chain of a place starts, and the masks and lengths of a tree.
 //
 // Its contracts cite crate layout, `specs/Store.antt`.
 ghost use mathlib.Core.Path.{_≡_};
+ghost use mathlib.Core.Bool.{true};
 ghost use mathlib.Core.List.{_++_};
+ghost use mathlib.Core.Option.{none};
 ghost use Prim.Native.Nat.{_+_, _≤_, _<_};
 ghost use lib.ListN.{length, getD, drop};
 ghost use Rattle.trees.specs.Opening.{treeBytes};
+ghost use Rattle.trees.specs.Whole.{goodLength};
+ghost use Rattle.doubles.specs.Stored.{branchGiven};
 ghost use Rattle.head.specs.Head.{numbersAt};
-ghost use Rattle.layout.specs.Store.{treeFrom, treesHeldAt, splitsHeldAt, maskAt, identifierAt, countAt, linkAt, startAt, orderAt, listAt, treeAt, mostSplits};
+ghost use Rattle.layout.specs.Store.{treeFrom, treesHeldAt, splitsHeldAt, maskAt, identifierAt, countAt, linkAt, startAt, orderAt, listAt, treeAt, branchesAt, mostSplits};
 ghost use Rattle.layout.specs.WholeFacts.{HeadAt};
 ghost use Rattle.rows.specs.Rows.{RowsAt};
 use answers::Split;
 use answers::Tree;
+use doubles::Length;
 
 // The row of split number k.
 pub fn row_of(s: &[u8], k: Split) -> usize
@@ -97,6 +102,18 @@ pub fn row_in(s: &[u8], i: Tree, from: usize, j: usize) -> usize
     ensures { λ r. ⌜ r ≡ getD (listAt (now (s .entry)) (i .0)) j 0 ⌝ }
 {
     layout::number16(s, from + 2 + 2 * j)
+}
+
+// The length of the split that stands in place j of tree i, where lengths are kept.
+pub fn length_in(s: &[u8], i: Tree, j: usize) -> Length
+    requires { ⌜ HeadAt (now s) ⌝ }
+    requires { ⌜ i .0 < treesHeldAt (now s) ⌝ }
+    requires { ⌜ j < length (branchesAt (now s) (i .0)) ⌝ }
+    requires { ⌜ j < mostSplits ⌝ }
+    requires { ⌜ goodLength (getD (branchesAt (now s) (i .0)) j none) ≡ true ⌝ }
+    ensures { λ r. ⌜ branchGiven r ≡ getD (branchesAt (now (s .entry)) (i .0)) j none ⌝ }
+{
+    doubles::get_length(s, layout::lengths_from(s, i) + 8 * j)
 }
 
 // Copies the masks of tree i to the front of a buffer.

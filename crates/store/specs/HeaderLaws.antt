@@ -3,15 +3,16 @@
 --   head-short, head-refused, head-small, head-trees, head-splits     the head
 --   opening-range, opening-constants, opening-names, opening-ranges   the opening that it holds
 --   constants-first       the constants: the second list's are any
---   numbers-read          the five numbers, one by one
+--   numbers-kept          whether lengths are kept
+--   numbers-read          the numbers, one by one
 use mathlib.Core.Path.{_≡_, refl}
-use mathlib.Core.Bool.{true, false}
+use mathlib.Core.Bool.{Bool, true, false}
 use mathlib.Core.List.{List}
 use mathlib.Core.Logic.{_⊎_, inl, inr, ⊎-elim}
-use Prim.Native.Nat.{ℕ, _+_, _-_, _*_, _^_, _≤_, _<_}
+use Prim.Native.Nat.{ℕ, zero, suc, _+_, _-_, _*_, _^_, _≤_, _<_}
 use native.Mathlib.Nat.{eq-zero-or-pos}
 use native.Mathlib.Omega.{arith}
-use lib.Dec.{leb, ltb}
+use lib.Dec.{leb, ltb, eqb}
 use lib.ListN.{length, getD, List·getD-eq-default}
 use borrow.Author.Tests.{le-leb, lt-leb}
 use Rattle.trees.specs.Plain.{every}
@@ -19,11 +20,12 @@ use Rattle.trees.specs.Names.{goodNames}
 use Rattle.trees.specs.Opening.{inRange, goodConstants, headBytes}
 use Rattle.trees.specs.Whole.{goodOpening}
 use Rattle.theorems.specs.ListLaws.{and-left}
+use Rattle.theorems.specs.OpeningLaws.{in-range}
 use Rattle.fields.specs.Field.{number}
 use Rattle.fields.specs.FieldLaws.{number-below}
 use Rattle.head.specs.Head.{upTo, numbersAt, namesAt, firstAt, secondAt, openingAt}
 use Rattle.head.specs.HeadLaws.{upTo-length, upTo-at, first-length, second-length}
-use Rattle.opening.specs.Given.{numbersOf}
+use Rattle.opening.specs.Given.{flagOf, numbersOf}
 use Rattle.opening.specs.GivenLaws.{constants-below}
 use Rattle.opening.specs.Places.{firstNames}
 use Rattle.layout.specs.Store.{treesHeldAt, splitsHeldAt, sizeAt}
@@ -43,6 +45,12 @@ upTo-below f m n z b i =
   where
     le-or-lt : (a b : ℕ) → (a ≤ b) ⊎ (b < a)
     le-or-lt a b = ⊎-elim (λ (e : a - b ≡ 0). inl (omega arith)) (λ (h : 0 < a - b). inr (omega arith)) (eq-zero-or-pos (a - b))
+
+flag-one : (k : ℕ) → k ≤ 1 → flagOf (eqb k 1) ≡ k
+unfolding flagOf
+flag-one zero h = refl
+flag-one (suc zero) h = refl
+flag-one (suc (suc k)) h = absurd (omega arith)
 
 -- ---- the head
 
@@ -103,8 +111,15 @@ module _ (s : List ℕ) where
       below : (i : ℕ) → getD (secondAt s) i 0 < 2 ^ 64
       below i = upTo-below (λ j. number 8 s (2256 + 8 * j)) (2 ^ 64) (number 2 s 0) (omega arith) (λ j. number-below 8 s (2256 + 8 * j) b) i
 
-  -- ---- the five numbers, one by one
+  -- ---- the numbers, one by one
 
-  pub numbers-read : (n l t p m : ℕ) → n ≡ numbersAt s .taxa → l ≡ numbersAt s .lanes → t ≡ numbersAt s .treeRoom
-      → p ≡ numbersAt s .splitRoom → m ≡ numbersAt s .places → numbersOf n l t p m ≡ numbersAt s
-  numbers-read n l t p m a b c d e = rw (a, b, c, d, e)
+  pub numbers-kept : (k : ℕ) → k ≡ numbersAt s .kept → 1 < k → inRange (numbersAt s) ≡ false
+  numbers-kept k e h = go (inRange (numbersAt s)) refl
+    where
+      go : (b : Bool) → inRange (numbersAt s) ≡ b → b ≡ false
+      go true q = absurd (omega (arith, in-range (numbersAt s) q .most-kept))
+      go false q = refl
+
+  pub numbers-read : (n l t p m k : ℕ) → n ≡ numbersAt s .taxa → l ≡ numbersAt s .lanes → t ≡ numbersAt s .treeRoom
+      → p ≡ numbersAt s .splitRoom → m ≡ numbersAt s .places → k ≡ numbersAt s .kept → k ≤ 1 → numbersOf n l t p m (eqb k 1) ≡ numbersAt s
+  numbers-read n l t p m k a b c d e f h = rw (flag-one k h, a, b, c, d, e, f)

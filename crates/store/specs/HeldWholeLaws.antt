@@ -4,20 +4,22 @@
 --   texts-length, texts-mem        its lanes
 --   opening-facts                  the opening of whole bytes is in order
 --   tree-rises, tree-good          each tree is in order
+--   lengths-at                     the lengths of each tree
 --   lane-good                      each lane's text has a length in range
 --   held-whole                     all that is held is in order
-use Prim.Native.Nat.{ℕ, _+_, _<_}
+use Prim.Native.Nat.{ℕ, suc, _+_, _<_}
 use native.Mathlib.Omega.{arith}
-use mathlib.Core.Path.{_≡_, refl, sym, _∙_}
+use mathlib.Core.Path.{_≡_, refl, sym, ap, _∙_}
 use mathlib.Core.Bool.{true}
-use mathlib.Core.List.{List}
+use mathlib.Core.List.{List, [], _∷_}
 use lib.Dec.{eqb}
-use lib.ListN.{length, take, drop, length-take}
-use borrow.Author.Tests.{le-leb, eqb-false}
+use lib.ListN.{length, getD, take, drop, length-take}
+use borrow.Author.Tests.{le-leb, eq-eqb, eqb-false}
 use Rattle.trees.specs.Plain.{every}
 use Rattle.trees.specs.Mask.{proper}
+use Rattle.trees.specs.Value.{Length}
 use Rattle.trees.specs.Held.{Lane, mostText}
-use Rattle.trees.specs.Whole.{goodTree, goodLane}
+use Rattle.trees.specs.Whole.{goodTree, goodBranches, goodLengths, goodLane}
 use Rattle.theorems.specs.ListLaws.{by-test, and-true, Mem, every-intro}
 use Rattle.theorems.specs.RisingLaws.{Rising, rising-true}
 use Rattle.theorems.specs.OpeningLaws.{GoodOpening, good-opening}
@@ -26,13 +28,13 @@ use Rattle.theorems.specs.HeldLaws.{Whole, facts-whole}
 use Rattle.fields.specs.Field.{number}
 use Rattle.head.specs.Head.{numbersAt, openingAt}
 use Rattle.head.specs.HeadLaws.{upTo-at}
-use Rattle.layout.specs.Store.{partsAt, treesHeldAt, laneFrom, treeAt, laneAt, heldAt, heldIn, textFrom, ranOver, ranOverOpen}
+use Rattle.layout.specs.Store.{partsAt, treesHeldAt, laneFrom, maskAt, listAt, treeAt, branchesAt, branchesOf, laneAt, heldAt, heldIn, textFrom, ranOver, ranOverOpen}
 use Rattle.layout.specs.StoreLaws.{shaped-at, length-is, lane-is}
 use Rattle.layout.specs.WholeStore.{wholeAt}
 use Rattle.layout.specs.WholeFacts.{WholeAt, whole-at-facts}
-use Rattle.layout.specs.UpToLaws.{upTo-mem}
+use Rattle.layout.specs.UpToLaws.{upTo-mem, length-map}
 use Rattle.layout.specs.OrderLaws.{mask-proper}
-use Rattle.store.specs.RecordedAtLaws.{trees-length, trees-mem, tree-mem, recorded-length}
+use Rattle.store.specs.RecordedAtLaws.{trees-length, tree-at, trees-mem, tree-mem, recorded-length}
 
 -- ---- what any bytes are read as
 
@@ -49,11 +51,29 @@ module _ (s : List ℕ) where
   unfolding heldIn
   texts-length = shaped-at s .texts
 
+  lengths-length : length (heldAt s .lengths) ≡ treesHeldAt s
+  unfolding heldIn
+  lengths-length = shaped-at s .branches
+
+  pub lengths-at : (i : ℕ) → getD (heldAt s .lengths) i [] ≡ branchesAt s i
+  unfolding heldIn
+  lengths-at i = refl
+
   pub texts-mem : (x : Lane) → Mem x (heldAt s .texts) → (l : ℕ) × (l < numbersAt s .lanes) × (x ≡ laneAt s l)
   unfolding heldIn partsAt
   texts-mem x h =
       let r = upTo-mem _ (numbersAt s .lanes) x h in
       (r .0, r .1, r .2 ∙ sym (upTo-at _ (numbersAt s .lanes) (r .0) _ (r .1)))
+
+-- ---- lengths, tree by tree
+
+lengths-each : (kept : ℕ) (ts : List (List ℕ)) (xss : List (List Length)) → length xss ≡ length ts
+    → ((i : ℕ) → i < length ts → goodBranches kept (getD ts i []) (getD xss i []) ≡ true) → goodLengths kept ts xss ≡ true
+unfolding goodLengths
+lengths-each kept [] [] e f = refl
+lengths-each kept [] (xs ∷ xss) e f = absurd (omega arith)
+lengths-each kept (t ∷ ts) [] e f = absurd (omega arith)
+lengths-each kept (t ∷ ts) (xs ∷ xss) e f = and-true (f 0 (omega arith)) (lengths-each kept ts xss (omega arith) (λ i h. f (suc i) (omega arith)))
 
 -- ---- what whole bytes hold
 
@@ -78,6 +98,11 @@ module _ (s : List ℕ) (w : wholeAt s ≡ true) where
   unfolding goodTree
   tree-good i h = and-true (tree-proper i h) (and-true (facts .lists i h .tree-rising) (facts .lists i h .agreeing))
 
+  lengths-good : (i : ℕ) → i < treesHeldAt s → goodBranches (numbersAt s .kept) (treeAt s i) (branchesAt s i) ≡ true
+  unfolding goodBranches branchesOf
+  lengths-good i h =
+      and-true (eq-eqb _ _ (shaped-at s .branches-each i h ∙ ap (branchesOf (numbersAt s)) (sym (length-map (maskAt s) (listAt s i))))) (facts .branches i h)
+
   pub lane-good : (l : ℕ) → l < numbersAt s .lanes → goodLane (laneAt s l) ≡ true
   unfolding goodLane textFrom
   lane-good l h =
@@ -97,6 +122,11 @@ module _ (s : List ℕ) (w : wholeAt s ≡ true) where
         trees-good =
             rw held-numbers
             (every-intro (goodTree (numbersAt s .taxa)) (heldAt s .trees) (λ t h. let i = trees-mem s t h in rw (i .2) (tree-good (i .0) (i .1))));
+        lengths-good =
+            rw held-numbers
+            (lengths-each (numbersAt s .kept) (heldAt s .trees) (heldAt s .lengths) (lengths-length s ∙ sym (trees-length s)) (λ i h.
+            let b : i < treesHeldAt s = omega (arith, trees-length s) in
+            rw (tree-at s i b, lengths-at s i) (lengths-good i b)));
         trees-fit = rw (held-numbers, trees-length) (facts .head .trees-fit);
         splits-fit = rw (held-numbers, recorded-length s w) (facts .head .splits-fit);
         lanes-count = rw held-numbers (texts-length s);

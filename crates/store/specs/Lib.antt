@@ -18,6 +18,7 @@ pub mod OuterLaws
 pub mod ListTests
 pub mod CountLaws
 pub mod ListTestLaws
+pub mod BranchTestLaws
 pub mod HeaderLaws
 pub mod WholeTestLaws
 pub mod Counts

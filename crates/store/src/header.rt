@@ -45,11 +45,14 @@ fn opening_good(s: &[u8]) -> bool
     opening::names_good(s, head::taxa(s))
 }
 
-// Whether the five numbers are in their ranges.
+// Whether the numbers are in their ranges.
 fn numbers_good(s: &[u8]) -> bool
     requires { ⌜ headBytes ≤ length (now s) ⌝ }
     ensures { λ r. ⌜ r ≡ inRange (numbersAt (now (s .entry))) ⌝ }
 {
+    if 1 < head::kept(s) {
+        return false;
+    }
     opening::numbers_in_range(
         head::taxa(s),
         head::lanes(s),
@@ -71,6 +74,7 @@ fn store_size(s: &[u8]) -> usize
         head::tree_room(s),
         head::split_room(s),
         head::places(s),
+        head::kept(s) == 1,
     )
 }
 

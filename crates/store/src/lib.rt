@@ -5,6 +5,7 @@
 ghost use mathlib.Core.Path.{_≡_};
 ghost use Rattle.layout.specs.WholeStore.{wholeAt};
 
+mod branches;
 mod header;
 mod lists;
 mod splits;
@@ -29,5 +30,8 @@ pub fn is_whole(s: &[u8]) -> bool
     if !splits::chains_good(s, &table) {
         return false;
     }
-    lists::lanes_good(s)
+    if !lists::lanes_good(s) {
+        return false;
+    }
+    branches::branches_good(s)
 }

@@ -27,7 +27,7 @@ use Rattle.answers.specs.Answers.{refusalNumber}
 use Rattle.answers.specs.FrontLaws.{copied-more, copied-all}
 use Rattle.head.specs.Head.{fromTo, upTo}
 use Rattle.head.specs.HeadLaws.{upTo-length, upTo-at}
-use Rattle.opening.specs.Given.{numbersOf}
+use Rattle.opening.specs.Given.{flagOf, numbersOf}
 use Rattle.opening.specs.GivenLaws.{range-not-taxa}
 use Rattle.table.specs.Promises.{OpenedAs}
 use Rattle.answers.specs.FrontLaws.{copied-more, copied-all}
@@ -97,13 +97,13 @@ module _ (k : Kept) (lent m n : ℕ) (e : n ≡ k .spaces + 1) (a : m ≤ k .use
   opened-kept r s t p = subst (λ (x : Answer Opening). OpenedAs x r s t) kept-is p
 
 pub opened-names : (n lent : ℕ) (list first second : List ℕ) (r : Finish) (s t : List ℕ) → n ≤ 64 → first ≡ upTo firstConstant 64 → second ≡ upTo secondConstant 64
-    → OpenedAs (opening (numbersOf n 1 48 256 512) list (take n first) (take n second) lent) r s t → OpenedAs (namesOpening n list lent) r s t
+    → OpenedAs (opening (numbersOf n 1 48 256 512 false) list (take n first) (take n second) lent) r s t → OpenedAs (namesOpening n list lent) r s t
 opened-names n lent list first second r s t h e f p = subst (λ (x : Answer Opening). OpenedAs x r s t) same p
   where
-    names-is : namesOpening n list lent ≡ opening (numbersOf n 1 48 256 512) list (upTo firstConstant n) (upTo secondConstant n) lent
-    names-is = unfold namesOpening summaryNumbers in refl
+    names-is : namesOpening n list lent ≡ opening (numbersOf n 1 48 256 512 false) list (upTo firstConstant n) (upTo secondConstant n) lent
+    names-is = unfold namesOpening summaryNumbers flagOf in refl
 
-    same : opening (numbersOf n 1 48 256 512) list (take n first) (take n second) lent ≡ namesOpening n list lent
+    same : opening (numbersOf n 1 48 256 512 false) list (take n first) (take n second) lent ≡ namesOpening n list lent
     same = rw (e, f, take-upTo firstConstant n 64 h, take-upTo secondConstant n 64 h) (sym names-is)
 
 -- ---- with enough lent bytes

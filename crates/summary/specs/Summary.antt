@@ -40,9 +40,9 @@ unfoldable pub nameCount : List ℕ → ℕ
 unfolding parts
 nameCount line = length (parts (byte " ") false line)
 
--- "one lane, closed at the end, 48 trees, 256 splits"; two places a split
+-- "one lane, closed at the end, 48 trees, 256 splits"; two places a split; no lengths are kept: "if not (as in `treesum`), all is as before"
 unfoldable pub summaryNumbers : ℕ → Numbers
-summaryNumbers n = record { taxa = n; lanes = 1; treeRoom = 48; splitRoom = 256; places = 512 }
+summaryNumbers n = record { taxa = n; lanes = 1; treeRoom = 48; splitRoom = 256; places = 512; kept = 0 }
 
 -- constants are free: these spread the places, and make a split's identifier its mask
 unfoldable pub firstConstant : ℕ → ℕ
@@ -121,3 +121,8 @@ sheet-of-quoted-names = refl
 pub sheet-of-open-quotes : summary (bytes "A 'B C D E\n(A,B,C);") ≡ bytes "names refused 2\n"
 unfolding summary
 sheet-of-open-quotes = refl
+
+-- no lengths are kept: one that is outside the exact range is no fault
+pub sheet-of-lengths : summary (bytes "A B C D\n((A,B):1e23,C,D):2;\n") ≡ bytes "taxa 4 trees 1 refused 0 splits 1\n12 1\n0\nmajority (A,B,(C,D));\nstrict (A,B,(C,D));\n"
+unfolding summary
+sheet-of-lengths = refl

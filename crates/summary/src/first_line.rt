@@ -122,7 +122,7 @@ pub(crate) fn open_line(s: &mut [u8], line: LinePart, out: &[u8]) -> Finish
     open_names(s, spaces + 1, &out[..used])
 }
 
-// Opens a collection of n names.
+// Opens a collection of n names, which keeps no lengths.
 fn open_names(s: &mut [u8], n: usize, list: &[u8]) -> Finish
     requires { ⌜ n ≤ 64 ⌝ }
     ensures { λ r. ⌜ OpenedAs (namesOpening n (now (list .entry)) (length (now (s .entry)))) r (now (s .entry)) (now (s .exit)) ⌝ }
@@ -138,6 +138,7 @@ fn open_names(s: &mut [u8], n: usize, list: &[u8]) -> Finish
         48,
         256,
         512,
+        false,
         list,
         &first[..n],
         &second[..n],

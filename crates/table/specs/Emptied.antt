@@ -23,6 +23,7 @@ emptyParts n = record {
   order = [];
   starts = replicate (n .places) 0;
   lists = [];
+  branches = [];
   lengths = replicate (n .lanes) 0;
   texts = replicate (n .lanes) (holding []);
 }

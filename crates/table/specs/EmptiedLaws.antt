@@ -24,7 +24,7 @@ use Rattle.fields.specs.Run.{cleared}
 use Rattle.fields.specs.RunLaws.{cleared-length, cleared-outside, number-cleared-inside, number-cleared-outside}
 use Rattle.head.specs.Head.{numbersAt, openingAt, upTo, fromTo}
 use Rattle.head.specs.HeadLaws.{numbers-same, head-same, upTo-length, upTo-at}
-use Rattle.layout.specs.Store.{laneFrom, masksFrom, placesFrom, sizeAt, heldAt, heldIn, treeFrom, identifiersFrom, countsFrom, linksFrom, orderFrom, listFrom, textFrom, partsAt}
+use Rattle.layout.specs.Store.{laneFrom, masksFrom, placesFrom, sizeAt, heldAt, heldIn, treeFrom, identifiersFrom, countsFrom, linksFrom, orderFrom, lengthsFrom, listFrom, branchesOf, lengthsAt, textFrom, partsAt}
 use Rattle.layout.specs.StoreLaws.{lane-from, masks-from, places-from, size-is, Shaped, shaped-at}
 use Rattle.layout.specs.WholeStore.{wholeAt, highestIn}
 use Rattle.table.specs.Emptied.{LanesEmptied, Emptied, emptyParts}
@@ -64,10 +64,10 @@ module _ (s t : List ℕ) (n : ℕ) (p : LanesEmptied s n t) (f : sizeAt s ≤ l
         behind = λ i h. put-outside 2 t (laneFrom n) 0 i (inr (omega arith)) ∙ p .behind i (omega arith);
       }
 
--- ---- then the places, which end where the store does
+-- ---- then the places, which the store has whole
 
 module _ (s t : List ℕ) (p : LanesEmptied s (numbersAt s .lanes) t) (f : sizeAt s ≤ length s) where
-  places-end : placesFrom (numbersAt s) + 2 * numbersAt s .places ≡ sizeAt s
+  places-end : placesFrom (numbersAt s) + 2 * numbersAt s .places ≤ sizeAt s
   places-end = omega (arith, places-from (numbersAt s), size-is s)
 
   pub head-inside : headBytes ≤ length t
@@ -105,6 +105,7 @@ empty-sound o a =
       counts = λ k h. absurd (omega arith);
       chains = record { links = λ k h. absurd (omega arith); starts = λ q h. getD-replicate {A = ℕ} (n .places) q 0 0 h };
       lanes = λ l h. omega (arith, getD-replicate {A = ℕ} (n .lanes) l 0 0 h);
+      branches = λ i h. absurd (omega arith);
     }
 
 -- ---- a good head, and nothing behind it
@@ -137,6 +138,10 @@ module _ (s t : List ℕ) (p : Emptied s t) (h : HeadAt s) (trees : number 2 s 1
   unfolding upTo fromTo
   no-lists = rw (same-held 10 (omega arith), trees)
 
+  no-branches : upTo (λ i. lengthsAt t (lengthsFrom (numbersAt t) i) (branchesOf (numbersAt t) (number 2 t (treeFrom (numbersAt t) i)))) (number 2 t 10) ≡ []
+  unfolding upTo fromTo
+  no-branches = rw (same-held 10 (omega arith), trees)
+
   no-lengths : upTo (λ l. number 2 t (laneFrom l)) (numbersAt t .lanes) ≡ replicate (numbersAt s .lanes) 0
   no-lengths = rw same-numbers (upTo-replicate _ (numbersAt s .lanes) 0 (p .lanes))
 
@@ -156,6 +161,7 @@ module _ (s t : List ℕ) (p : Emptied s t) (h : HeadAt s) (trees : number 2 s 1
         order = no-column 2 (orderFrom n) i;
         starts = no-starts i;
         lists = no-lists i;
+        branches = no-branches i;
         lengths = no-lengths i;
         texts = no-texts i;
       }

@@ -6,3 +6,6 @@ pub mod OpenLaws
 pub mod Asked
 pub mod QuestionLaws
 pub mod SplitListLaws
+pub mod SplitLengths
+pub mod SplitLengthLaws
+pub mod NumberLaws

@@ -18,14 +18,21 @@ use answers::Number;
 use answers::Refusal;
 use layout::HEAD_BYTES;
 
-// How many bytes must be lent for a collection of these numbers.
-pub fn size(taxa: u32, lanes: u32, tree_room: u32, split_room: u32, places: u32) -> Number
-    ensures { λ r. ⌜ numberGiven r ≡ sizing (numbersOf taxa lanes «tree_room» «split_room» places) ⌝ }
+// How many bytes must be lent for a collection of these numbers, where lengths are kept or not.
+pub fn size(
+    taxa: u32,
+    lanes: u32,
+    tree_room: u32,
+    split_room: u32,
+    places: u32,
+    kept: bool,
+) -> Number
+    ensures { λ r. ⌜ numberGiven r ≡ sizing (numbersOf taxa lanes «tree_room» «split_room» places kept) ⌝ }
 {
     if !opening::numbers_in_range(taxa, lanes, tree_room, split_room, places) {
         return Number::Refused(Refusal::OutOfRange);
     }
-    Number::Gives(opening::store_size(taxa, lanes, tree_room, split_room, places))
+    Number::Gives(opening::store_size(taxa, lanes, tree_room, split_room, places, kept))
 }
 
 // Opens a collection in the lent bytes s, whatever they held. The names are read beside it first, as a refusal leaves it as it was.
@@ -36,11 +43,12 @@ pub fn open(
     tree_room: u32,
     split_room: u32,
     places: u32,
+    kept: bool,
     list: &[u8],
     first: &[u64],
     second: &[u64],
 ) -> Finish
-    ensures { λ r. ⌜ OpenedAs (opening (numbersOf taxa lanes «tree_room» «split_room» places) (now (list .entry)) (now (first .entry)) (now (second .entry)) (length (now (s .entry)))) r (now (s .entry)) (now (s .exit)) ⌝ }
+    ensures { λ r. ⌜ OpenedAs (opening (numbersOf taxa lanes «tree_room» «split_room» places kept) (now (list .entry)) (now (first .entry)) (now (second .entry)) (length (now (s .entry)))) r (now (s .entry)) (now (s .exit)) ⌝ }
 {
     if !opening::numbers_in_range(taxa, lanes, tree_room, split_room, places) {
         return Finish::Refused(Refusal::OutOfRange);
@@ -52,7 +60,7 @@ pub fn open(
     if !opening::read_names(list, taxa, &mut names) {
         return Finish::Refused(Refusal::BadNames);
     }
-    if s.len() < opening::store_size(taxa, lanes, tree_room, split_room, places) {
+    if s.len() < opening::store_size(taxa, lanes, tree_room, split_room, places, kept) {
         return Finish::Refused(Refusal::TooShort);
     }
     opening::write_head(
@@ -62,6 +70,7 @@ pub fn open(
         tree_room,
         split_room,
         places,
+        kept,
         &names,
         first,
         second,

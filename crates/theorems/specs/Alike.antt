@@ -1,19 +1,19 @@
 -- Collections that are alike in what the answers come from.
 --
---   Alike h k          the same names, number of lanes, rooms and trees; constants, places and unfinished texts may differ
+--   Alike h k          the same names, number of lanes, rooms, trees and lengths, kept or not; constants, places and unfinished texts may differ
 --   withPlaces x m     the numbers x, with m hash places
 --   SaveOthers l h k   the same but for the texts of lanes other than l
 --   SameFed f g        two feedings that answer the same and leave the collections alike
 --   SameClosed f g     two closings that do
 --   SameAnswers h k    every question but that for the collision number has the same answer
---   SameRun h k cs     the calls cs have the same answers, and leave the same trees, the same texts and the same answers to questions
+--   SameRun h k cs     the calls cs have the same answers, and leave the same trees, lengths and texts and the same answers to questions
 use Prim.Native.Nat.{ℕ}
 use mathlib.Core.Path.{_≡_}
 use mathlib.Core.List.{List}
 use lib.ListN.{length}
 use Rattle.trees.specs.Opening.{Numbers}
 use Rattle.trees.specs.Held.{Held, laneOf, Fed, Closed}
-use Rattle.trees.specs.Questions.{treesHeld, splitsHeld, splitList, splitNumber, treeNumber, oneSidedOf, doubledOf, matrixOf, strictOf, majorityOf, bothOf, writtenOf}
+use Rattle.trees.specs.Questions.{treesHeld, splitsHeld, splitList, splitNumber, treeNumber, oneSidedOf, doubledOf, matrixOf, strictOf, majorityOf, bothOf, writtenOf, weightedOf, sumsOf}
 use Rattle.trees.specs.Runs.{Call, answers, ending}
 
 -- ---- collections
@@ -23,15 +23,18 @@ pub record Alike (h k : Held) : Type 0 where
   pub lanes : h .opening .numbers .lanes ≡ k .opening .numbers .lanes
   pub treeRoom : h .opening .numbers .treeRoom ≡ k .opening .numbers .treeRoom
   pub splitRoom : h .opening .numbers .splitRoom ≡ k .opening .numbers .splitRoom
+  pub kept : h .opening .numbers .kept ≡ k .opening .numbers .kept
   pub trees : h .trees ≡ k .trees
+  pub lengths : h .lengths ≡ k .lengths
 
 unfoldable pub withPlaces : Numbers → ℕ → Numbers
-withPlaces x m = record { taxa = x .taxa; lanes = x .lanes; treeRoom = x .treeRoom; splitRoom = x .splitRoom; places = m }
+withPlaces x m = record { taxa = x .taxa; lanes = x .lanes; treeRoom = x .treeRoom; splitRoom = x .splitRoom; places = m; kept = x .kept }
 
 -- the lane l is the same, and there are as many lanes
 pub record SaveOthers (l : ℕ) (h k : Held) : Type 0 where
   pub opening : h .opening ≡ k .opening
   pub trees : h .trees ≡ k .trees
+  pub lengths : h .lengths ≡ k .lengths
   pub lane : laneOf h l ≡ laneOf k l
   pub lanes : length (h .texts) ≡ length (k .texts)
 
@@ -62,10 +65,13 @@ pub record SameAnswers (h k : Held) : Type 0 where
   pub majority : (room : ℕ) → majorityOf h room ≡ majorityOf k room
   pub both : (strictRoom majorityRoom : ℕ) → bothOf h strictRoom majorityRoom ≡ bothOf k strictRoom majorityRoom
   pub written : (i room : ℕ) → writtenOf h i room ≡ writtenOf k i room
+  pub weighted : (i j : ℕ) → weightedOf h i j ≡ weightedOf k i j
+  pub sums : (s : ℕ) → sumsOf h s ≡ sumsOf k s
 
 -- two runs of the calls cs that nobody can tell apart, save by the collision number
 pub record SameRun (h k : Held) (cs : List Call) : Type 0 where
   pub heard : answers h cs ≡ answers k cs
   pub trees : ending h cs .trees ≡ ending k cs .trees
+  pub lengths : ending h cs .lengths ≡ ending k cs .lengths
   pub texts : ending h cs .texts ≡ ending k cs .texts
   pub questions : SameAnswers (ending h cs) (ending k cs)

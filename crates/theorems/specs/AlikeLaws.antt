@@ -13,61 +13,93 @@ use lib.ListN.{length}
 use Rattle.trees.specs.Plain.{if_then_else_, keep, member, Answer, refused, gives}
 use Rattle.trees.specs.Text.{hasEnd, beforeEnd}
 use Rattle.trees.specs.Consensus.{recorded}
-use Rattle.trees.specs.Verdict.{judged}
+use Rattle.trees.specs.Value.{Length}
+use Rattle.trees.specs.Verdict.{Branches, judgedWith}
 use Rattle.trees.specs.Held.{Held, Lane, holding, overrun, laneOf, withLane, withTree, openIn, longer, newSplits, roomFor, withRoom, verdict, accepted, Fed, finished, recording, finishing, feeding, closed, closing}
 use Rattle.trees.specs.NexusCall.{onText}
-use Rattle.trees.specs.Questions.{treesHeld, splitsHeld, splitList, splitNumber, treeNumber, oneSidedOf, doubledOf, matrixOf, strictOf, majorityOf, bothOf, writtenOf}
+use Rattle.trees.specs.Questions.{treesHeld, splitsHeld, splitList, splitNumber, treeNumber, oneSidedOf, doubledOf, matrixOf, strictOf, majorityOf, bothOf, writtenOf, weightedOf, sumsOf}
 use Rattle.theorems.specs.FeedingLaws.{endsAt, feedingBy, feeding-by, closingBy, closing-by}
 use Rattle.theorems.specs.Alike.{Alike, SameFed, SameClosed, SameAnswers}
 
 -- ---- verdicts
 
 -- the room for a tree, from what it depends on
-abbrev roomBy : ℕ → ℕ → List (List ℕ) → List ℕ → Answer (List ℕ)
-roomBy treeRoom splitRoom ts t =
+abbrev roomBy : ℕ → ℕ → List (List ℕ) → Branches → Answer Branches
+roomBy treeRoom splitRoom ts b =
     if eqb (length ts) treeRoom then refused 11
-    else if ltb splitRoom (length (recorded ts) + length (keep (λ m. not (member m (recorded ts))) t)) then refused 12
-    else gives t
+    else if ltb splitRoom (length (recorded ts) + length (keep (λ m. not (member m (recorded ts))) (b .splits))) then refused 12
+    else gives b
 
 -- what feeding does where the piece p ends the text of lane l, which holds x
 abbrev textEnded : Held → ℕ → List ℕ → Lane → Fed
 textEnded h l p x = let q = beforeEnd (openIn x) p in finishing h l (suc (length q)) (verdict h (longer x q))
 
 module _ (h k : Held) (a : Alike h k) where
-  room-alike : (t : List ℕ) → roomFor h t ≡ roomFor k t
+  room-alike : (b : Branches) → roomFor h b ≡ roomFor k b
   unfolding roomFor newSplits
-  room-alike t = λ i. roomBy (a .treeRoom i) (a .splitRoom i) (a .trees i) t
+  room-alike b = λ i. roomBy (a .treeRoom i) (a .splitRoom i) (a .trees i) b
 
-  withRoom-alike : (v : Answer (List ℕ)) → withRoom h v ≡ withRoom k v
+  withRoom-alike : (v : Answer Branches) → withRoom h v ≡ withRoom k v
   unfolding withRoom
   withRoom-alike (refused n) = refl
-  withRoom-alike (gives t) = room-alike t
+  withRoom-alike (gives b) = room-alike b
 
   pub verdict-alike : (x : Lane) → verdict h x ≡ verdict k x
   unfolding verdict
   verdict-alike (overrun q) = refl
-  verdict-alike (holding s) = withRoom-alike (judged (h .opening .names) s) ∙ ap (λ ns. withRoom k (judged ns s)) (a .names)
+  verdict-alike (holding s) =
+      withRoom-alike (judgedWith (h .opening .numbers .kept) (h .opening .names) s) ∙ (λ i. withRoom k (judgedWith (a .kept i) (a .names i) s))
 
   -- ---- feeding
 
   lane-alike : (l : ℕ) (x y : Lane) → Alike (withLane h l x) (withLane k l y)
   unfolding withLane
-  lane-alike l x y = record { names = a .names; lanes = a .lanes; treeRoom = a .treeRoom; splitRoom = a .splitRoom; trees = a .trees }
+  lane-alike l x y =
+      record {
+        names = a .names;
+        lanes = a .lanes;
+        treeRoom = a .treeRoom;
+        splitRoom = a .splitRoom;
+        kept = a .kept;
+        trees = a .trees;
+        lengths = a .lengths;
+      }
 
-  finishing-alike : (l n : ℕ) (v : Answer (List ℕ)) → SameFed (finishing h l n v) (finishing k l n v)
+  tree-alike : (b : Branches) → Alike (withTree h b) (withTree k b)
+  unfolding withTree
+  tree-alike b =
+      record {
+        names = a .names;
+        lanes = a .lanes;
+        treeRoom = a .treeRoom;
+        splitRoom = a .splitRoom;
+        kept = a .kept;
+        trees = λ i. a .trees i ++ b .splits ∷ [];
+        lengths = λ i. a .lengths i ++ b .lengths ∷ [];
+      }
+
+  finishing-alike : (l n : ℕ) (v : Answer Branches) → SameFed (finishing h l n v) (finishing k l n v)
   unfolding finishing finished recording withTree withLane
   finishing-alike l n (refused r) = record { taken = refl; answer = refl; after = lane-alike l (holding []) (holding []) }
-  finishing-alike l n (gives t) =
+  finishing-alike l n (gives b) =
       record {
         taken = refl;
         answer = λ i. gives (accepted (length (a .trees i)));
-        after = record { names = a .names; lanes = a .lanes; treeRoom = a .treeRoom; splitRoom = a .splitRoom; trees = λ i. a .trees i ++ t ∷ [] };
+        after = record {
+          names = a .names;
+          lanes = a .lanes;
+          treeRoom = a .treeRoom;
+          splitRoom = a .splitRoom;
+          kept = a .kept;
+          trees = λ i. a .trees i ++ b .splits ∷ [];
+          lengths = λ i. a .lengths i ++ b .lengths ∷ [];
+        };
       }
 
   ended-alike : (l : ℕ) (p : List ℕ) (x : Lane) → SameFed (textEnded h l p x) (textEnded k l p x)
   ended-alike l p x =
       let q = beforeEnd (openIn x) p in
-      subst (λ (v : Answer (List ℕ)). SameFed (textEnded h l p x) (finishing k l (suc (length q)) v)) (verdict-alike (longer x q)) (finishing-alike l (suc (length q)) (verdict h (longer x q)))
+      subst (λ (v : Answer Branches). SameFed (textEnded h l p x) (finishing k l (suc (length q)) v)) (verdict-alike (longer x q)) (finishing-alike l (suc (length q)) (verdict h (longer x q)))
 
   fed-alike : (l : ℕ) (p : List ℕ) (b c : Bool) → laneOf h l ≡ laneOf k l → SameFed (feedingBy b c h l p) (feedingBy b c k l p)
   fed-alike l p true true e = subst (λ (x : Lane). SameFed (textEnded h l p (laneOf h l)) (textEnded k l p x)) e (ended-alike l p (laneOf h l))
@@ -82,15 +114,15 @@ module _ (h k : Held) (a : Alike h k) where
 
   -- ---- a text that is handed in
 
-  recording-alike : (v : Answer (List ℕ)) → Alike (recording h v) (recording k v)
+  recording-alike : (v : Answer Branches) → Alike (recording h v) (recording k v)
   unfolding recording withTree
   recording-alike (refused n) = a
-  recording-alike (gives t) = record { names = a .names; lanes = a .lanes; treeRoom = a .treeRoom; splitRoom = a .splitRoom; trees = λ i. a .trees i ++ t ∷ [] }
+  recording-alike (gives b) = tree-alike b
 
-  finished-alike : (v : Answer (List ℕ)) → finished h v ≡ finished k v
+  finished-alike : (v : Answer Branches) → finished h v ≡ finished k v
   unfolding finished
   finished-alike (refused n) = refl
-  finished-alike (gives t) = λ i. gives (accepted (length (a .trees i)))
+  finished-alike (gives b) = λ i. gives (accepted (length (a .trees i)))
 
   text-alike : (t : List ℕ) → onText h t ≡ onText k t
   unfolding onText
@@ -100,7 +132,7 @@ module _ (h k : Held) (a : Alike h k) where
   judged-alike t = finished-alike (onText h t) ∙ ap (finished k) (text-alike t)
 
   pub recorded-alike : (t : List ℕ) → Alike (recording h (onText h t)) (recording k (onText k t))
-  recorded-alike t = subst (λ (v : Answer (List ℕ)). Alike (recording h (onText h t)) (recording k v)) (text-alike t) (recording-alike (onText h t))
+  recorded-alike t = subst (λ (v : Answer Branches). Alike (recording h (onText h t)) (recording k v)) (text-alike t) (recording-alike (onText h t))
 
   -- ---- closing
 
@@ -116,24 +148,32 @@ module _ (h k : Held) (a : Alike h k) where
 
 -- ---- questions
 
--- a collection with these names and trees, and nothing else: what the questions come from
-abbrev bare : List (List ℕ) → List (List ℕ) → Held
-bare ns ts = record { opening = record { numbers = record { taxa = 0; lanes = 0; treeRoom = 0; splitRoom = 0; places = 0 }; names = ns; first = []; second = [] }; trees = ts; texts = [] }
+-- a collection with these names, trees and lengths, kept or not, and nothing else: what the questions come from
+abbrev bare : ℕ → List (List ℕ) → List (List ℕ) → List (List Length) → Held
+bare kept ns ts xss =
+    record {
+      opening = record { numbers = record { taxa = 0; lanes = 0; treeRoom = 0; splitRoom = 0; places = 0; kept = kept }; names = ns; first = []; second = [] };
+      trees = ts;
+      lengths = xss;
+      texts = [];
+    }
 
 pub questions-alike : (h k : Held) → Alike h k → SameAnswers h k
-unfolding treesHeld splitsHeld splitList splitNumber treeNumber oneSidedOf doubledOf matrixOf strictOf majorityOf bothOf writtenOf
+unfolding treesHeld splitsHeld splitList splitNumber treeNumber oneSidedOf doubledOf matrixOf strictOf majorityOf bothOf writtenOf weightedOf sumsOf
 questions-alike h k a =
     record {
-      number-of-trees = λ z. treesHeld (bare (a .names z) (a .trees z));
-      number-of-splits = λ z. splitsHeld (bare (a .names z) (a .trees z));
-      splits-and-counts = λ m c z. splitList (bare (a .names z) (a .trees z)) m c;
-      split-and-count = λ s z. splitNumber (bare (a .names z) (a .trees z)) s;
-      splits-of-tree = λ i r z. treeNumber (bare (a .names z) (a .trees z)) i r;
-      one-sided = λ i j z. oneSidedOf (bare (a .names z) (a .trees z)) i j;
-      doubled = λ i j z. doubledOf (bare (a .names z) (a .trees z)) i j;
-      matrix = λ r z. matrixOf (bare (a .names z) (a .trees z)) r;
-      strict = λ r z. strictOf (bare (a .names z) (a .trees z)) r;
-      majority = λ r z. majorityOf (bare (a .names z) (a .trees z)) r;
-      both = λ r q z. bothOf (bare (a .names z) (a .trees z)) r q;
-      written = λ i r z. writtenOf (bare (a .names z) (a .trees z)) i r;
+      number-of-trees = λ z. treesHeld (bare (a .kept z) (a .names z) (a .trees z) (a .lengths z));
+      number-of-splits = λ z. splitsHeld (bare (a .kept z) (a .names z) (a .trees z) (a .lengths z));
+      splits-and-counts = λ m c z. splitList (bare (a .kept z) (a .names z) (a .trees z) (a .lengths z)) m c;
+      split-and-count = λ s z. splitNumber (bare (a .kept z) (a .names z) (a .trees z) (a .lengths z)) s;
+      splits-of-tree = λ i r z. treeNumber (bare (a .kept z) (a .names z) (a .trees z) (a .lengths z)) i r;
+      one-sided = λ i j z. oneSidedOf (bare (a .kept z) (a .names z) (a .trees z) (a .lengths z)) i j;
+      doubled = λ i j z. doubledOf (bare (a .kept z) (a .names z) (a .trees z) (a .lengths z)) i j;
+      matrix = λ r z. matrixOf (bare (a .kept z) (a .names z) (a .trees z) (a .lengths z)) r;
+      strict = λ r z. strictOf (bare (a .kept z) (a .names z) (a .trees z) (a .lengths z)) r;
+      majority = λ r z. majorityOf (bare (a .kept z) (a .names z) (a .trees z) (a .lengths z)) r;
+      both = λ r q z. bothOf (bare (a .kept z) (a .names z) (a .trees z) (a .lengths z)) r q;
+      written = λ i r z. writtenOf (bare (a .kept z) (a .names z) (a .trees z) (a .lengths z)) i r;
+      weighted = λ i j z. weightedOf (bare (a .kept z) (a .names z) (a .trees z) (a .lengths z)) i j;
+      sums = λ s z. sumsOf (bare (a .kept z) (a .names z) (a .trees z) (a .lengths z)) s;
     }

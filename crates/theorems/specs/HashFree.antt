@@ -83,7 +83,13 @@ pub alike-run : (h k : Held) → Alike h k → h .texts ≡ k .texts → (cs : L
 alike-run h k a e cs =
     let s : Same h k = record { alike = a; texts = e } in
     let r = run-same h k s cs in
-    record { heard = run-answers h k s cs; trees = r .alike .trees; texts = r .texts; questions = questions-alike (ending h cs) (ending k cs) (r .alike) }
+    record {
+      heard = run-answers h k s cs;
+      trees = r .alike .trees;
+      lengths = r .alike .lengths;
+      texts = r .texts;
+      questions = questions-alike (ending h cs) (ending k cs) (r .alike);
+    }
 
 -- ---- the theorem
 
@@ -98,7 +104,9 @@ module _ (x : Numbers) (m : ℕ) (nameList first second first′ second′ : Lis
         lanes = e (λ y. y .lanes) ∙ d (λ y. y .lanes);
         treeRoom = e (λ y. y .treeRoom) ∙ d (λ y. y .treeRoom);
         splitRoom = e (λ y. y .splitRoom) ∙ d (λ y. y .splitRoom);
+        kept = e (λ y. y .kept) ∙ d (λ y. y .kept);
         trees = refl;
+        lengths = refl;
       }
 
   opened-texts : Alike (opened o) (opened q) → opened o .texts ≡ opened q .texts

@@ -1,13 +1,13 @@
 -- "Whole" is kept: a collection just opened is whole, and feeding and closing a whole one leave it whole.
 --
 --   Whole h             what the test of a whole collection says, as facts
---   verdict-fits        a tree that a verdict gives is in order, and there is room for it
+--   verdict-fits        a tree that a verdict gives is in order, with its lengths, and there is room for it
 --   opening-accepted    what an accepted opening fixes
 --   opened-whole, feeding-whole, handed-whole, closing-whole    the calls keep "whole"
 use Prim.Native.Nat.{ℕ, zero, suc, _+_, _≤_, _<_}
 use native.Mathlib.Omega.{arith}
-use mathlib.Core.Path.{_≡_, refl, _∙_, subst}
-use mathlib.Core.Bool.{Bool, true, _&&_}
+use mathlib.Core.Path.{_≡_, refl, sym, _∙_, subst}
+use mathlib.Core.Bool.{Bool, true, _&&_, true≢false}
 use mathlib.Core.List.{List, [], _∷_, _++_}
 use lib.Dec.{leb, ltb, eqb}
 use lib.ListN.{length, set, replicate, length-append, length-set, length-replicate}
@@ -15,16 +15,17 @@ use borrow.Author.Tests.{ltb-false, leb-true, le-leb, eqb-true, eqb-false, eq-eq
 use Rattle.trees.specs.Plain.{every, Answer, refused, gives}
 use Rattle.trees.specs.Names.{namesIn, goodNames}
 use Rattle.trees.specs.Consensus.{recorded}
-use Rattle.trees.specs.Verdict.{judged}
+use Rattle.trees.specs.Value.{Length}
+use Rattle.trees.specs.Verdict.{Branches, judgedWith}
 use Rattle.trees.specs.Opening.{Numbers, Opening, inRange, goodConstants, storeSize, opening}
 use Rattle.trees.specs.Held.{Held, Lane, holding, overrun, mostText, opened, laneOf, withLane, withTree, longer, newSplits, roomFor, withRoom, verdict, Fed, recording, finishing, feeding, Closed, closing}
 use Rattle.trees.specs.NexusCall.{onText}
-use Rattle.trees.specs.Whole.{goodTree, goodLane, goodOpening}
+use Rattle.trees.specs.Whole.{goodTree, goodBranches, goodLengths, goodLane, goodOpening}
 use Rattle.theorems.specs.WholeHeld.{whole}
 use Rattle.theorems.specs.ListLaws.{by-test, and-left, and-right, and-true}
 use Rattle.theorems.specs.RisingLaws.{rising-true}
 use Rattle.theorems.specs.RecordedLaws.{recorded-more}
-use Rattle.theorems.specs.VerdictLaws.{judged-good}
+use Rattle.theorems.specs.LengthVerdictLaws.{with-good}
 use Rattle.theorems.specs.OpeningLaws.{both, named}
 use Rattle.theorems.specs.ConsensusLaws.{good-rising}
 use Rattle.theorems.specs.FeedingLaws.{endsAt, lastPart}
@@ -34,6 +35,7 @@ use Rattle.theorems.specs.FeedingLaws.{endsAt, lastPart}
 pub record Whole (h : Held) : Type 0 where
   pub opening-good : goodOpening (h .opening) ≡ true
   pub trees-good : every (goodTree (h .opening .numbers .taxa)) (h .trees) ≡ true
+  pub lengths-good : goodLengths (h .opening .numbers .kept) (h .trees) (h .lengths) ≡ true
   pub trees-fit : length (h .trees) ≤ h .opening .numbers .treeRoom
   pub splits-fit : length (recorded (h .trees)) ≤ h .opening .numbers .splitRoom
   pub lanes-count : length (h .texts) ≡ h .opening .numbers .lanes
@@ -44,12 +46,14 @@ unfolding whole
 whole-facts h e =
     let a = both (goodOpening (h .opening)) _ e in
     let b = both (every (goodTree (h .opening .numbers .taxa)) (h .trees)) _ (a .1) in
-    let c = both (leb (length (h .trees)) (h .opening .numbers .treeRoom)) _ (b .1) in
+    let g = both (goodLengths (h .opening .numbers .kept) (h .trees) (h .lengths)) _ (b .1) in
+    let c = both (leb (length (h .trees)) (h .opening .numbers .treeRoom)) _ (g .1) in
     let d = both (leb (length (recorded (h .trees))) (h .opening .numbers .splitRoom)) _ (c .1) in
     let f = both (eqb (length (h .texts)) (h .opening .numbers .lanes)) (every goodLane (h .texts)) (d .1) in
     record {
       opening-good = a .0;
       trees-good = b .0;
+      lengths-good = g .0;
       trees-fit = leb-true _ _ (c .0);
       splits-fit = leb-true _ _ (d .0);
       lanes-count = eqb-true _ _ (f .0);
@@ -60,7 +64,8 @@ pub facts-whole : (h : Held) → Whole h → whole h ≡ true
 unfolding whole
 facts-whole h w =
     and-true (w .opening-good)
-    (and-true (w .trees-good) (and-true (le-leb _ _ (w .trees-fit)) (and-true (le-leb _ _ (w .splits-fit)) (and-true (eq-eqb _ _ (w .lanes-count)) (w .lanes-good)))))
+    (and-true (w .trees-good)
+    (and-true (w .lengths-good) (and-true (le-leb _ _ (w .trees-fit)) (and-true (le-leb _ _ (w .splits-fit)) (and-true (eq-eqb _ _ (w .lanes-count)) (w .lanes-good))))))
 
 -- ---- lanes
 
@@ -92,6 +97,7 @@ lane-whole h l x g w =
     record {
       opening-good = w .opening-good;
       trees-good = w .trees-good;
+      lengths-good = w .lengths-good;
       trees-fit = w .trees-fit;
       splits-fit = w .splits-fit;
       lanes-count = length-set (h .texts) l x ∙ w .lanes-count;
@@ -100,22 +106,29 @@ lane-whole h l x g w =
 
 -- ---- a tree that is accepted
 
--- of a verdict: a tree that it gives is in order, and there is room for it
-pub record Fitting (h : Held) (t : List ℕ) : Type 0 where
-  pub good : goodTree (h .opening .numbers .taxa) t ≡ true
+-- of a verdict: a tree that it gives is in order, with its lengths, and there is room for it
+pub record Fitting (h : Held) (b : Branches) : Type 0 where
+  pub good : goodTree (h .opening .numbers .taxa) (b .splits) ≡ true
+  pub good-lengths : goodBranches (h .opening .numbers .kept) (b .splits) (b .lengths) ≡ true
   pub tree-room : length (h .trees) < h .opening .numbers .treeRoom
-  pub split-room : length (recorded (h .trees)) + length (newSplits h t) ≤ h .opening .numbers .splitRoom
+  pub split-room : length (recorded (h .trees)) + length (newSplits h (b .splits)) ≤ h .opening .numbers .splitRoom
 
-abbrev pub Fits : Held → Answer (List ℕ) → Type 0
+abbrev pub Fits : Held → Answer Branches → Type 0
 Fits h (refused k) = Unit {0}
-Fits h (gives t) = Fitting h t
+Fits h (gives b) = Fitting h b
 
-room-fits : (h : Held) → Whole h → (t : List ℕ) → goodTree (h .opening .numbers .taxa) t ≡ true → Fits h (roomFor h t)
+room-fits : (h : Held) → Whole h → (b : Branches) → goodTree (h .opening .numbers .taxa) (b .splits) ≡ true → goodBranches (h .opening .numbers .kept) (b .splits) (b .lengths) ≡ true
+    → Fits h (roomFor h b)
 unfolding roomFor
-room-fits h w t g =
+room-fits h w b g l =
     by-test (Fits h) (eqb (length (h .trees)) (h .opening .numbers .treeRoom)) (λ e. tt)
-    (λ e. by-test (Fits h) (ltb (h .opening .numbers .splitRoom) (length (recorded (h .trees)) + length (newSplits h t))) (λ q. tt)
-    (λ q. record { good = g; tree-room = omega (arith, w .trees-fit, eqb-false (length (h .trees)) (h .opening .numbers .treeRoom) e); split-room = ltb-false _ _ q }))
+    (λ e. by-test (Fits h) (ltb (h .opening .numbers .splitRoom) (length (recorded (h .trees)) + length (newSplits h (b .splits)))) (λ q. tt)
+    (λ q. record {
+      good = g;
+      good-lengths = l;
+      tree-room = omega (arith, w .trees-fit, eqb-false (length (h .trees)) (h .opening .numbers .treeRoom) e);
+      split-room = ltb-false _ _ q;
+    }))
 
 names-count : (o : Opening) → goodOpening o ≡ true → length (o .names) ≡ o .numbers .taxa
 unfolding goodOpening
@@ -124,37 +137,49 @@ names-count o e = named (o .numbers .taxa) (o .names) (and-right (goodConstants 
 pub verdict-fits : (h : Held) → Whole h → (x : Lane) → Fits h (verdict h x)
 unfolding verdict withRoom
 verdict-fits h w (overrun q) = tt
-verdict-fits h w (holding s) = go (judged (h .opening .names) s) refl
+verdict-fits h w (holding s) = go (judgedWith (h .opening .numbers .kept) (h .opening .names) s) refl
   where
-    go : (a : Answer (List ℕ)) → judged (h .opening .names) s ≡ a → Fits h (withRoom h a)
+    go : (a : Answer Branches) → judgedWith (h .opening .numbers .kept) (h .opening .names) s ≡ a → Fits h (withRoom h a)
     go (refused k) e = tt
-    go (gives t) e = room-fits h w t (subst (λ n. goodTree n t ≡ true) (names-count (h .opening) (w .opening-good)) (judged-good (h .opening .names) s t e))
+    go (gives b) e =
+        let g = with-good (h .opening .numbers .kept) (h .opening .names) s b e in
+        room-fits h w b (subst (λ n. goodTree n (b .splits) ≡ true) (names-count (h .opening) (w .opening-good)) (g .0)) (g .1)
 
 every-append : {A : Type 0} (p : A → Bool) (l : List A) (x : A) → every p l ≡ true → p x ≡ true → every p (l ++ x ∷ []) ≡ true
 unfolding every
 every-append p [] x e h = and-true h refl
 every-append p (y ∷ l) x e h = and-true (and-left (p y) (every p l) e) (every-append p l x (and-right (p y) (every p l) e) h)
 
-splits-more : (h : Held) (t : List ℕ) → Fitting h t → length (recorded (h .trees ++ t ∷ [])) ≡ length (recorded (h .trees)) + length (newSplits h t)
-unfolding newSplits
-splits-more h t f = recorded-more (h .trees) t (rising-true t (good-rising (h .opening .numbers .taxa) t (f .good)))
+lengths-append : (kept : ℕ) (ts : List (List ℕ)) (xss : List (List Length)) (b : Branches) → goodLengths kept ts xss ≡ true → goodBranches kept (b .splits) (b .lengths) ≡ true
+    → goodLengths kept (ts ++ b .splits ∷ []) (xss ++ b .lengths ∷ []) ≡ true
+unfolding goodLengths
+lengths-append kept [] [] b e g = and-true g refl
+lengths-append kept [] (xs ∷ xss) b e g = absurd (true≢false (sym e))
+lengths-append kept (t ∷ ts) [] b e g = absurd (true≢false (sym e))
+lengths-append kept (t ∷ ts) (xs ∷ xss) b e g =
+    and-true (and-left (goodBranches kept t xs) (goodLengths kept ts xss) e) (lengths-append kept ts xss b (and-right (goodBranches kept t xs) (goodLengths kept ts xss) e) g)
 
-tree-whole : (h : Held) (t : List ℕ) → Whole h → Fitting h t → Whole (withTree h t)
+splits-more : (h : Held) (b : Branches) → Fitting h b → length (recorded (h .trees ++ b .splits ∷ [])) ≡ length (recorded (h .trees)) + length (newSplits h (b .splits))
+unfolding newSplits
+splits-more h b f = recorded-more (h .trees) (b .splits) (rising-true (b .splits) (good-rising (h .opening .numbers .taxa) (b .splits) (f .good)))
+
+tree-whole : (h : Held) (b : Branches) → Whole h → Fitting h b → Whole (withTree h b)
 unfolding withTree
-tree-whole h t w f =
+tree-whole h b w f =
     record {
       opening-good = w .opening-good;
-      trees-good = every-append (goodTree (h .opening .numbers .taxa)) (h .trees) t (w .trees-good) (f .good);
-      trees-fit = omega (arith, length-append (h .trees) (t ∷ []), f .tree-room);
-      splits-fit = omega (arith, splits-more h t f, f .split-room);
+      trees-good = every-append (goodTree (h .opening .numbers .taxa)) (h .trees) (b .splits) (w .trees-good) (f .good);
+      lengths-good = lengths-append (h .opening .numbers .kept) (h .trees) (h .lengths) b (w .lengths-good) (f .good-lengths);
+      trees-fit = omega (arith, length-append (h .trees) (b .splits ∷ []), f .tree-room);
+      splits-fit = omega (arith, splits-more h b f, f .split-room);
       lanes-count = w .lanes-count;
       lanes-good = w .lanes-good;
     }
 
-recording-whole : (h : Held) (v : Answer (List ℕ)) → Whole h → Fits h v → Whole (recording h v)
+recording-whole : (h : Held) (v : Answer Branches) → Whole h → Fits h v → Whole (recording h v)
 unfolding recording
 recording-whole h (refused k) w f = w
-recording-whole h (gives t) w f = tree-whole h t w f
+recording-whole h (gives b) w f = tree-whole h b w f
 
 -- ---- the calls
 
@@ -182,12 +207,13 @@ module _ (x : Numbers) (nameList first second : List ℕ) (lent : ℕ) (o : Open
       (λ a. tt))
 
   pub opened-whole : whole (opened o) ≡ true
-  unfolding opened recorded every
+  unfolding opened recorded every goodLengths
   opened-whole =
       facts-whole (opened o)
       record {
         opening-good = opening-accepted .good;
         trees-good = refl;
+        lengths-good = refl;
         trees-fit = omega arith;
         splits-fit = omega arith;
         lanes-count = length-replicate (o .numbers .lanes) (holding []);
@@ -195,7 +221,7 @@ module _ (x : Numbers) (nameList first second : List ℕ) (lent : ℕ) (o : Open
       }
 
 -- "After a semicolon the lane is empty either way"
-finishing-whole : (h : Held) (l n : ℕ) (v : Answer (List ℕ)) → Whole h → Fits h v → Whole (finishing h l n v .after)
+finishing-whole : (h : Held) (l n : ℕ) (v : Answer Branches) → Whole h → Fits h v → Whole (finishing h l n v .after)
 unfolding finishing
 finishing-whole h l n v w f = lane-whole (recording h v) l (holding []) empty-good (recording-whole h v w f)
 

@@ -3,8 +3,8 @@
 --
 --   whole-text, whole-closing       a whole text on empty lanes: it ends, or its lane is closed; and all lanes are empty again
 --   same-run                        from pending bytes on, a run comes to what its whole texts come to
---   any-lane-will-do                the same verdicts and trees, to whichever lanes the whole texts are fed
---   lanes-make-no-difference        each to its own lane: the same verdicts, in the same order, and the same trees
+--   any-lane-will-do                the same verdicts, trees and lengths, to whichever lanes the whole texts are fed
+--   lanes-make-no-difference        each to its own lane: the same verdicts, in the same order, and the same trees and lengths
 --   one-lane-will-do                all to lane 0
 --   questions-make-no-difference    so every question has the same answer
 use Prim.Native.Nat.{ℕ, _<_}
@@ -30,7 +30,7 @@ use Rattle.theorems.specs.Alike.{SameAnswers}
 use Rattle.theorems.specs.AlikeLaws.{questions-alike}
 use Rattle.theorems.specs.QuoteLaws.{before-unended, before-end, has-end}
 use Rattle.theorems.specs.PieceLaws.{text, map-replicate, set-replicate, getD-all, unended, unended-append, closed-append}
-use Rattle.theorems.specs.OutcomeLaws.{Outcome, outcome, noted, shut, state, partOf, grown, judgement, outcome-hand, outcome-text, outcome-more, outcome-no-lane, outcome-closed, outcome-not-closed}
+use Rattle.theorems.specs.OutcomeLaws.{Trees, Outcome, outcome, noted, shut, state, partOf, grown, judgement, outcome-hand, outcome-text, outcome-more, outcome-no-lane, outcome-closed, outcome-not-closed}
 
 module _ (o : Opening) where
   -- ---- a whole text, all lanes being empty
@@ -46,7 +46,7 @@ module _ (o : Opening) where
   unfolding endsIn
   empty-ends l p = ap (λ (q : Bool). hasEnd q p) (empty-closed l)
 
-  module _ (ts : List (List ℕ)) (l : ℕ) (w : List ℕ) (cs : List Call) (e : ltb l (o .numbers .lanes) ≡ true) (f : hasEnd false w ≡ false) where
+  module _ (ts : Trees) (l : ℕ) (w : List ℕ) (cs : List Call) (e : ltb l (o .numbers .lanes) ≡ true) (f : hasEnd false w ≡ false) where
     -- no quotes are open where its semicolon stands
     whole-text : openAfter false w ≡ false
         → outcome (state o ts empty) (feed l (w ++ semicolon ∷ []) ∷ cs) ≡ noted (finished (state o ts []) (judgement o ts w)) (outcome (state o (grown o ts (judgement o ts w)) empty) cs)
@@ -80,9 +80,13 @@ module _ (o : Opening) where
   pending-set : (us : List (List ℕ)) → Pending us → (l : ℕ) (w : List ℕ) → hasEnd false w ≡ false → Pending (set us l w)
   pending-set us d l w e = record { many = length-set us l w ∙ d .many; open-ended = every-set unended us l w (ap not e) (d .open-ended) }
 
-  opened-state : opened o ≡ state o [] empty
+  -- no trees
+  abbrev noTrees : Trees
+  noTrees = ([], [])
+
+  opened-state : opened o ≡ state o noTrees empty
   unfolding opened longer
-  opened-state = ap (λ (xs : List Lane). record { opening = o; trees = []; texts = xs }) (sym (map-replicate text (o .numbers .lanes) []))
+  opened-state = ap (λ (xs : List Lane). record { opening = o; trees = []; lengths = []; texts = xs }) (sym (map-replicate text (o .numbers .lanes) []))
 
   opened-pending : Pending empty
   unfolding hasEnd
@@ -95,9 +99,9 @@ module _ (o : Opening) where
 
     -- from pending bytes on, the calls cs come to what their whole texts come to
     abbrev AsWhole : List Call → Type 0
-    AsWhole cs = (ts us : List (List ℕ)) → Pending us → outcome (state o ts us) cs ≡ outcome (state o ts empty) (moved (textsAfter us cs))
+    AsWhole cs = (ts : Trees) (us : List (List ℕ)) → Pending us → outcome (state o ts us) cs ≡ outcome (state o ts empty) (moved (textsAfter us cs))
 
-    module _ (l : ℕ) (cs : List Call) (rest : AsWhole cs) (ts us : List (List ℕ)) (d : Pending us) where
+    module _ (l : ℕ) (cs : List Call) (rest : AsWhole cs) (ts : Trees) (us : List (List ℕ)) (d : Pending us) where
       is-lane : (b : Bool) → ltb l (o .numbers .lanes) ≡ b → ltb l (length us) ≡ b
       is-lane b e = ap (ltb l) (d .many) ∙ e
 
@@ -165,7 +169,7 @@ module _ (o : Opening) where
     opened-run : (cs : List Call) → outcome (opened o) cs ≡ outcome (opened o) (moved (wholeTexts (o .numbers .lanes) cs))
     unfolding wholeTexts
     opened-run cs =
-        ap (λ (h : Held). outcome h cs) opened-state ∙ same-run cs [] empty opened-pending
+        ap (λ (h : Held). outcome h cs) opened-state ∙ same-run cs noTrees empty opened-pending
         ∙ ap (λ (h : Held). outcome h (moved (textsAfter empty cs))) (sym opened-state)
 
 -- ---- the theorem
@@ -174,8 +178,11 @@ module _ (o : Opening) (g : ℕ → ℕ) (stay : (l : ℕ) → ltb (g l) (o .num
   -- the whole texts may be fed to any lanes
   pub any-lane-will-do : (finals (answers (opened o) cs) ≡ finals (answers (opened o) (map (onLane g) (wholeTexts (o .numbers .lanes) cs))))
       × (ending (opened o) cs .trees ≡ ending (opened o) (map (onLane g) (wholeTexts (o .numbers .lanes) cs)) .trees)
+      × (ending (opened o) cs .lengths ≡ ending (opened o) (map (onLane g) (wholeTexts (o .numbers .lanes) cs)) .lengths)
   unfolding outcome
-  any-lane-will-do = (ap (λ (r : Outcome). r .0) (opened-run o g stay cs), ap (λ (r : Outcome). r .1) (opened-run o g stay cs))
+  any-lane-will-do =
+      let e = opened-run o g stay cs in
+      (ap (λ (r : Outcome). r .0) e, ap (λ (r : Outcome). r .1 .0) e, ap (λ (r : Outcome). r .1 .1) e)
 
 own-lanes : (cs : List Call) → map (onLane (λ l. l)) cs ≡ cs
 unfolding onLane
@@ -187,15 +194,20 @@ own-lanes (close l ∷ cs) = ap (λ (ds : List Call). close l ∷ ds) (own-lanes
 module _ (o : Opening) (cs : List Call) where
   pub lanes-make-no-difference : (finals (answers (opened o) cs) ≡ finals (answers (opened o) (wholeTexts (o .numbers .lanes) cs)))
       × (ending (opened o) cs .trees ≡ ending (opened o) (wholeTexts (o .numbers .lanes) cs) .trees)
+      × (ending (opened o) cs .lengths ≡ ending (opened o) (wholeTexts (o .numbers .lanes) cs) .lengths)
   lanes-make-no-difference =
       let r = any-lane-will-do o (λ l. l) (λ l. refl) cs in
-      let e = own-lanes (wholeTexts (o .numbers .lanes) cs) in
-      (r .0 ∙ ap (λ (ds : List Call). finals (answers (opened o) ds)) e, r .1 ∙ ap (λ (ds : List Call). ending (opened o) ds .trees) e)
+      let e = own-lanes (wholeTexts (o .numbers .lanes) cs) in (
+        r .0 ∙ ap (λ (ds : List Call). finals (answers (opened o) ds)) e,
+        r .1 ∙ ap (λ (ds : List Call). ending (opened o) ds .trees) e,
+        r .2 ∙ ap (λ (ds : List Call). ending (opened o) ds .lengths) e,
+      )
 
   -- and so all to lane 0
   pub one-lane-will-do : 0 < o .numbers .lanes
       → (finals (answers (opened o) cs) ≡ finals (answers (opened o) (map (onLane (onOneLane (o .numbers .lanes))) (wholeTexts (o .numbers .lanes) cs))))
       × (ending (opened o) cs .trees ≡ ending (opened o) (map (onLane (onOneLane (o .numbers .lanes))) (wholeTexts (o .numbers .lanes) cs)) .trees)
+      × (ending (opened o) cs .lengths ≡ ending (opened o) (map (onLane (onOneLane (o .numbers .lanes))) (wholeTexts (o .numbers .lanes) cs)) .lengths)
   unfolding onOneLane
   one-lane-will-do h = any-lane-will-do o (onOneLane (o .numbers .lanes)) (λ l. go l (ltb l (o .numbers .lanes)) refl) cs
     where
@@ -213,9 +225,11 @@ module _ (o : Opening) (cs : List Call) where
         lanes = λ i. same-opening i .numbers .lanes;
         treeRoom = λ i. same-opening i .numbers .treeRoom;
         splitRoom = λ i. same-opening i .numbers .splitRoom;
+        kept = λ i. same-opening i .numbers .kept;
         trees = lanes-make-no-difference .1;
+        lengths = lanes-make-no-difference .2;
       })
 
   pub collisions-make-no-difference : collisionsOf (ending (opened o) cs) ≡ collisionsOf (ending (opened o) (wholeTexts (o .numbers .lanes) cs))
   unfolding collisionsOf
-  collisions-make-no-difference = λ i. collisionsOf (record { opening = same-opening i; trees = lanes-make-no-difference .1 i; texts = [] })
+  collisions-make-no-difference = λ i. collisionsOf (record { opening = same-opening i; trees = lanes-make-no-difference .1 i; lengths = []; texts = [] })

@@ -25,6 +25,7 @@ pub mod ProperLaws
 pub mod FewLaws
 pub mod BranchLaws
 pub mod TreeOfLaws
+pub mod Absent
 pub mod WrittenLaws
 pub mod FeedingLaws
 pub mod WrittenFedLaws
@@ -40,15 +41,19 @@ pub mod PieceLaws
 pub mod Quiet
 pub mod QuietLaws
 pub mod RunLaws
+pub mod WholeLengthLaws
 pub mod OutcomeLaws
 pub mod LaneLaws
 pub mod HashFree
 pub mod Refusing
 pub mod FaultLaws
+pub mod LengthVerdictLaws
 pub mod RefusingLaws
 pub mod RefusalNumberLaws
+pub mod NotKeptLaws
 pub mod EdgeLaws
 pub mod EdgeLengthLaws
+pub mod TreeLengthLaws
 pub mod PermLaws
 pub mod Unrooted
 pub mod UnrootedLaws

@@ -43,7 +43,7 @@ combSplits zero = []
 combSplits (suc k) = (2 ^ 64 - 2 ^ (k + 2)) ∷ combSplits k
 
 unfoldable pub longNumbers : Numbers
-longNumbers = record { taxa = 64; lanes = 1; treeRoom = 1; splitRoom = 61; places = 1 }
+longNumbers = record { taxa = 64; lanes = 1; treeRoom = 1; splitRoom = 61; places = 1; kept = 0 }
 
 unfoldable pub longOpening : Opening
 unfolding longNumbers longNames

@@ -21,6 +21,7 @@ use Rattle.trees.specs.Mask.{everyTaxon, proper}
 use Rattle.trees.specs.Names.{goodNames}
 use Rattle.trees.specs.Consensus.{strict, majority}
 use Rattle.trees.specs.Written.{written}
+use Rattle.trees.specs.Verdict.{Branches}
 use Rattle.trees.specs.Opening.{storeSize, opening}
 use Rattle.trees.specs.Held.{Held, holding, opened, laneOf, withLane, withTree, roomFor, accepted, finished, recording, finishing, feeding}
 use Rattle.trees.specs.Questions.{ifRoom, ifTree, ifTrees, tree, strictOf, majorityOf, writtenOf}
@@ -31,6 +32,7 @@ use Rattle.theorems.specs.OnesLaws.{ones-part}
 use Rattle.theorems.specs.MaskLaws.{Ag, below-sub, others-xor, others-on, on-others}
 use Rattle.theorems.specs.SplitLaws.{pairs-intro}
 use Rattle.theorems.specs.ProperLaws.{every-ones, true-proper}
+use Rattle.theorems.specs.Absent.{withoutLengths}
 use Rattle.theorems.specs.WrittenFedLaws.{written-accepted}
 use Rattle.theorems.specs.Longest.{longNames, listed, combSplits, longNumbers, longOpening, longText, longest}
 
@@ -113,8 +115,12 @@ longest-opens = refl
 
 -- ---- its one tree
 
-long-room : roomFor (opened longOpening) (combSplits 61) ≡ gives (combSplits 61)
-unfolding roomFor opened longOpening combSplits
+-- its splits; lengths are not kept
+longBranches : Branches
+longBranches = withoutLengths 0 (combSplits 61)
+
+long-room : roomFor (opened longOpening) longBranches ≡ gives longBranches
+unfolding roomFor opened longOpening combSplits longBranches withoutLengths
 long-room = refl
 
 long-lane : ltb 0 (opened longOpening .opening .numbers .lanes) ≡ true
@@ -129,10 +135,15 @@ long-named : opened longOpening .opening .names ≡ longNames
 unfolding opened longOpening
 long-named = refl
 
-long-fed : feeding (opened longOpening) 0 longText ≡ finishing (opened longOpening) 0 (length longText) (gives (combSplits 61))
-unfolding longText
+long-kept : opened longOpening .opening .numbers .kept ≡ 0
+unfolding opened longOpening longNumbers
+long-kept = refl
+
+long-fed : feeding (opened longOpening) 0 longText ≡ finishing (opened longOpening) 0 (length longText) (gives longBranches)
+unfolding longText longBranches
 long-fed =
     written-accepted 64 longNames (combSplits 61) names-good comb-good (opened longOpening) 0 long-lane (omega arith) (omega arith) long-named long-empty
+    ∙ ap (λ (kept : ℕ). finishing (opened longOpening) 0 (length longText) (roomFor (opened longOpening) (withoutLengths kept (combSplits 61)))) long-kept
     ∙ ap (finishing (opened longOpening) 0 (length longText)) long-room
 
 pub longest-accepts : feeding (opened longOpening) 0 longText .answer ≡ gives (accepted 0)
@@ -140,14 +151,14 @@ unfolding finishing finished opened
 longest-accepts = ap (λ f. f .answer) long-fed
 
 holds-one : Held
-holds-one = withLane (withTree (opened longOpening) (combSplits 61)) 0 (holding [])
+holds-one = withLane (withTree (opened longOpening) longBranches) 0 (holding [])
 
 long-after : longest ≡ holds-one
 unfolding longest finishing recording holds-one
 long-after = ap (λ f. f .after) long-fed
 
 pub longest-trees : longest .trees ≡ combSplits 61 ∷ []
-unfolding holds-one withLane withTree opened
+unfolding holds-one withLane withTree opened longBranches withoutLengths
 longest-trees = ap (λ h. h .trees) long-after
 
 longest-names : longest .opening .names ≡ longNames

@@ -18,6 +18,7 @@ use lib.ListN.{length, getD, set}
 use Rattle.trees.specs.Plain.{Answer, refused, gives}
 use Rattle.trees.specs.Text.{semicolon, openAfter, hasEnd, beforeEnd}
 use Rattle.trees.specs.Names.{different}
+use Rattle.trees.specs.Verdict.{Branches}
 use Rattle.trees.specs.Held.{Held, Lane, holding, laneOf, withLane, openIn, longer, verdict, Fed, finished, recording, finishing, feeding}
 use Rattle.trees.specs.Batch.{verdictNumber, Batched, withVerdict}
 use Rattle.trees.specs.Runs.{Call, feed, Heard, fed, closedLane, answer, next, answers, ending}
@@ -63,14 +64,14 @@ set-same {A} (y ∷ xs) (suc i) x e = ap (λ (l : List A). y ∷ l) (set-same xs
 -- an empty lane emptied
 lane-emptied : (h : Held) (l : ℕ) → laneOf h l ≡ holding [] → withLane h l (holding []) ≡ h
 unfolding withLane laneOf
-lane-emptied h l e = ap (λ (xs : List Lane). record { opening = h .opening; trees = h .trees; texts = xs }) (set-same (h .texts) l (holding []) e)
+lane-emptied h l e = ap (λ (xs : List Lane). record { opening = h .opening; trees = h .trees; lengths = h .lengths; texts = xs }) (set-same (h .texts) l (holding []) e)
 
 -- a lane that is there, and empty
 pub record EmptyLane (h : Held) (l : ℕ) : Type 0 where
   pub there : ltb l (h .opening .numbers .lanes) ≡ true
   pub empty : laneOf h l ≡ holding []
 
-empty-kept : (h : Held) (l : ℕ) (v : Answer (List ℕ)) → EmptyLane h l → EmptyLane (recording h v) l
+empty-kept : (h : Held) (l : ℕ) (v : Answer Branches) → EmptyLane h l → EmptyLane (recording h v) l
 unfolding laneOf
 empty-kept h l v e =
     record {

@@ -1,10 +1,10 @@
 -- The plain NEXUS file around trees that we write reads back: every tree is judged to exactly the splits that it was written from.
 --
---   judged-blank               a blank before a text changes no verdict of its own
+--   judged-blank               a blank before a text changes no verdict of its own, kept lengths or not
 --   treeText ns s              the tree with the splits s, without its semicolon
 --   written-file               the file around written trees is a NEXUS file
 --   written-file-reads-back    it gives no pairs, and as texts the written trees without their semicolons, behind a blank
---   written-file-accepted      handed in, each of its trees is accepted with exactly its splits where there is room
+--   written-file-accepted      handed in, each of its trees is accepted with exactly its splits, and no lengths, where there is room
 use Prim.Native.Nat.{ℕ, _≤_}
 use native.Mathlib.Omega.{arith}
 use mathlib.Core.Path.{_≡_, refl, ap, sym, _∙_, subst}
@@ -18,7 +18,7 @@ use Rattle.trees.specs.Plain.{every, Answer, refused, gives}
 use Rattle.trees.specs.Text.{kindIn, openAfter, ended, symbols}
 use Rattle.trees.specs.Tree.{Nodes}
 use Rattle.trees.specs.Names.{goodNames, different}
-use Rattle.trees.specs.Verdict.{judgedTree, judged}
+use Rattle.trees.specs.Verdict.{judgedTree, Branches, withLengths, judgedWith}
 use Rattle.trees.specs.Written.{treeOf, shown, written}
 use Rattle.trees.specs.Held.{Held, roomFor, withRoom, verdict, finished, recording}
 use Rattle.trees.specs.Whole.{goodTree}
@@ -31,11 +31,12 @@ use Rattle.theorems.specs.TextLaws.{byKind, symbols-cons}
 use Rattle.theorems.specs.LabelLaws.{end-outside}
 use Rattle.theorems.specs.OutsideLaws.{hides-leads}
 use Rattle.theorems.specs.GrammarLaws.{reading-symbols}
-use Rattle.theorems.specs.WrittenLaws.{written-tree-reads-back, written-closed, written-unended, written-no-comment, written-length}
+use Rattle.theorems.specs.WrittenLaws.{written-tree-with-lengths, written-closed, written-unended, written-no-comment, written-length}
 use Rattle.theorems.specs.WrittenFedLaws.{written-more}
 use Rattle.theorems.specs.PieceLaws.{text-held}
 use Rattle.theorems.specs.OwnLaneLaws.{recording-opening}
 use Rattle.theorems.specs.NexusLaws.{read-exactly}
+use Rattle.theorems.specs.Absent.{withoutLengths}
 use Rattle.theorems.specs.NexusFile.{fileAround, accepting}
 use Rattle.theorems.specs.NexusFileLaws.{Plain, AllPlain, withEnd, behindBlank, around-file, around-plain}
 
@@ -45,9 +46,10 @@ blank-symbols : (w : List ℕ) → symbols (32 ∷ w) ≡ symbols w
 unfolding byKind kindIn openAfter ended
 blank-symbols w = symbols-cons [] 32 w
 
-pub judged-blank : (ns : List (List ℕ)) (w : List ℕ) → judged ns (32 ∷ w) ≡ judged ns w
-unfolding judged
-judged-blank ns w = ap (λ (o : Option Nodes). elim o as (λ _. Answer (List ℕ)) [ none ↦ refused 7 | some t ↦ judgedTree ns t ]) (reading-symbols (32 ∷ w) w (blank-symbols w))
+pub judged-blank : (kept : ℕ) (ns : List (List ℕ)) (w : List ℕ) → judgedWith kept ns (32 ∷ w) ≡ judgedWith kept ns w
+unfolding judgedWith
+judged-blank kept ns w =
+    ap (λ (o : Option Nodes). elim o as (λ _. Answer Branches) [ none ↦ refused 7 | some t ↦ withLengths kept ns t (judgedTree ns t) ]) (reading-symbols (32 ∷ w) w (blank-symbols w))
 
 -- ---- the file
 
@@ -90,20 +92,21 @@ module _ (n : ℕ) (ns : List (List ℕ)) (names : goodNames n ns ≡ true) (lea
   abbrev lineText : List ℕ → List ℕ
   lineText s = 32 ∷ treeText ns s
 
-  line-judged : (h : Held) → h .opening .names ≡ ns → (s : List ℕ) → goodTree n s ≡ true → onText h (lineText s) ≡ roomFor h s
+  line-judged : (h : Held) → h .opening .names ≡ ns → (s : List ℕ) → goodTree n s ≡ true → onText h (lineText s) ≡ roomFor h (withoutLengths (h .opening .numbers .kept) s)
   unfolding onText verdict withRoom
   line-judged h same s good =
       ap (verdict h) (text-held (lineText s) (omega (arith, written-more ns s, written-length n ns s names good least most)))
-      ∙ ap (λ (x : List (List ℕ)). withRoom h (judged x (lineText s))) same
-      ∙ ap (withRoom h) (judged-blank ns (treeText ns s) ∙ written-tree-reads-back n ns s names good (omega arith) most)
+      ∙ ap (λ (x : List (List ℕ)). withRoom h (judgedWith (h .opening .numbers .kept) x (lineText s))) same
+      ∙ ap (withRoom h) (judged-blank (h .opening .numbers .kept) ns (treeText ns s) ∙ written-tree-with-lengths n ns s names good (h .opening .numbers .kept) (omega arith) most)
 
   handing-accepts : (h : Held) → h .opening .names ≡ ns → (ss : List (List ℕ)) → every (goodTree n) ss ≡ true → handing h (map lineText ss) ≡ accepting h ss
   unfolding handing accepting every
   handing-accepts h same [] e = refl
   handing-accepts h same (s ∷ ss) e =
-      let kept : recording h (roomFor h s) .opening .names ≡ ns = ap (λ o. o .names) (recording-opening h (roomFor h s)) ∙ same in
-      ap (λ (v : Answer (List ℕ)). withVerdict (verdictNumber (finished h v)) (handing (recording h v) (map lineText ss))) (line-judged h same s (and-left (goodTree n s) (every (goodTree n) ss) e))
-      ∙ ap (withVerdict (verdictNumber (finished h (roomFor h s)))) (handing-accepts (recording h (roomFor h s)) kept ss (and-right (goodTree n s) (every (goodTree n) ss) e))
+      let v = roomFor h (withoutLengths (h .opening .numbers .kept) s) in
+      let still : recording h v .opening .names ≡ ns = ap (λ o. o .names) (recording-opening h v) ∙ same in
+      ap (λ (v : Answer Branches). withVerdict (verdictNumber (finished h v)) (handing (recording h v) (map lineText ss))) (line-judged h same s (and-left (goodTree n s) (every (goodTree n) ss) e))
+      ∙ ap (withVerdict (verdictNumber (finished h v))) (handing-accepts (recording h v) still ss (and-right (goodTree n s) (every (goodTree n) ss) e))
 
   module _ (h : Held) (same : h .opening .names ≡ ns) (ss : List (List ℕ)) (good : every (goodTree n) ss ≡ true) where
     pub written-file-accepted : (room : ℕ) → length ss ≤ room → nexus h (fileAround (map (written ns) ss)) room ≡ gives (accepting h ss)

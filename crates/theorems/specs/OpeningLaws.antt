@@ -4,10 +4,11 @@
 --   Constants x f s   both lists are n long, and their constants are in their ranges
 --   Named n ns        n different names
 --   GoodOpening o     all of these
---   size-most         a store is no larger than document 01 allows
+--   size-most, size-most-kept    a store is no larger than documents 01 and 02 allow
 use Prim.Native.Nat.{ℕ, zero, suc, _+_, _*_, _^_, _≤_, _<_}
+use native.Mathlib.Nat.{zero-mul, mul-le-mul-right}
 use native.Mathlib.Omega.{arith}
-use mathlib.Core.Path.{_≡_}
+use mathlib.Core.Path.{_≡_, ap, _∙_}
 use mathlib.Core.Bool.{Bool, true, _&&_}
 use mathlib.Core.List.{List, [], _∷_}
 use lib.Dec.{leb, ltb, eqb}
@@ -47,6 +48,7 @@ pub record InRange (x : Numbers) : Type 0 where
   pub most-splits : x .splitRoom ≤ mostRoom
   pub least-places : 1 ≤ x .places
   pub most-places : x .places ≤ 2 * x .splitRoom
+  pub most-kept : x .kept ≤ 1
 
 pub in-range : (x : Numbers) → inRange x ≡ true → InRange x
 unfolding inRange
@@ -54,12 +56,13 @@ in-range x e =
     let a = both (between 4 64 (x .taxa)) _ e in
     let b = both (between 1 8 (x .lanes)) _ (a .1) in
     let c = both (between 1 1024 (x .treeRoom)) _ (b .1) in
-    let d = both (between 1 mostRoom (x .splitRoom)) (between 1 (2 * x .splitRoom) (x .places)) (c .1) in
+    let d = both (between 1 mostRoom (x .splitRoom)) _ (c .1) in
+    let f = both (between 1 (2 * x .splitRoom) (x .places)) (leb (x .kept) 1) (d .1) in
     let n = between-true 4 64 (x .taxa) (a .0) in
     let l = between-true 1 8 (x .lanes) (b .0) in
     let t = between-true 1 1024 (x .treeRoom) (c .0) in
     let s = between-true 1 mostRoom (x .splitRoom) (d .0) in
-    let m = between-true 1 (2 * x .splitRoom) (x .places) (d .1) in
+    let m = between-true 1 (2 * x .splitRoom) (x .places) (f .0) in
     record {
       least-taxa = n .0;
       most-taxa = n .1;
@@ -71,12 +74,24 @@ in-range x e =
       most-splits = s .1;
       least-places = m .0;
       most-places = m .1;
+      most-kept = leb-true (x .kept) 1 (f .1);
     }
 
--- "at most 64 bytes per split of room, 256 per tree of room, 8,192 per lane and 8,192 besides"
-pub size-most : (x : Numbers) → inRange x ≡ true → storeSize x ≤ 64 * x .splitRoom + 256 * x .treeRoom + 8192 * x .lanes + 8192
+-- "at most 64 bytes per split of room, 256 per tree of room, 8,192 per lane and 8,192 besides", where lengths are not kept
+pub size-most : (x : Numbers) → inRange x ≡ true → x .kept ≡ 0 → storeSize x ≤ 64 * x .splitRoom + 256 * x .treeRoom + 8192 * x .lanes + 8192
 unfolding storeSize
-size-most x e = let r = in-range x e in omega (arith, r .most-places)
+size-most x e k =
+    let r = in-range x e in
+    let none : x .kept * x .treeRoom ≡ 0 = ap (λ n. n * x .treeRoom) k ∙ zero-mul (x .treeRoom) in
+    omega (arith, r .most-places)
+
+-- if they are kept, "memory per tree is up to 1,024 bytes"
+pub size-most-kept : (x : Numbers) → inRange x ≡ true → storeSize x ≤ 64 * x .splitRoom + 1024 * x .treeRoom + 8192 * x .lanes + 8192
+unfolding storeSize
+size-most-kept x e =
+    let r = in-range x e in
+    let most : x .kept * x .treeRoom ≤ 1 * x .treeRoom = mul-le-mul-right (x .treeRoom) (r .most-kept) in
+    omega (arith, r .most-places)
 
 -- ---- the constants
 

@@ -1,5 +1,6 @@
 -- What a run of calls comes to, call by call, on a collection whose lanes hold pending bytes.
 --
+--   Trees               accepted trees, and their lengths
 --   outcome h cs        the final answers of a run, and the trees at its end
 --   state o ts us       a collection with the trees ts, each lane of which was empty and got its bytes of us
 --   partOf us l p       the bytes of the piece p before the end of lane l's text
@@ -15,7 +16,9 @@ use lib.Dec.{ltb}
 use lib.ListN.{length, getD, set, List·getD-map}
 use Rattle.trees.specs.Plain.{Answer, refused, gives}
 use Rattle.trees.specs.Text.{openAfter, hasEnd, beforeEnd}
+use Rattle.trees.specs.Value.{Length}
 use Rattle.trees.specs.Opening.{Opening}
+use Rattle.trees.specs.Verdict.{Branches}
 use Rattle.trees.specs.Held.{Held, Lane, holding, laneOf, withLane, withTree, openIn, longer, verdict, Progress, moreWanted, accepted, Fed, finished, recording, finishing, feeding, Closed, closed, closing}
 use Rattle.trees.specs.NexusCall.{onText}
 use Rattle.theorems.specs.FeedingLaws.{endsAt, lastPart, feedingBy, feeding-by, closingBy, closing-by}
@@ -26,13 +29,20 @@ use Rattle.theorems.specs.PieceLaws.{longer-longer, text, open-text, map
 
 -- ---- what a run comes to
 
+-- the accepted trees, by their splits, and their lengths
+abbrev pub Trees : Type 0
+Trees = List (List ℕ) × List (List Length)
+
+abbrev pub treesOf : Held → Trees
+treesOf h = (h .trees, h .lengths)
+
 -- its final answers and the trees at its end
 abbrev pub Outcome : Type 0
-Outcome = List Final × List (List ℕ)
+Outcome = List Final × Trees
 
 unfoldable pub outcome : Held → List Call → Outcome
 unfolding finals answers ending
-outcome h cs = (finals (answers h cs), ending h cs .trees)
+outcome h cs = (finals (answers h cs), treesOf (ending h cs))
 
 -- an answer to a piece, and then the rest of the run
 unfoldable pub noted : Answer Progress → Outcome → Outcome
@@ -44,7 +54,7 @@ pub outcome-feed : (h : Held) (l : ℕ) (p : List ℕ) (cs : List Call) → outc
 unfolding outcome noted answer next
 outcome-feed h l p cs = go (feeding h l p .answer)
   where
-    go : (a : Answer Progress) → (finals (fed (feeding h l p .taken) a ∷ answers (feeding h l p .after) cs), ending (feeding h l p .after) cs .trees) ≡ noted a (outcome (feeding h l p .after) cs)
+    go : (a : Answer Progress) → (finals (fed (feeding h l p .taken) a ∷ answers (feeding h l p .after) cs), treesOf (ending (feeding h l p .after) cs)) ≡ noted a (outcome (feeding h l p .after) cs)
     go (gives moreWanted) = refl
     go (gives (accepted t)) = refl
     go (refused k) = refl
@@ -64,64 +74,64 @@ abbrev pub partOf : List (List ℕ) → ℕ → List ℕ → List ℕ
 partOf us l p = beforeEnd (openAfter false (getD us l [])) p
 
 module _ (o : Opening) where
-  abbrev pub state : List (List ℕ) → List (List ℕ) → Held
-  state ts us = record { opening = o; trees = ts; texts = map text us }
+  abbrev pub state : Trees → List (List ℕ) → Held
+  state ts us = record { opening = o; trees = ts .0; lengths = ts .1; texts = map text us }
 
-  state-lane : (ts us : List (List ℕ)) (l : ℕ) → laneOf (state ts us) l ≡ text (getD us l [])
+  state-lane : (ts : Trees) (us : List (List ℕ)) (l : ℕ) → laneOf (state ts us) l ≡ text (getD us l [])
   unfolding laneOf longer
   state-lane ts us l = List·getD-map text us l []
 
-  state-open : (ts us : List (List ℕ)) (l : ℕ) → openIn (laneOf (state ts us) l) ≡ openAfter false (getD us l [])
+  state-open : (ts : Trees) (us : List (List ℕ)) (l : ℕ) → openIn (laneOf (state ts us) l) ≡ openAfter false (getD us l [])
   state-open ts us l = ap openIn (state-lane ts us l) ∙ open-text (getD us l [])
 
-  state-set : (ts us : List (List ℕ)) (l : ℕ) (u : List ℕ) → withLane (state ts us) l (text u) ≡ state ts (set us l u)
+  state-set : (ts : Trees) (us : List (List ℕ)) (l : ℕ) (u : List ℕ) → withLane (state ts us) l (text u) ≡ state ts (set us l u)
   unfolding withLane
-  state-set ts us l u = ap (λ (xs : List Lane). record { opening = o; trees = ts; texts = xs }) (sym (map-set text us l u))
+  state-set ts us l u = ap (λ (xs : List Lane). record { opening = o; trees = ts .0; lengths = ts .1; texts = xs }) (sym (map-set text us l u))
 
   -- the trees with the one that a verdict gives
-  abbrev pub grown : List (List ℕ) → Answer (List ℕ) → List (List ℕ)
+  abbrev pub grown : Trees → Answer Branches → Trees
   grown ts (refused k) = ts
-  grown ts (gives t) = ts ++ t ∷ []
+  grown ts (gives b) = (ts .0 ++ b .splits ∷ [], ts .1 ++ b .lengths ∷ [])
 
   -- a verdict on the text w, whatever the lanes hold
-  pub judgement : List (List ℕ) → List ℕ → Answer (List ℕ)
+  pub judgement : Trees → List ℕ → Answer Branches
   judgement ts w = verdict (state ts []) (text w)
 
   -- what feeding answers and leaves when the text w of lane l ends
-  abbrev pub ended : List (List ℕ) → List (List ℕ) → ℕ → ℕ → Answer (List ℕ) → Fed
+  abbrev pub ended : Trees → List (List ℕ) → ℕ → ℕ → Answer Branches → Fed
   ended ts us l n v = record { taken = n; answer = finished (state ts []) v; after = state (grown ts v) (set us l []) }
 
-  state-finishing : (ts us : List (List ℕ)) (l n : ℕ) (v : Answer (List ℕ)) → finishing (state ts us) l n v ≡ ended ts us l n v
+  state-finishing : (ts : Trees) (us : List (List ℕ)) (l n : ℕ) (v : Answer Branches) → finishing (state ts us) l n v ≡ ended ts us l n v
   unfolding finishing finished recording withTree longer
   state-finishing ts us l n (refused k) = ap (λ (h : Held). record { taken = n; answer = refused k; after = h }) (state-set ts us l [])
-  state-finishing ts us l n (gives t) = ap (λ (h : Held). record { taken = n; answer = gives (accepted (length ts)); after = h }) (state-set (ts ++ t ∷ []) us l [])
+  state-finishing ts us l n (gives b) = ap (λ (h : Held). record { taken = n; answer = gives (accepted (length (ts .0))); after = h }) (state-set (grown ts (gives b)) us l [])
 
   -- the verdict v on the text of lane l, and then the rest of the run
-  abbrev pub judgedThen : List (List ℕ) → List (List ℕ) → ℕ → List Call → Answer (List ℕ) → Outcome
+  abbrev pub judgedThen : Trees → List (List ℕ) → ℕ → List Call → Answer Branches → Outcome
   judgedThen ts us l cs v = noted (finished (state ts []) v) (outcome (state (grown ts v) (set us l [])) cs)
 
   -- ---- one call
 
-  state-alike : (ts us vs : List (List ℕ)) → Alike (state ts us) (state ts vs)
-  state-alike ts us vs = record { names = refl; lanes = refl; treeRoom = refl; splitRoom = refl; trees = refl }
+  state-alike : (ts : Trees) (us vs : List (List ℕ)) → Alike (state ts us) (state ts vs)
+  state-alike ts us vs = record { names = refl; lanes = refl; treeRoom = refl; splitRoom = refl; kept = refl; trees = refl; lengths = refl }
 
-  state-verdict : (ts us : List (List ℕ)) (l : ℕ) (q : List ℕ) → verdict (state ts us) (longer (laneOf (state ts us) l) q) ≡ judgement ts (getD us l [] ++ q)
+  state-verdict : (ts : Trees) (us : List (List ℕ)) (l : ℕ) (q : List ℕ) → verdict (state ts us) (longer (laneOf (state ts us) l) q) ≡ judgement ts (getD us l [] ++ q)
   unfolding judgement
   state-verdict ts us l q =
       verdict-alike (state ts us) (state ts []) (state-alike ts us []) (longer (laneOf (state ts us) l) q)
       ∙ ap (verdict (state ts [])) (ap (λ (x : Lane). longer x q) (state-lane ts us l) ∙ longer-longer (holding []) (getD us l []) q)
 
   -- a text that is handed in, and then the rest of the run
-  module _ (ts us : List (List ℕ)) where
-    state-recording : (v : Answer (List ℕ)) → recording (state ts us) v ≡ state (grown ts v) us
+  module _ (ts : Trees) (us : List (List ℕ)) where
+    state-recording : (v : Answer Branches) → recording (state ts us) v ≡ state (grown ts v) us
     unfolding recording withTree
     state-recording (refused k) = refl
-    state-recording (gives t) = refl
+    state-recording (gives b) = refl
 
-    state-finished : (v : Answer (List ℕ)) → finished (state ts us) v ≡ finished (state ts []) v
+    state-finished : (v : Answer Branches) → finished (state ts us) v ≡ finished (state ts []) v
     unfolding finished
     state-finished (refused k) = refl
-    state-finished (gives t) = refl
+    state-finished (gives b) = refl
 
     handed-verdict : (t : List ℕ) → onText (state ts us) t ≡ judgement ts t
     unfolding onText judgement
@@ -131,7 +141,7 @@ module _ (o : Opening) where
     unfolding outcome noted answer next
     handed-noted h t cs = go (finished h (onText h t))
       where
-        go : (a : Answer Progress) → (finals (fed (suc (length t)) a ∷ answers (recording h (onText h t)) cs), ending (recording h (onText h t)) cs .trees) ≡ noted a (outcome (recording h (onText h t)) cs)
+        go : (a : Answer Progress) → (finals (fed (suc (length t)) a ∷ answers (recording h (onText h t)) cs), treesOf (ending (recording h (onText h t)) cs)) ≡ noted a (outcome (recording h (onText h t)) cs)
         go (gives moreWanted) = refl
         go (gives (accepted n)) = refl
         go (refused k) = refl
@@ -140,10 +150,10 @@ module _ (o : Opening) where
         → outcome (state ts us) (hand t ∷ cs) ≡ noted (finished (state ts []) (judgement ts t)) (outcome (state (grown ts (judgement ts t)) us) cs)
     outcome-hand t cs =
         handed-noted (state ts us) t cs
-        ∙ ap (λ (v : Answer (List ℕ)). noted (finished (state ts us) v) (outcome (recording (state ts us) v) cs)) (handed-verdict t)
+        ∙ ap (λ (v : Answer Branches). noted (finished (state ts us) v) (outcome (recording (state ts us) v) cs)) (handed-verdict t)
         ∙ ap₂ (λ (a : Answer Progress) (h : Held). noted a (outcome h cs)) (state-finished (judgement ts t)) (state-recording (judgement ts t))
 
-  module _ (ts us : List (List ℕ)) (l : ℕ) where
+  module _ (ts : Trees) (us : List (List ℕ)) (l : ℕ) where
     ends-as : (p : List ℕ) → endsAt (state ts us) l p ≡ endsIn us l p
     unfolding endsIn
     ends-as p = ap (λ (q : Bool). hasEnd q p) (state-open ts us l)

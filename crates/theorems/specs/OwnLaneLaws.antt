@@ -2,7 +2,7 @@
 --
 --   recording-opening, recording-texts     a verdict changes neither the opening nor a lane
 --   feeding-texts, closing-texts      which lane a call changes, and how
---   unfinished-keeps-trees            a piece that ends no text leaves the trees as they were
+--   unfinished-keeps-trees, unfinished-keeps-lengths     a piece that ends no text leaves the trees and their lengths as they were
 --   other-lanes-kept                  feeding a lane leaves every other lane as it was
 --   other-lanes-kept-closing          so does closing it
 --   own-lane-only                     collections that differ only in the texts of other lanes give the same answer to a piece,
@@ -18,6 +18,7 @@ use lib.ListN.{length, getD, set, length-set}
 use lib.Seq.{getD-set-other}
 use Rattle.trees.specs.Plain.{if_then_else_, Answer, refused, gives}
 use Rattle.trees.specs.Text.{hasEnd}
+use Rattle.trees.specs.Verdict.{Branches}
 use Rattle.trees.specs.Held.{Held, Lane, holding, laneOf, withLane, withTree, openIn, longer, verdict, Fed, recording, finishing, feeding, Closed, closing}
 use Rattle.theorems.specs.FeedingLaws.{endsAt, lastPart, feedingBy, feeding-by, closingBy, closing-by}
 use Rattle.theorems.specs.Alike.{Alike, SaveOthers}
@@ -33,15 +34,15 @@ laneAfter x p = if hasEnd (openIn x) p then holding [] else longer x p
 abbrev pub lanesAfter : Bool → List Lane → ℕ → Lane → List Lane
 lanesAfter b xs l x = if b then set xs l x else xs
 
-pub recording-opening : (h : Held) (v : Answer (List ℕ)) → recording h v .opening ≡ h .opening
+pub recording-opening : (h : Held) (v : Answer Branches) → recording h v .opening ≡ h .opening
 unfolding recording withTree
 recording-opening h (refused k) = refl
-recording-opening h (gives t) = refl
+recording-opening h (gives b) = refl
 
-pub recording-texts : (h : Held) (v : Answer (List ℕ)) → recording h v .texts ≡ h .texts
+pub recording-texts : (h : Held) (v : Answer Branches) → recording h v .texts ≡ h .texts
 unfolding recording withTree
 recording-texts h (refused k) = refl
-recording-texts h (gives t) = refl
+recording-texts h (gives b) = refl
 
 module _ (h : Held) (l : ℕ) where
   pub feeding-opening : (p : List ℕ) → feeding h l p .after .opening ≡ h .opening
@@ -68,6 +69,15 @@ module _ (h : Held) (l : ℕ) where
   unfinished-keeps-trees p e = ap (λ (f : Fed). f .after .trees) (feeding-by h l p ∙ ap (λ c. feedingBy (ltb l (h .opening .numbers .lanes)) c h l p) e) ∙ go (ltb l (h .opening .numbers .lanes))
     where
       go : (b : Bool) → feedingBy b false h l p .after .trees ≡ h .trees
+      go true = refl
+      go false = refl
+
+  pub unfinished-keeps-lengths : (p : List ℕ) → endsAt h l p ≡ false → feeding h l p .after .lengths ≡ h .lengths
+  unfolding withLane
+  unfinished-keeps-lengths p e =
+      ap (λ (f : Fed). f .after .lengths) (feeding-by h l p ∙ ap (λ c. feedingBy (ltb l (h .opening .numbers .lanes)) c h l p) e) ∙ go (ltb l (h .opening .numbers .lanes))
+    where
+      go : (b : Bool) → feedingBy b false h l p .after .lengths ≡ h .lengths
       go true = refl
       go false = refl
 
@@ -128,7 +138,9 @@ module _ (l : ℕ) (h k : Held) (s : SaveOthers l h k) where
         lanes = λ i. s .opening i .numbers .lanes;
         treeRoom = λ i. s .opening i .numbers .treeRoom;
         splitRoom = λ i. s .opening i .numbers .splitRoom;
+        kept = λ i. s .opening i .numbers .kept;
         trees = s .trees;
+        lengths = s .lengths;
       }
 
   -- the lanes after a call that leaves x in h's lane l and y, which is x, in k's
@@ -157,6 +169,7 @@ module _ (l : ℕ) (h k : Held) (s : SaveOthers l h k) where
         record {
           opening = feeding-opening h l p ∙ s .opening ∙ sym (feeding-opening k l p);
           trees = f .after .trees;
+          lengths = f .after .lengths;
           lane = g .at;
           lanes = g .many;
         },
@@ -171,6 +184,7 @@ module _ (l : ℕ) (h k : Held) (s : SaveOthers l h k) where
         record {
           opening = closing-opening h l ∙ s .opening ∙ sym (closing-opening k l);
           trees = f .after .trees;
+          lengths = f .after .lengths;
           lane = g .at;
           lanes = g .many;
         },

@@ -24,9 +24,10 @@ unfolding Leaves next
 Quiet j h [] = Unit {0}
 Quiet j h (c ∷ cs) = Leaves j h c × Quiet j (next h c) cs
 
--- the same opening, trees and number of lanes, and every other lane holds the same
+-- the same opening, trees, lengths and number of lanes, and every other lane holds the same
 pub record SaveLane (j : ℕ) (h k : Held) : Type 0 where
   pub opening : h .opening ≡ k .opening
   pub trees : h .trees ≡ k .trees
+  pub lengths : h .lengths ≡ k .lengths
   pub lanes : length (h .texts) ≡ length (k .texts)
   pub others : (l : ℕ) → (l ≡ j → ⊥) → laneOf h l ≡ laneOf k l

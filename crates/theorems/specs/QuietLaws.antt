@@ -20,7 +20,7 @@ use Rattle.trees.specs.Runs.{Call, feed, hand, close, Heard, fed, closedLane, a
 use Rattle.theorems.specs.Alike.{Alike, SaveOthers, SameAnswers}
 use Rattle.theorems.specs.AlikeLaws.{judged-alike, recorded-alike, questions-alike}
 use Rattle.theorems.specs.FeedingLaws.{endsAt, feedingBy, feeding-by}
-use Rattle.theorems.specs.OwnLaneLaws.{laneAfter, lanesAfter, recording-opening, recording-texts, feeding-opening, feeding-texts, unfinished-keeps-trees, other-lanes-kept, other-lanes-kept-closing, own-lane-only, own-lane-only-closing}
+use Rattle.theorems.specs.OwnLaneLaws.{laneAfter, lanesAfter, recording-opening, recording-texts, feeding-opening, feeding-texts, unfinished-keeps-trees, unfinished-keeps-lengths, other-lanes-kept, other-lanes-kept-closing, own-lane-only, own-lane-only-closing}
 use Rattle.theorems.specs.Quiet.{Leaves, Quiet, SaveLane}
 
 pub by-equal : (P : Type 0) (i j : ℕ) → (i ≡ j → P) → ((i ≡ j → ⊥) → P) → P
@@ -39,7 +39,7 @@ module _ (j : ℕ) (h k : Held) (s : SaveLane j h k) where
 
   module _ (l : ℕ) (f : l ≡ j → ⊥) where
     other : SaveOthers l h k
-    other = record { opening = s .opening; trees = s .trees; lane = s .others l f; lanes = s .lanes }
+    other = record { opening = s .opening; trees = s .trees; lengths = s .lengths; lane = s .others l f; lanes = s .lanes }
 
     unseen-fed : (p : List ℕ) → Unseen j h k (feed l p)
     unfolding answer next
@@ -49,6 +49,7 @@ module _ (j : ℕ) (h k : Held) (s : SaveLane j h k) where
           record {
             opening = o .2 .opening;
             trees = o .2 .trees;
+            lengths = o .2 .lengths;
             lanes = o .2 .lanes;
             others = λ i g. by-equal (laneOf (feeding h l p .after) i ≡ laneOf (feeding k l p .after) i) i l
                 (λ e. subst (λ (x : ℕ). laneOf (feeding h l p .after) x ≡ laneOf (feeding k l p .after) x) (sym e) (o .2 .lane))
@@ -64,6 +65,7 @@ module _ (j : ℕ) (h k : Held) (s : SaveLane j h k) where
           record {
             opening = o .1 .opening;
             trees = o .1 .trees;
+            lengths = o .1 .lengths;
             lanes = o .1 .lanes;
             others = λ i g. by-equal (laneOf (closing h l .after) i ≡ laneOf (closing k l .after) i) i l
                 (λ e. subst (λ (x : ℕ). laneOf (closing h l .after) x ≡ laneOf (closing k l .after) x) (sym e) (o .1 .lane))
@@ -99,6 +101,7 @@ module _ (j : ℕ) (h k : Held) (s : SaveLane j h k) where
     record {
       opening = feeding-opening h j p ∙ s .opening ∙ sym (feeding-opening k j p);
       trees = unfinished-keeps-trees h j p e ∙ s .trees ∙ sym (unfinished-keeps-trees k j p f);
+      lengths = unfinished-keeps-lengths h j p e ∙ s .lengths ∙ sym (unfinished-keeps-lengths k j p f);
       lanes = lanes-many h p ∙ s .lanes ∙ sym (lanes-many k p);
       others = λ i g. other-lanes-kept h j p i g ∙ s .others i g ∙ sym (other-lanes-kept k j p i g);
     },
@@ -112,7 +115,9 @@ save-alike j h k s = record {
   lanes = λ i. s .opening i .numbers .lanes;
   treeRoom = λ i. s .opening i .numbers .treeRoom;
   splitRoom = λ i. s .opening i .numbers .splitRoom;
+  kept = λ i. s .opening i .numbers .kept;
   trees = s .trees;
+  lengths = s .lengths;
 }
 
 module _ (j : ℕ) (h k : Held) (s : SaveLane j h k) (t : List ℕ) where
@@ -127,6 +132,7 @@ module _ (j : ℕ) (h k : Held) (s : SaveLane j h k) (t : List ℕ) where
     record {
       opening = recording-opening h (onText h t) ∙ s .opening ∙ sym (recording-opening k (onText k t));
       trees = recorded-alike h k (save-alike j h k s) t .trees;
+      lengths = recorded-alike h k (save-alike j h k s) t .lengths;
       lanes = ap length (recording-texts h (onText h t)) ∙ s .lanes ∙ sym (ap length (recording-texts k (onText k t)));
       others = λ i g. lane-kept h i ∙ s .others i g ∙ sym (lane-kept k i);
     },
@@ -159,7 +165,7 @@ save-questions j h k s = questions-alike h k (save-alike j h k s)
 
 pub save-collisions : (j : ℕ) (h k : Held) → SaveLane j h k → collisionsOf h ≡ collisionsOf k
 unfolding collisionsOf
-save-collisions j h k s = λ i. collisionsOf (record { opening = s .opening i; trees = s .trees i; texts = [] })
+save-collisions j h k s = λ i. collisionsOf (record { opening = s .opening i; trees = s .trees i; lengths = []; texts = [] })
 
 module _ (j : ℕ) (cs : List Call) (h k : Held) (s : SaveLane j h k) (q : Quiet j h cs) (r : Quiet j k cs) where
   pub quiet-questions : SameAnswers (ending h cs) (ending k cs)

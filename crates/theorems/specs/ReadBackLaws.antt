@@ -1,5 +1,5 @@
 -- What is written of a whole collection, fed to an empty lane of a whole collection over the same names, is accepted with exactly the
--- splits that it was written from, or there is no room for it.
+-- splits that it was written from, and without lengths, or there is no room for it.
 --
 --   names-good           the names of a whole collection are good
 --   strict-whole, majority-whole, tree-whole     the splits of a consensus tree and of an accepted tree are in order
@@ -18,6 +18,7 @@ use Rattle.trees.specs.Plain.{if_then_else_, Answer, refused, gives}
 use Rattle.trees.specs.Names.{goodNames}
 use Rattle.trees.specs.Consensus.{recorded, majority, strict}
 use Rattle.trees.specs.Written.{written}
+use Rattle.trees.specs.Verdict.{Branches}
 use Rattle.trees.specs.Opening.{inRange, goodConstants}
 use Rattle.trees.specs.Held.{Held, holding, laneOf, withLane, withTree, newSplits, roomFor, Progress, accepted, Fed, finished, recording, finishing, feeding}
 use Rattle.trees.specs.Questions.{tree}
@@ -29,6 +30,7 @@ use Rattle.theorems.specs.ConsensusLaws.{good-rising, majority-good, str
 use Rattle.theorems.specs.RecordedLaws.{recorded-more}
 use Rattle.theorems.specs.WholeHeld.{whole}
 use Rattle.theorems.specs.HeldLaws.{Whole, whole-facts}
+use Rattle.theorems.specs.Absent.{absent, withoutLengths}
 use Rattle.theorems.specs.WrittenFedLaws.{written-accepted}
 
 -- ---- splits of a whole collection
@@ -72,7 +74,9 @@ pub record ReadBack (k : Held) (s : List ℕ) (n : ℕ) (f : Fed) : Type 0 where
   pub eleven : (f .answer ≡ refused 11) ↔ NoTreeRoom k
   pub twelve : (f .answer ≡ refused 12) ↔ NoSplitRoom k s
   pub last-tree : f .answer ≡ gives (accepted (length (k .trees))) → f .after .trees ≡ k .trees ++ s ∷ []
+  pub last-lengths : f .answer ≡ gives (accepted (length (k .trees))) → f .after .lengths ≡ k .lengths ++ absent (k .opening .numbers .kept) s ∷ []
   pub no-tree : (f .answer ≡ gives (accepted (length (k .trees))) → ⊥) → f .after .trees ≡ k .trees
+  pub no-lengths : (f .answer ≡ gives (accepted (length (k .trees))) → ⊥) → f .after .lengths ≡ k .lengths
 
 -- the number of a refusal, 0 where there is none
 abbrev number : Answer Progress → ℕ
@@ -80,8 +84,8 @@ number (refused k) = k
 number (gives x) = 0
 
 -- the room for a tree, from its two tests
-abbrev roomBy : Bool → Bool → List ℕ → Answer (List ℕ)
-roomBy b c s = if b then refused 11 else if c then refused 12 else gives s
+abbrev roomBy : Bool → Bool → Branches → Answer Branches
+roomBy b c t = if b then refused 11 else if c then refused 12 else gives t
 
 module _ (k : Held) (l n : ℕ) (s : List ℕ) (rises : goodTree (k .opening .numbers .taxa) s ≡ true) where
   more : length (recorded (k .trees ++ s ∷ [])) ≡ length (recorded (k .trees)) + length (newSplits k s)
@@ -101,19 +105,25 @@ module _ (k : Held) (l n : ℕ) (s : List ℕ) (rises : goodTree (k .opening .nu
   room-enough : short ≡ false → length (recorded (k .trees ++ s ∷ [])) ≤ k .opening .numbers .splitRoom
   room-enough d = omega (arith, more, ltb-false (k .opening .numbers .splitRoom) (length (recorded (k .trees)) + length (newSplits k s)) d)
 
-  room-by : roomFor k s ≡ roomBy full short s
-  unfolding roomFor
+  -- the splits, and no lengths
+  abbrev bare : Branches
+  bare = withoutLengths (k .opening .numbers .kept) s
+
+  room-by : roomFor k bare ≡ roomBy full short bare
+  unfolding roomFor withoutLengths
   room-by = refl
 
-  by-room : (b c : Bool) → full ≡ b → short ≡ c → ReadBack k s n (finishing k l n (roomBy b c s))
-  unfolding finishing finished recording withLane withTree
+  by-room : (b c : Bool) → full ≡ b → short ≡ c → ReadBack k s n (finishing k l n (roomBy b c bare))
+  unfolding finishing finished recording withLane withTree withoutLengths
   by-room true c e d = record {
     taken = refl;
     no-other = inr (inl refl);
     eleven = ((λ q. eqb-true _ _ e), λ q. refl);
     twelve = ((λ q. absurd (omega (arith, ap number q))), λ q. absurd (q .0 (eqb-true _ _ e)));
     last-tree = λ q. absurd (omega (arith, ap number q));
+    last-lengths = λ q. absurd (omega (arith, ap number q));
     no-tree = λ q. refl;
+    no-lengths = λ q. refl;
   }
   by-room false true e d = record {
     taken = refl;
@@ -121,7 +131,9 @@ module _ (k : Held) (l n : ℕ) (s : List ℕ) (rises : goodTree (k .opening .nu
     eleven = ((λ q. absurd (omega (arith, ap number q))), λ q. absurd (eqb-false _ _ e q));
     twelve = ((λ q. (eqb-false _ _ e, room-short d)), λ q. refl);
     last-tree = λ q. absurd (omega (arith, ap number q));
+    last-lengths = λ q. absurd (omega (arith, ap number q));
     no-tree = λ q. refl;
+    no-lengths = λ q. refl;
   }
   by-room false false e d = record {
     taken = refl;
@@ -129,11 +141,13 @@ module _ (k : Held) (l n : ℕ) (s : List ℕ) (rises : goodTree (k .opening .nu
     eleven = ((λ q. absurd (omega (arith, ap number q))), λ q. absurd (eqb-false _ _ e q));
     twelve = ((λ q. absurd (omega (arith, ap number q))), λ q. absurd (omega (arith, q .1, room-enough d)));
     last-tree = λ q. refl;
+    last-lengths = λ q. refl;
     no-tree = λ q. absurd (q refl);
+    no-lengths = λ q. absurd (q refl);
   }
 
-  room-read : ReadBack k s n (finishing k l n (roomFor k s))
-  room-read = subst (λ (a : Answer (List ℕ)). ReadBack k s n (finishing k l n a)) (sym room-by) (by-room full short refl refl)
+  room-read : ReadBack k s n (finishing k l n (roomFor k bare))
+  room-read = subst (λ (a : Answer Branches). ReadBack k s n (finishing k l n a)) (sym room-by) (by-room full short refl refl)
 
 -- "A tree that we write reads back as the same splits"; h is the collection that it is written of, k the one that it is fed to
 module _ (h k : Held) (hw : whole h ≡ true) (kw : whole k ≡ true) (names : k .opening .names ≡ h .opening .names) (l : ℕ)
@@ -149,6 +163,6 @@ module _ (h k : Held) (hw : whole h ≡ true) (kw : whole k ≡ true) (names : k
       let n = h .opening .numbers .taxa in
       let r = good-opening (h .opening) (facts h hw .opening-good) .ranges in
       let text = written (h .opening .names) s in
-      let fed : feeding k l text ≡ finishing k l (length text) (roomFor k s) =
+      let fed : feeding k l text ≡ finishing k l (length text) (roomFor k (withoutLengths (k .opening .numbers .kept) s)) =
       written-accepted n (h .opening .names) s (names-good h hw) good k l (lt-ltb l (k .opening .numbers .lanes) lane) (omega (arith, r .least-taxa)) (r .most-taxa) names empty in
       subst (ReadBack k s (length text)) (sym fed) (room-read k l (length text) s (subst (λ (m : ℕ). goodTree m s ≡ true) same-taxa good))

@@ -18,6 +18,7 @@ use borrow.Author.Tests.{ltb-false}
 use Rattle.trees.specs.Plain.{if_then_else_, Answer, refused, gives}
 use Rattle.trees.specs.Text.{hasEnd}
 use Rattle.trees.specs.Opening.{Numbers, Opening, opening}
+use Rattle.trees.specs.Verdict.{Branches}
 use Rattle.trees.specs.Held.{Held, Lane, holding, opened, laneOf, longer, verdict, Progress, moreWanted, accepted, Fed, finished, recording, finishing, feeding, closing}
 use Rattle.trees.specs.NexusCall.{onText}
 use Rattle.theorems.specs.WholeHeld.{whole}
@@ -35,10 +36,10 @@ Settled (refused k) = Unit {0}
 Settled (gives moreWanted) = ⊥
 Settled (gives (accepted t)) = Unit {0}
 
-finished-settled : (h : Held) (v : Answer (List ℕ)) → Settled (finished h v)
+finished-settled : (h : Held) (v : Answer Branches) → Settled (finished h v)
 unfolding finished
 finished-settled h (refused k) = tt
-finished-settled h (gives t) = tt
+finished-settled h (gives b) = tt
 
 -- a piece to a lane that exists: its answer is a verdict exactly when it ends a text
 pub more-exactly : (h : Held) (l : ℕ) (p : List ℕ) → ltb l (h .opening .numbers .lanes) ≡ true → (feeding h l p .answer ≡ gives moreWanted) ↔ (endsAt h l p ≡ false)

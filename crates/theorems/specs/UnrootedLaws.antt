@@ -7,7 +7,7 @@
 --   unrooted-faultless   so either has a fault of its leaves or neither
 --   unrooted             and they have the same splits
 --   any-root             every inner node of a tree can be its root
---   unrooted-accepts     so a collection that accepts a text of it accepts any other, with the same splits
+--   unrooted-accepts     so a collection that accepts a text of it accepts any other whose lengths are in range, with the same splits
 use Prim.Native.Nat.{ℕ, zero, suc, _+_, _-_, _^_, _≤_, _<_}
 use native.Mathlib.Omega.{arith}
 use mathlib.Core.Path.{_≡_, refl, ap, ap₂, sym, _∙_, subst}
@@ -20,7 +20,7 @@ use Rattle.trees.specs.Mask.{everyTaxon, side, proper}
 use Rattle.trees.specs.Tree.{Nodes, nil, leaf, inner, beside, width, leaves, children}
 use Rattle.trees.specs.Grammar.{IsTree}
 use Rattle.trees.specs.Splits.{taxon, taxa, clusters, counted, splitsOf}
-use Rattle.trees.specs.Verdict.{leafFault}
+use Rattle.trees.specs.Verdict.{leafFault, Branches}
 use Rattle.trees.specs.Consensus.{recorded}
 use Rattle.trees.specs.Held.{Held, mostText}
 use Rattle.theorems.specs.ListLaws.{Mem, mem-cases, mem-left, mem-right}
@@ -31,7 +31,7 @@ use Rattle.theorems.specs.SplitLaws.{counted-mem, mem-counted, counted-r
 use Rattle.theorems.specs.VerdictLaws.{leaf-fine, leaf-new, leaves-distinct}
 use Rattle.theorems.specs.FewLaws.{none-missing, leaves-beside}
 use Rattle.theorems.specs.FaultLaws.{fault-numbers-only, faultless-exactly}
-use Rattle.theorems.specs.Refusing.{Fault, Accepts}
+use Rattle.theorems.specs.Refusing.{Fault, Inexact, keptLengths, Accepts}
 use Rattle.theorems.specs.EdgeLaws.{Hangs, a-leaf, a-node, below, behind-leaf, behind-node, taxa-at, at-taxa, hangs-cluster}
 use Rattle.theorems.specs.PermLaws.{Perm, perm-same, perm-swap, perm-behind, perm-onward, perm-back, perm-equal, perm-mem, perm-groups, perm-front, perm-end}
 use Rattle.theorems.specs.Unrooted.{Reordered, swapped, past-leaf, past-node, at-depth, ButLengths, no-nodes, same-leaf, same-node, SameUnrooted, reordered, lengthened, moved, dissolved, itself, back, onward}
@@ -270,7 +270,7 @@ any-root c d m y h = let p = root-at c m y h refl nil in (p .0, subst (λ (z : N
 
 -- ---- texts of one unrooted tree
 
-module _ (h : Held) (s v ms : List ℕ) (u : Nodes) (a : Accepts h s ms) (one : SameUnrooted (a .tree) u) where
+module _ (h : Held) (s v : List ℕ) (b : Branches) (u : Nodes) (a : Accepts h s b) (one : SameUnrooted (a .tree) u) where
   was-faultless : leafFault (h .opening .names) 0 (leaves (a .tree)) ≡ 0
   was-faultless = faultless-exactly (h .opening .names) (leaves (a .tree)) .1 (λ k q. a .faultless .leaves-fine (suc k) q)
 
@@ -281,13 +281,17 @@ module _ (h : Held) (s v ms : List ℕ) (u : Nodes) (a : Accepts h s ms) (one : 
       go zero l q = absurd (omega arith)
       go (suc k) l q = faultless-exactly (h .opening .names) (leaves u) .0 (unrooted-faultless (h .opening .names) one was-faultless) k q
 
-  pub unrooted-accepts : 0 < length (h .opening .names) → IsTree v u → length v ≤ mostText → Accepts h v ms
-  unrooted-accepts p i l =
+  -- the lengths are those of the text
+  pub unrooted-accepts : 0 < length (h .opening .names) → IsTree v u → length v ≤ mostText → (Inexact (h .opening .numbers .kept) u → ⊥)
+      → Accepts h v (record { splits = b .splits; lengths = keptLengths (h .opening .numbers .kept) (h .opening .names) u })
+  unrooted-accepts p i l x =
       let e : splitsOf (h .opening .names) (a .tree) ≡ splitsOf (h .opening .names) u = unrooted (h .opening .names) p one was-faultless in
       record {
         tree = u;
         faultless = record { short = l; tree = i; leaves-fine = still-faultless };
+        in-range = x;
         tree-room = a .tree-room;
         split-room = subst (λ (x : List ℕ). length (recorded (h .trees ++ x ∷ [])) ≤ h .opening .numbers .splitRoom) e (a .split-room);
         splits = a .splits ∙ e;
+        lengths = refl;
       }

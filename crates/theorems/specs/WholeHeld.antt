@@ -8,14 +8,15 @@ use lib.ListN.{length}
 use Rattle.trees.specs.Plain.{every}
 use Rattle.trees.specs.Consensus.{recorded}
 use Rattle.trees.specs.Held.{Held}
-use Rattle.trees.specs.Whole.{goodTree, goodLane, goodOpening}
+use Rattle.trees.specs.Whole.{goodTree, goodLengths, goodLane, goodOpening}
 
 -- "rooms hold": trees and splits are no more than their rooms; and there are as many lanes as the opening says
 unfoldable pub whole : Held → Bool
-unfolding every goodOpening goodTree goodLane recorded
+unfolding every goodOpening goodTree goodLengths goodLane recorded
 whole h =
     goodOpening (h .opening)
     && (every (goodTree (h .opening .numbers .taxa)) (h .trees)
+    && (goodLengths (h .opening .numbers .kept) (h .trees) (h .lengths)
     && (leb (length (h .trees)) (h .opening .numbers .treeRoom)
     && (leb (length (recorded (h .trees))) (h .opening .numbers .splitRoom)
-    && (eqb (length (h .texts)) (h .opening .numbers .lanes) && every goodLane (h .texts)))))
+    && (eqb (length (h .texts)) (h .opening .numbers .lanes) && every goodLane (h .texts))))))

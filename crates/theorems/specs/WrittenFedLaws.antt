@@ -4,7 +4,7 @@
 --   written-ends        a text ends in what is written
 --   written-taken       with its last byte
 --   written-fed         so, where no quotes are open before it, the text that ends is what is shown, behind what the lane held
---   written-accepted    fed to an empty lane of a collection with these names, the tree is accepted where there is room for it
+--   written-accepted    fed to an empty lane of a collection with these names, the tree is accepted where there is room for it, without lengths
 use Prim.Native.Nat.{ℕ, suc, _≤_}
 use native.Mathlib.Omega.{arith}
 use mathlib.Core.Path.{_≡_, ap, ap₂, _∙_}
@@ -15,14 +15,15 @@ use lib.ListN.{length, length-append}
 use borrow.Author.Tests.{le-ltb}
 use Rattle.trees.specs.Text.{semicolon, openAfter, hasEnd, beforeEnd}
 use Rattle.trees.specs.Names.{goodNames}
-use Rattle.trees.specs.Verdict.{judged}
+use Rattle.trees.specs.Verdict.{judgedWith}
 use Rattle.trees.specs.Written.{treeOf, shown, written}
 use Rattle.trees.specs.Held.{Held, holding, overrun, mostText, laneOf, openIn, longer, roomFor, withRoom, verdict, finishing, feeding}
 use Rattle.trees.specs.Whole.{goodTree}
 use Rattle.theorems.specs.ListLaws.{if-false}
 use Rattle.theorems.specs.QuoteLaws.{has-end}
 use Rattle.theorems.specs.FeedingLaws.{feedingBy, feeding-by}
-use Rattle.theorems.specs.WrittenLaws.{written-tree-reads-back, written-closed, written-before-end, written-length}
+use Rattle.theorems.specs.Absent.{withoutLengths}
+use Rattle.theorems.specs.WrittenLaws.{written-tree-with-lengths, written-closed, written-before-end, written-length}
 
 pub written-more : (ns : List (List ℕ)) (s : List ℕ) → length (written ns s) ≡ suc (length (shown (treeOf ns s)))
 unfolding written
@@ -48,11 +49,12 @@ module _ (n : ℕ) (ns : List (List ℕ)) (s : List ℕ) (names : goodNames n ns
         ∙ ap (λ (o : Bool). finishing h l (suc (length (beforeEnd o (written ns s)))) (verdict h (longer (laneOf h l) (beforeEnd o (written ns s))))) q
         ∙ ap₂ (λ (t : ℕ) (w : List ℕ). finishing h l t (verdict h (longer (laneOf h l) w))) (written-taken k) (written-before-end n ns s names good k)
 
-    pub written-accepted : 3 ≤ n → n ≤ 64 → h .opening .names ≡ ns → laneOf h l ≡ holding [] → feeding h l (written ns s) ≡ finishing h l (length (written ns s)) (roomFor h s)
+    pub written-accepted : 3 ≤ n → n ≤ 64 → h .opening .names ≡ ns → laneOf h l ≡ holding []
+        → feeding h l (written ns s) ≡ finishing h l (length (written ns s)) (roomFor h (withoutLengths (h .opening .numbers .kept) s))
     unfolding verdict withRoom openIn openAfter
     written-accepted a b e f =
         written-fed (omega arith) (ap openIn f)
         ∙ ap (λ x. finishing h l (length (written ns s)) (verdict h x))
         (ap (λ x. longer x (shown (treeOf ns s))) f ∙ longer-empty (shown (treeOf ns s)) (omega (arith, written-length n ns s names good a b, written-more ns s)))
-        ∙ ap (λ x. finishing h l (length (written ns s)) (withRoom h (judged x (shown (treeOf ns s))))) e
-        ∙ ap (λ x. finishing h l (length (written ns s)) (withRoom h x)) (written-tree-reads-back n ns s names good (omega arith) b)
+        ∙ ap (λ x. finishing h l (length (written ns s)) (withRoom h (judgedWith (h .opening .numbers .kept) x (shown (treeOf ns s))))) e
+        ∙ ap (λ x. finishing h l (length (written ns s)) (withRoom h x)) (written-tree-with-lengths n ns s names good (h .opening .numbers .kept) (omega arith) b)

@@ -4,6 +4,7 @@
 --   majority-tree-splits, strict-tree-splits     so the consensus trees have exactly the consensus splits
 --   written-tree-reads-back    the verdict on what is written gives the splits that it was written from
 --   written-readable           what is shown of it can be read back
+--   written-tree-with-lengths  where lengths are kept they are absent, and it is not refused for them
 --   written-closed, written-unended     without its semicolon: quotes are closed behind it, and no text ends in it
 --   written-no-comment         nor does a comment begin in it
 --   written-before-end         so what is written, up to its end, is what is shown
@@ -17,16 +18,19 @@ use mathlib.Core.Bool.{true, false}
 use mathlib.Core.List.{List, [], _∷_, _++_}
 use mathlib.Core.Option.{none, some}
 use lib.Count.{ones}
-use lib.ListN.{length, length-append}
+use lib.Dec.{eqb}
+use lib.ListN.{length, length-append, replicate}
 use borrow.Author.Tests.{eq-eqb}
-use Rattle.trees.specs.Plain.{byte, Answer, refused, gives}
+use Rattle.trees.specs.Plain.{if_then_else_, byte, Answer, refused, gives}
 use Rattle.trees.specs.Text.{openAfter, hasEnd, beforeEnd}
 use Rattle.trees.specs.Mask.{everyTaxon, side, proper}
 use Rattle.trees.specs.Tree.{Nodes, nil, inner, children, leaves, width}
 use Rattle.trees.specs.Reading.{reading}
 use Rattle.trees.specs.Names.{goodNames}
 use Rattle.trees.specs.Splits.{clusters, counted, splitsOf}
-use Rattle.trees.specs.Verdict.{leafFault, judgedTree, judged}
+use Rattle.trees.specs.Value.{Length}
+use Rattle.trees.specs.Lengths.{tokens}
+use Rattle.trees.specs.Verdict.{leafFault, judgedTree, judged, judgedWith}
 use Rattle.trees.specs.Consensus.{strict, majority}
 use Rattle.trees.specs.Written.{branches, treeOf, shown, parted, written}
 use Rattle.trees.specs.Whole.{goodTree}
@@ -41,6 +45,11 @@ use Rattle.theorems.specs.MaskLaws.{every-on, side-even}
 use Rattle.theorems.specs.SplitLaws.{cluster-sub, counted-mem, mem-counted, counted-rising}
 use Rattle.theorems.specs.ConsensusLaws.{AllGood, good-rising, majority-good, strict-good}
 use Rattle.theorems.specs.NameLaws.{good-count}
+use Rattle.theorems.specs.GrammarLaws.{reading-sound}
+use Rattle.theorems.specs.Refusing.{Inexact, keptLengths}
+use Rattle.theorems.specs.TreeLengthLaws.{readable-tokens, lengths-absent}
+use Rattle.theorems.specs.LengthVerdictLaws.{with-given, exact-tree}
+use Rattle.theorems.specs.Absent.{absent, withoutLengths}
 use Rattle.theorems.specs.ShownLaws.{Readable, readable-nil, readable-inner, shown-reading, shown-closed, shown-unended, shown-no-comment}
 use Rattle.theorems.specs.ProperLaws.{every-ones, one-taxon, proper-even, proper-two, proper-most, proper-sub}
 use Rattle.theorems.specs.BranchLaws.{extra-most, Done, split-proper, parted-length}
@@ -127,10 +136,29 @@ module _ (n : ℕ) (ns : List (List ℕ)) (s : List ℕ) (names : goodNames n ns
   pub written-tree-reads-back : 2 ≤ n → n ≤ 64 → judged ns (shown (treeOf ns s)) ≡ gives s
   written-tree-reads-back h l = judged-gives ns (shown (treeOf ns s)) (treeOf ns s) (tree-reading h l) tree-faultless ∙ ap gives tree-has-splits
 
-  -- ---- its last semicolon ends it
-
   pub written-readable : 2 ≤ n → Readable (suc n) (treeOf ns s)
   written-readable h = subst (Readable (suc n)) (sym tree-root) (root-readable h n (omega arith))
+
+  no-lengths : 2 ≤ n → tokens (treeOf ns s) ≡ []
+  no-lengths h = readable-tokens (written-readable h)
+
+  none-outside : (kept : ℕ) → 2 ≤ n → Inexact kept (treeOf ns s) → ⊥
+  none-outside kept h o = subst (Mem (o .1 .0)) (no-lengths h) (o .1 .1)
+
+  lengths-not-there : (kept : ℕ) → 2 ≤ n → keptLengths kept ns (treeOf ns s) ≡ absent kept s
+  unfolding absent
+  lengths-not-there kept h =
+      ap (λ (xs : List Length). if eqb kept 0 then [] else xs) (lengths-absent ns (treeOf ns s) (no-lengths h) ∙ ap (λ (l : List ℕ). replicate (length l) none) tree-has-splits)
+
+  pub written-tree-with-lengths : (kept : ℕ) → 2 ≤ n → n ≤ 64 → judgedWith kept ns (shown (treeOf ns s)) ≡ gives (withoutLengths kept s)
+  unfolding withoutLengths
+  written-tree-with-lengths kept h l =
+      let t = treeOf ns s in
+      with-given kept ns (shown t) t (reading-sound (shown t) t (tree-reading h l)) s (written-tree-reads-back h l)
+      ∙ exact-tree kept ns t s (none-outside kept h)
+      ∙ ap (λ (xs : List Length). gives (record { splits = s; lengths = xs })) (lengths-not-there kept h)
+
+  -- ---- its last semicolon ends it
 
   pub written-closed : 2 ≤ n → openAfter false (shown (treeOf ns s)) ≡ false
   written-closed h = shown-closed (written-readable h)

@@ -1,4 +1,5 @@
 // What the calls answer, in a few numbers and the two consensus trees.
+use crate::measured;
 use crate::opened;
 use answers::Both;
 use answers::Number;
@@ -6,15 +7,19 @@ use libc::STDOUT_FILENO;
 
 // Opens the collection, makes each call once and writes what it answered.
 pub(crate) fn write_answers(
+    kept: bool,
     names: &[u8],
     texts: &[u8],
-    s: &mut [u8; 254472],
+    s: &mut [u8; 778760],
     matrix: &mut [u16; 1048576],
 ) {
-    opened::open(s, names);
+    opened::open(s, kept, names);
     write_batch(s, texts);
     write_matrix(s, matrix);
     write_consensus(s);
+    if kept {
+        write_lengths(s);
+    }
 }
 
 // How many texts, trees and splits there are, and the verdicts.
@@ -48,6 +53,14 @@ fn write_consensus(s: &[u8]) {
     };
     write_text(b"strict ", &strict, a);
     write_text(b"majority ", &majority, b);
+}
+
+// The weighted distances between the first tree and each, and the lengths of each split.
+fn write_lengths(s: &[u8]) {
+    let trees = given(table::tree_count(s));
+    let splits = given(table::split_count(s));
+    write_number(b"weighted ", lengths_sum(b'd', s, trees));
+    write_number(b"lengths ", lengths_sum(b'l', s, splits));
 }
 
 // The number that a call gives; 0 where it refuses.
@@ -100,6 +113,19 @@ fn matrix_sum(matrix: &[u16], n: usize) -> u64 {
             return sums;
         }
         sum = std::num::wrapping_add_u64(sum, wide16(matrix[i]));
+        sums = std::num::wrapping_add_u64(sums, sum);
+        i += 1;
+    }
+    sums
+}
+
+// The same of the first n answers on lengths.
+fn lengths_sum(part: u8, s: &[u8], n: usize) -> u64 {
+    let mut sum = 0u64;
+    let mut sums = 0u64;
+    let mut i = 0;
+    while i < n {
+        sum = std::num::wrapping_add_u64(sum, measured::lengths_word(part, s, i));
         sums = std::num::wrapping_add_u64(sums, sum);
         i += 1;
     }

@@ -39,6 +39,15 @@ pub(crate) fn first_byte(line: &[u8]) -> u8 {
     line[0]
 }
 
+// What stands behind the first word of a line, and behind the blank there.
+pub(crate) fn past_word(line: &[u8]) -> &[u8] {
+    let b = place_of(32, line, 0);
+    if b == line.len() {
+        return line;
+    }
+    &line[b + 1..]
+}
+
 // How many names a line of names without quotes has, one more than its spaces; 65 stands for any number above 64.
 pub(crate) fn count_names(names: &[u8]) -> u32 {
     let mut n = 1u32;

@@ -1,10 +1,11 @@
 // Makes the library's calls on a whole collection, for bench/run. Input: a line that says what is wanted, a line of names, then texts or
 // a NEXUS file, all without quotes.
 // For the line `answers` every call is made once, and what they answered is written. For a line `PART N` the collection is filled, a part
-// is made N times, and the nanoseconds of one time are written. docs/BENCH.md says what the parts are.
+// is made N times, and the nanoseconds of one time are written. Behind the word `kept` lengths are kept. docs/BENCH.md says what the parts are.
 mod answered;
 mod clock;
 mod lines;
+mod measured;
 mod opened;
 mod parts;
 
@@ -42,18 +43,28 @@ fn take_names(wanted: &[u8], input: &[u8]) {
     if e == input.len() {
         return;
     }
-    make_calls(wanted, &input[..e], &input[e + 1..]);
+    take_kept(wanted, &input[..e], &input[e + 1..]);
+}
+
+// Takes the word `kept`, where it stands before the others.
+fn take_kept(wanted: &[u8], names: &[u8], texts: &[u8]) {
+    let kept = lines::first_byte(wanted) == b'k';
+    if kept {
+        make_calls(lines::past_word(wanted), kept, names, texts);
+        return;
+    }
+    make_calls(wanted, kept, names, texts);
 }
 
 // Makes the calls that are wanted.
-fn make_calls(wanted: &[u8], names: &[u8], texts: &[u8]) {
-    let mut store = [0u8; 254472];
+fn make_calls(wanted: &[u8], kept: bool, names: &[u8], texts: &[u8]) {
+    let mut store = [0u8; 778760];
     let mut matrix = [0u16; 1048576];
     let part = lines::first_byte(wanted);
     if part == b'a' {
-        answered::write_answers(names, texts, &mut store, &mut matrix);
+        answered::write_answers(kept, names, texts, &mut store, &mut matrix);
         return;
     }
     let n = lines::times_in(wanted);
-    clock::write_time(parts::time_part(part, n, names, texts, &mut store, &mut matrix));
+    clock::write_time(parts::time_part(part, n, kept, names, texts, &mut store, &mut matrix));
 }

@@ -1,13 +1,13 @@
 // The collection that is timed: one lane, room for 1,024 trees and 4,096 splits, 8,192 places, constants that jump about. Its
-// store has 254,472 bytes.
+// store has 254,472 bytes, and 778,760 where lengths are kept.
 use crate::lines;
 use answers::Lane;
 use answers::Number;
 
 // Opens the collection and takes every text, in one call.
-pub(crate) fn fill(s: &mut [u8], names: &[u8], texts: &[u8]) {
+pub(crate) fn fill(s: &mut [u8], kept: bool, names: &[u8], texts: &[u8]) {
     let mut verdicts = [0u32; 2048];
-    open(s, names);
+    open(s, kept, names);
     take_texts(s, texts, &mut verdicts);
 }
 
@@ -20,8 +20,8 @@ pub(crate) fn take_texts(s: &mut [u8], texts: &[u8], verdicts: &mut [u32]) -> Nu
 }
 
 // Opens the collection and takes each text by a call of its own.
-pub(crate) fn fill_singly(s: &mut [u8], names: &[u8], texts: &[u8]) {
-    open(s, names);
+pub(crate) fn fill_singly(s: &mut [u8], kept: bool, names: &[u8], texts: &[u8]) {
+    open(s, kept, names);
     let mut b = 0;
     while b < texts.len() {
         let e = lines::place_of(59, texts, b);
@@ -34,16 +34,16 @@ pub(crate) fn fill_singly(s: &mut [u8], names: &[u8], texts: &[u8]) {
 }
 
 // Opens the collection in the store.
-pub(crate) fn open(s: &mut [u8], names: &[u8]) {
+pub(crate) fn open(s: &mut [u8], kept: bool, names: &[u8]) {
     let mut first = [0u64; 64];
     let mut second = [0u64; 64];
     spread(&mut first, 1);
     spread(&mut second, 2);
-    open_with(s, names, &first, &second);
+    open_with(s, kept, names, &first, &second);
 }
 
 // Opens the collection with as many of the constants as there are names.
-fn open_with(s: &mut [u8], names: &[u8], first: &[u64], second: &[u64]) {
+fn open_with(s: &mut [u8], kept: bool, names: &[u8], first: &[u64], second: &[u64]) {
     let n = lines::count_names(names);
     let k = n as usize;
     if first.len() < k {
@@ -52,7 +52,18 @@ fn open_with(s: &mut [u8], names: &[u8], first: &[u64], second: &[u64]) {
     if second.len() < k {
         return;
     }
-    table::open(s, n, 1, 1024, 4096, 8192, names, &first[..k], &second[..k]);
+    table::open(
+        s,
+        n,
+        1,
+        1024,
+        4096,
+        8192,
+        kept,
+        names,
+        &first[..k],
+        &second[..k],
+    );
 }
 
 // Fills a list of constants with numbers below the 8,192 places.

@@ -1,5 +1,6 @@
 // The parts that are timed, each named by its first letter.
 use crate::clock;
+use crate::measured;
 use crate::opened;
 use answers::Lane;
 
@@ -7,44 +8,51 @@ use answers::Lane;
 pub(crate) fn time_part(
     part: u8,
     n: u64,
+    kept: bool,
     names: &[u8],
     texts: &[u8],
-    s: &mut [u8; 254472],
+    s: &mut [u8; 778760],
     matrix: &mut [u16; 1048576],
 ) -> u64 {
-    opened::fill(s, names, texts);
+    opened::fill(s, kept, names, texts);
     let from = clock::now();
     let mut i = 0u64;
     while i < n {
-        make_part(part, names, texts, s, matrix);
+        make_part(part, i, kept, names, texts, s, matrix);
         i += 1;
     }
     clock::nanoseconds(from, n)
 }
 
-// Opening; opening and a batch; opening and each text by a call of its own; all pairs of trees; or a part that leaves the collection as it is.
+// Makes a part for the i-th time: opening; opening and a batch; opening and each text by a call of its own; all pairs of trees; or a part
+// that leaves the collection as it is.
 fn make_part(
     part: u8,
+    i: u64,
+    kept: bool,
     names: &[u8],
     texts: &[u8],
-    s: &mut [u8; 254472],
+    s: &mut [u8; 778760],
     matrix: &mut [u16; 1048576],
 ) {
     match part {
-        b'o' => opened::open(s, names),
-        b'b' => opened::fill(s, names, texts),
-        b's' => opened::fill_singly(s, names, texts),
+        b'o' => opened::open(s, kept, names),
+        b'b' => opened::fill(s, kept, names, texts),
+        b's' => opened::fill_singly(s, kept, names, texts),
         b'm' => {
             comparing::matrix(s, matrix);
         }
-        _ => ask(part, texts, s),
+        _ => ask(part, i as usize, texts, s),
     }
 }
 
-// Both consensus trees; a text that a full collection refuses with 11; the test that every call makes first; or a plain pass over the store.
-fn ask(part: u8, texts: &[u8], s: &mut [u8; 254472]) {
+// Both consensus trees; the weighted distance between the first tree and tree i; the lengths of split i; a text that a full collection
+// refuses with 11; the test that every call makes first; or a plain pass over the store.
+fn ask(part: u8, i: usize, texts: &[u8], s: &mut [u8; 778760]) {
     match part {
         b'c' => write_both(s),
+        b'd' => keep(measured::lengths_word(part, s, i), s),
+        b'l' => keep(measured::lengths_word(part, s, i), s),
         b'f' => {
             feeding::feed(s, Lane(0), opened::first_text(texts));
         }
@@ -60,22 +68,27 @@ fn write_both(s: &[u8]) {
     consensus::both(s, &mut strict, &mut majority);
 }
 
-// The test that every call makes first. A byte that no lane holds is written, so that the compiler cannot make one of many.
-fn test(s: &mut [u8; 254472]) {
+// Writes a byte that no lane holds, so that the compiler cannot leave out what x was made by, nor make one of many.
+fn keep(x: u64, s: &mut [u8; 778760]) {
+    if x != 0 {
+        s[5000] = 1;
+    }
+}
+
+// The test that every call makes first.
+fn test(s: &mut [u8; 778760]) {
     if store::is_whole(s) {
         s[5000] = 1;
     }
 }
 
-// A plain pass over the store, which writes a byte as the test does.
-fn pass(s: &mut [u8; 254472]) {
-    if word_sum(s) != 0 {
-        s[5000] = 1;
-    }
+// A plain pass over the store as it is without lengths.
+fn pass(s: &mut [u8; 778760]) {
+    keep(word_sum(s), s);
 }
 
-// The sum of the store's words, modulo 2^64.
-fn word_sum(s: &[u8; 254472]) -> u64 {
+// The sum of the first 31,809 words of the store, modulo 2^64.
+fn word_sum(s: &[u8; 778760]) -> u64 {
     let mut sum = 0u64;
     let mut i = 0;
     while i < 31809 {

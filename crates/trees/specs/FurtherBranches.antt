@@ -1,19 +1,25 @@
--- Further samples, of our own: the verdicts on texts with branch lengths (request 2026-03), where lengths are kept.
+-- Further samples, of our own: branch lengths of trees (request 2026-03), in a collection that keeps them and in one that does not.
 --
---   texts     texts over A to E: the splits and their lengths, or the refusal
+--   keeping ts      a collection over A to E that keeps lengths, fed with the texts ts one after another
+--   texts           texts, each handed to an empty collection that keeps lengths: the splits' lengths, or the refusal
 use Prim.Native.Nat.{ℕ}
 use Prim.Native.String.{String}
-use mathlib.Core.Bool.{false}
+use mathlib.Core.Bool.{false, true}
 use mathlib.Core.List.{List, [], _∷_, map}
 use mathlib.Core.Option.{none, some}
 use mathlib.Core.Path.{_≡_, refl}
 use lib.IntN.{pos, negsuc}
-use lib.Ieee.{Float, fin}
+use lib.Ieee.{Float, nan, inf, fin}
+use lib.ListN.{replicate}
 use Rattle.trees.specs.Plain.{bytes, Answer, refused, gives}
 use Rattle.trees.specs.Value.{Length}
 use Rattle.trees.specs.Names.{namesIn}
 use Rattle.trees.specs.Verdict.{Branches, judgedWith}
 use Rattle.trees.specs.Sums.{plusZero}
+use Rattle.trees.specs.Held.{Held, holding, opened, verdict}
+use Rattle.trees.specs.Questions.{weightedOf, sumsOf}
+use Rattle.trees.specs.Whole.{goodLengths}
+use Rattle.trees.specs.Samples.{fedWith, collection}
 
 -- the doubles 1/2, 1, 2, 3 and 5
 abbrev half : Float
@@ -30,6 +36,13 @@ three = fin false 3 (pos 0)
 
 abbrev five : Float
 five = fin false 5 (pos 0)
+
+-- 2^53, and the next double
+abbrev large : Float
+large = fin false 1 (pos 53)
+
+abbrev larger : Float
+larger = fin false 4503599627370497 (pos 1)
 
 abbrev names : List (List ℕ)
 names = namesIn (bytes "A B C D E")
@@ -70,3 +83,94 @@ branches-hold = refl
 pub not-kept : judgedWith 0 names (bytes "((A,B):1e23,C,(D,E):2)") ≡ with (24 ∷ 28 ∷ []) []
 unfolding judgedWith namesIn bytes
 not-kept = refl
+
+-- ---- questions
+
+unfoldable pub keeping : List String → Held
+unfolding fedWith opened namesIn bytes
+keeping ts =
+    fedWith
+    (opened (record {
+      numbers = record { taxa = 5; lanes = 1; treeRoom = 4; splitRoom = 8; places = 1; kept = 1 };
+      names = names;
+      first = replicate 5 0;
+      second = replicate 5 0;
+    }))
+    ts
+
+-- four trees: 24 and 28 with lengths; 20 and 28 with lengths; 24 and 28, one without a length; no splits
+abbrev held : Held
+held = keeping ("((A,B):3,C,(D,E):.5);" ∷ "((A,B):1,D,(C,E):2);" ∷ "((A,B):2,C,(D,E));" ∷ "(A,B,C,D,E);" ∷ [])
+
+pub length-questions-hold :
+    (weightedOf held 0 0 ≡ gives plusZero)
+    × (weightedOf held 0 1 ≡ gives (fin false 9 (negsuc 0)))
+    × (weightedOf held 1 0 ≡ gives (fin false 9 (negsuc 0)))
+    × (weightedOf held 3 1 ≡ gives three)
+    × (weightedOf held 3 3 ≡ gives plusZero)
+    × (weightedOf held 0 2 ≡ refused 18)
+    × (weightedOf held 2 2 ≡ refused 18)
+    × (weightedOf held 2 4 ≡ refused 13)
+    × (weightedOf held 4 0 ≡ refused 13)
+    × (sumsOf held 0 ≡ gives (record { shortest = two; longest = two; sum = two }))
+    × (sumsOf held 1 ≡ refused 18)
+    × (sumsOf held 2 ≡ gives (record { shortest = one; longest = three; sum = fin false 3 (pos 1) }))
+    × (sumsOf held 3 ≡ refused 13)
+unfolding keeping weightedOf sumsOf
+length-questions-hold = (refl, refl, refl, refl, refl, refl, refl, refl, refl, refl, refl, refl, refl)
+
+-- "added from 0 in tree order": 1, 1 and 2^53 give 2^53 + 2, but 2^53, 1 and 1 give 2^53
+abbrev rising : Held
+rising = keeping ("((A,B):1,C,D,E);" ∷ "((A,B):1,C,D,E);" ∷ "((A,B):9007199254740992,C,D,E);" ∷ [])
+
+abbrev falling : Held
+falling = keeping ("((A,B):9007199254740992,C,D,E);" ∷ "((A,B):1,C,D,E);" ∷ "((A,B):1,C,D,E);" ∷ [])
+
+pub tree-order-holds :
+    (sumsOf rising 0 ≡ gives (record { shortest = one; longest = large; sum = larger }))
+    × (sumsOf falling 0 ≡ gives (record { shortest = one; longest = large; sum = large }))
+unfolding keeping sumsOf
+tree-order-holds = (refl, refl)
+
+-- 17 stands before 11: the tree room is used up
+pub length-verdicts-hold :
+    (verdict held (holding (bytes "((A,B):1e23,C,D,E)")) ≡ refused 17)
+    × (verdict held (holding (bytes "((A,B):1e22,C,D,E)")) ≡ refused 11)
+unfolding keeping verdict bytes
+length-verdicts-hold = (refl, refl)
+
+-- "none are kept": 18, after 13
+abbrev without : Held
+without = collection "A B C D E" ("((A,B):3,C,(D,E):.5);" ∷ "(A,B,C,D,E);" ∷ [])
+
+pub no-lengths-hold :
+    (weightedOf without 0 0 ≡ refused 18)
+    × (weightedOf without 1 1 ≡ refused 18)
+    × (weightedOf without 0 2 ≡ refused 13)
+    × (sumsOf without 0 ≡ refused 18)
+    × (sumsOf without 2 ≡ refused 13)
+unfolding collection weightedOf sumsOf bytes
+no-lengths-hold = (refl, refl, refl, refl, refl)
+
+-- ---- whole
+
+abbrev one-tree : Length → List (List Length)
+one-tree x = (x ∷ []) ∷ []
+
+-- "finite and not minus zero", and one for each split; if they are not kept, none
+pub whole-lengths-hold :
+    (goodLengths 1 ((24 ∷ 28 ∷ []) ∷ [] ∷ []) ((some half ∷ none ∷ []) ∷ [] ∷ []) ≡ true)
+    × (goodLengths 1 ((28 ∷ []) ∷ []) (one-tree (some plusZero)) ≡ true)
+    × (goodLengths 1 ((28 ∷ []) ∷ []) (one-tree (some (fin true 1 (pos 0)))) ≡ true)
+    × (goodLengths 1 ((28 ∷ []) ∷ []) (one-tree (some (fin true 0 (pos 0)))) ≡ false)
+    × (goodLengths 1 ((28 ∷ []) ∷ []) (one-tree (some (inf false))) ≡ false)
+    × (goodLengths 1 ((28 ∷ []) ∷ []) (one-tree (some (inf true))) ≡ false)
+    × (goodLengths 1 ((28 ∷ []) ∷ []) (one-tree (some nan)) ≡ false)
+    × (goodLengths 1 ((24 ∷ 28 ∷ []) ∷ []) (one-tree (some one)) ≡ false)
+    × (goodLengths 1 ([] ∷ []) (one-tree (some one)) ≡ false)
+    × (goodLengths 1 ([] ∷ []) [] ≡ false)
+    × (goodLengths 1 [] ([] ∷ []) ≡ false)
+    × (goodLengths 0 ((28 ∷ []) ∷ []) ([] ∷ []) ≡ true)
+    × (goodLengths 0 ((28 ∷ []) ∷ []) (one-tree none) ≡ false)
+unfolding goodLengths
+whole-lengths-hold = (refl, refl, refl, refl, refl, refl, refl, refl, refl, refl, refl, refl, refl)

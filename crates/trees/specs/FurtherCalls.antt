@@ -23,7 +23,7 @@ use Rattle.trees.specs.Runs.{Call, feed, hand, close, Heard, fed, closed
 abbrev shop : Held
 shop =
     opened (record {
-      numbers = record { taxa = 5; lanes = 2; treeRoom = 2; splitRoom = 2; places = 1 };
+      numbers = record { taxa = 5; lanes = 2; treeRoom = 2; splitRoom = 2; places = 1; kept = 0 };
       names = namesIn (bytes "A B C D E");
       first = replicate 5 0;
       second = replicate 5 0;
@@ -53,7 +53,7 @@ calls-hold = refl
 
 -- the accepted trees, in order of acceptance, and empty lanes; the opening stays
 pub calls-leave : ending shop (map (λ c. c .0) calls)
-    ≡ record { opening = shop .opening; trees = (24 ∷ 28 ∷ []) ∷ (24 ∷ 28 ∷ []) ∷ []; texts = holding [] ∷ holding [] ∷ [] }
+    ≡ record { opening = shop .opening; trees = (24 ∷ 28 ∷ []) ∷ (24 ∷ 28 ∷ []) ∷ []; lengths = [] ∷ [] ∷ []; texts = holding [] ∷ holding [] ∷ [] }
 unfolding ending calls opened namesIn bytes
 calls-leave = refl
 

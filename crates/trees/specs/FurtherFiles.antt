@@ -15,6 +15,7 @@ use mathlib.Core.Path.{_≡_, refl}
 use lib.ListN.{replicate}
 use Rattle.trees.specs.Plain.{bytes, byte, Answer, refused, gives}
 use Rattle.trees.specs.Names.{namesIn}
+use Rattle.trees.specs.Verdict.{Branches}
 use Rattle.trees.specs.Held.{Held, opened}
 use Rattle.trees.specs.Batch.{Batched}
 use Rattle.trees.specs.Nexus.{File}
@@ -25,7 +26,7 @@ use Rattle.trees.specs.NexusCall.{plainTexts, onText, nexus}
 abbrev shop : Held
 shop =
     opened (record {
-      numbers = record { taxa = 5; lanes = 1; treeRoom = 2; splitRoom = 2; places = 1 };
+      numbers = record { taxa = 5; lanes = 1; treeRoom = 2; splitRoom = 2; places = 1; kept = 0 };
       names = namesIn (bytes "A B C D E");
       first = replicate 5 0;
       second = replicate 5 0;
@@ -217,12 +218,12 @@ abbrev blanks : ℕ → List ℕ
 blanks n = replicate n (byte " ")
 
 -- "judged as its plain text handed whole to an empty lane": at most 4,608 bytes, the blanks at its ends too
-unfoldable pub longTexts : List (List ℕ × Answer (List ℕ))
+unfoldable pub longTexts : List (List ℕ × Answer Branches)
 unfolding bytes
 longTexts =
     (blanks 4608, refused 7)
     ∷ (blanks 4609, refused 6)
-    ∷ (blanks 4592 ++ bytes "(A,B,C,D,E)\t\t\t\t\t", gives [])
+    ∷ (blanks 4592 ++ bytes "(A,B,C,D,E)\t\t\t\t\t", gives (record { splits = []; lengths = [] }))
     ∷ (blanks 4592 ++ bytes "(A,B,C,D,E)\t\t\t\t\t\t", refused 6)
     ∷ []
 

@@ -13,11 +13,15 @@ use Rattle.trees.specs.Names.{namesIn}
 use Rattle.trees.specs.Opening.{Numbers, Opening, sizing, opening}
 use Rattle.trees.specs.Whole.{goodOpening}
 
--- taxa, lanes, tree room, split room, places
+-- taxa, lanes, tree room, split room, places; lengths are not kept
 abbrev of : ℕ → ℕ → ℕ → ℕ → ℕ → Numbers
-of n l t s m = record { taxa = n; lanes = l; treeRoom = t; splitRoom = s; places = m }
+of n l t s m = record { taxa = n; lanes = l; treeRoom = t; splitRoom = s; places = m; kept = 0 }
 
--- 4096 + 4616 a lane + 128 a tree + 24 a split + 2 a place
+-- the same, but for whether lengths are kept
+abbrev kept : ℕ → Numbers → Numbers
+kept k x = record { taxa = x .taxa; lanes = x .lanes; treeRoom = x .treeRoom; splitRoom = x .splitRoom; places = x .places; kept = k }
+
+-- 4096 + 4616 a lane + 128 a tree + 24 a split + 2 a place; 512 a tree more where lengths are kept
 unfoldable pub sizings : List (String × Numbers × Answer ℕ)
 sizings =
     ("the least", of 4 1 1 1 1, gives 8866)
@@ -36,6 +40,8 @@ sizings =
     ∷ ("no places", of 4 1 1 1 0, refused 2)
     ∷ ("two places a split", of 4 1 1 3 6, gives 8924)
     ∷ ("a place more", of 4 1 1 3 7, refused 2)
+    ∷ ("lengths are kept", kept 1 (of 4 1 1 1 1), gives 9378)
+    ∷ ("lengths of 1,024 trees are kept", kept 1 (of 4 1 1024 1 1), gives 664098)
     ∷ []
 
 pub sizings-hold : map (λ r. sizing (r .1)) sizings ≡ map (λ r. r .2) sizings
@@ -58,7 +64,7 @@ unfoldable pub refusalOf : {A : Type 0} → Answer A → ℕ
 refusalOf (refused k) = k
 refusalOf (gives a) = 0
 
--- `small` takes 4096 + 2 · 4616 + 128 + 24 + 2 · 2 bytes, 13,484
+-- `small` takes 4096 + 2 · 4616 + 128 + 24 + 2 · 2 bytes, 13,484; with lengths 512 more
 unfoldable pub openings : List (String × Answer Opening × ℕ)
 unfolding opening bytes
 openings =
@@ -90,6 +96,8 @@ openings =
     ∷ ("a name of 33 bytes", opening small (bytes "A B C abcdefghijabcdefghijabcdefghijabc") first4 second4 13484, 3)
     ∷ ("bad names before too little memory", opening small (bytes "A B C:1 D") first4 second4 0, 3)
     ∷ ("a byte too little", opening small (bytes "A B C D") first4 second4 13483, 4)
+    ∷ ("lengths are kept", opening (kept 1 small) (bytes "A B C D") first4 second4 13996, 0)
+    ∷ ("a byte too little for lengths", opening (kept 1 small) (bytes "A B C D") first4 second4 13995, 4)
     ∷ []
 
 pub openings-hold : map (λ r. refusalOf (r .1)) openings ≡ map (λ r. r .2) openings
@@ -114,6 +122,8 @@ unfoldable pub goodOpenings : List (String × Opening × Bool)
 unfolding namesIn bytes
 goodOpenings =
     ("in order", fixed small "A B C D" first4 second4, true)
+    ∷ ("lengths are kept", fixed (kept 1 small) "A B C D" first4 second4, true)
+    ∷ ("lengths are neither kept nor not", fixed (kept 2 small) "A B C D" first4 second4, false)
     ∷ ("a number out of range", fixed (of 4 9 1 1 2) "A B C D" first4 second4, false)
     ∷ ("a constant out of range", fixed small "A B C D" (0 ∷ 1 ∷ 2 ∷ 0 ∷ []) second4, false)
     ∷ ("a name twice", fixed small "A B C B" first4 second4, false)

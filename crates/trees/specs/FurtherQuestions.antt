@@ -62,7 +62,7 @@ abbrev hashed : Held
 hashed =
     fedWith
     (opened (record {
-      numbers = record { taxa = 5; lanes = 1; treeRoom = 4; splitRoom = 8; places = 2 };
+      numbers = record { taxa = 5; lanes = 1; treeRoom = 4; splitRoom = 8; places = 2; kept = 0 };
       names = namesIn (bytes "A B C D E");
       first = 0 ∷ 0 ∷ 1 ∷ 1 ∷ 0 ∷ [];
       second = 0 ∷ 8 ∷ 3 ∷ 5 ∷ 2 ∷ [];

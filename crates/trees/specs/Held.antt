@@ -1,10 +1,10 @@
 -- What a collection holds, and what the calls that change it do.
 --
 --   Lane                a lane: the bytes of its unfinished text; or that it ran over, and whether quotes are open behind its text
---   Held                what a collection holds: its opening; the accepted trees, in order of acceptance, each by its splits;
---                       for each lane its unfinished text
+--   Held                what a collection holds: its opening; the accepted trees, in order of acceptance, each by its splits; for each
+--                       of them the lengths of its splits, none where lengths are not kept; for each lane its unfinished text
 --   opened o            a collection just opened
---   verdict h l         the verdict on the text of the lane l: 6 to 12, or the splits of the tree that is accepted
+--   verdict h l         the verdict on the text of the lane l: 6 to 12 and 17, or the splits and lengths of the tree that is accepted
 --   feeding h l p       feeding the piece p to lane l
 --   closing h l         closing lane l
 use Prim.Native.Nat.{ℕ, suc, _+_}
@@ -14,7 +14,8 @@ use lib.Dec.{ltb, eqb}
 use lib.ListN.{length, getD, set, replicate}
 use Rattle.trees.specs.Plain.{if_then_else_, every, lacking, Answer, refused, gives}
 use Rattle.trees.specs.Text.{isBlank, openAfter, hasEnd, beforeEnd}
-use Rattle.trees.specs.Verdict.{judged}
+use Rattle.trees.specs.Value.{Length}
+use Rattle.trees.specs.Verdict.{Branches, judgedWith}
 use Rattle.trees.specs.Consensus.{recorded}
 use Rattle.trees.specs.Opening.{Opening}
 
@@ -25,21 +26,22 @@ pub data Lane : Type 0 where
 pub record Held : Type 0 where
   pub opening : Opening
   pub trees : List (List ℕ)
+  pub lengths : List (List Length)
   pub texts : List Lane
 
 -- no trees, and every lane empty
 unfoldable pub opened : Opening → Held
-opened o = record { opening = o; trees = []; texts = replicate (o .numbers .lanes) (holding []) }
+opened o = record { opening = o; trees = []; lengths = []; texts = replicate (o .numbers .lanes) (holding []) }
 
 -- the lane l of a collection, and the collection with another lane l
 unfoldable pub laneOf : Held → ℕ → Lane
 laneOf h l = getD (h .texts) l (holding [])
 
 unfoldable pub withLane : Held → ℕ → Lane → Held
-withLane h l x = record { opening = h .opening; trees = h .trees; texts = set (h .texts) l x }
+withLane h l x = record { opening = h .opening; trees = h .trees; lengths = h .lengths; texts = set (h .texts) l x }
 
-unfoldable pub withTree : Held → List ℕ → Held
-withTree h t = record { opening = h .opening; trees = h .trees ++ t ∷ []; texts = h .texts }
+unfoldable pub withTree : Held → Branches → Held
+withTree h b = record { opening = h .opening; trees = h .trees ++ b .splits ∷ []; lengths = h .lengths ++ b .lengths ∷ []; texts = h .texts }
 
 -- "a text may now hold 4,608 bytes"
 abbrev pub mostText : ℕ
@@ -63,24 +65,24 @@ unfolding lacking recorded
 newSplits h t = lacking t (recorded (h .trees))
 
 -- "accepted trees equal the tree room"; "recorded splits and this tree's new ones together exceed the split room"
-unfoldable pub roomFor : Held → List ℕ → Answer (List ℕ)
+unfoldable pub roomFor : Held → Branches → Answer Branches
 unfolding recorded newSplits
-roomFor h t =
+roomFor h b =
     if eqb (length (h .trees)) (h .opening .numbers .treeRoom) then refused 11
-    else if ltb (h .opening .numbers .splitRoom) (length (recorded (h .trees)) + length (newSplits h t)) then refused 12
-    else gives t
+    else if ltb (h .opening .numbers .splitRoom) (length (recorded (h .trees)) + length (newSplits h (b .splits))) then refused 12
+    else gives b
 
 -- the text's own verdict first, then 11 and 12
-unfoldable pub withRoom : Held → Answer (List ℕ) → Answer (List ℕ)
+unfoldable pub withRoom : Held → Answer Branches → Answer Branches
 unfolding roomFor
 withRoom h (refused k) = refused k
-withRoom h (gives t) = roomFor h t
+withRoom h (gives b) = roomFor h b
 
--- "A verdict checks 6, then 7 over all the text, then leaves from left to right for 8 or 9, then 10, 11, 12"
-unfoldable pub verdict : Held → Lane → Answer (List ℕ)
-unfolding judged withRoom
+-- "A verdict checks 6, then 7 over all the text, then leaves from left to right for 8 or 9, then 10, 11, 12"; 17 stands after 10
+unfoldable pub verdict : Held → Lane → Answer Branches
+unfolding judgedWith withRoom
 verdict h (overrun q) = refused 6
-verdict h (holding s) = withRoom h (judged (h .opening .names) s)
+verdict h (holding s) = withRoom h (judgedWith (h .opening .numbers .kept) (h .opening .names) s)
 
 -- what feeding answers besides the bytes taken, when it refuses nothing
 pub data Progress : Type 0 where
@@ -93,17 +95,17 @@ pub record Fed : Type 0 where
   pub after : Held
 
 -- "accepted, with the tree's number (from 0, in order of acceptance); refused, with a number"
-unfoldable pub finished : Held → Answer (List ℕ) → Answer Progress
+unfoldable pub finished : Held → Answer Branches → Answer Progress
 finished h (refused k) = refused k
-finished h (gives t) = gives (accepted (length (h .trees)))
+finished h (gives b) = gives (accepted (length (h .trees)))
 
-unfoldable pub recording : Held → Answer (List ℕ) → Held
+unfoldable pub recording : Held → Answer Branches → Held
 unfolding withTree
 recording h (refused k) = h
-recording h (gives t) = withTree h t
+recording h (gives b) = withTree h b
 
 -- "After a semicolon the lane is empty either way"
-unfoldable pub finishing : Held → ℕ → ℕ → Answer (List ℕ) → Fed
+unfoldable pub finishing : Held → ℕ → ℕ → Answer Branches → Fed
 unfolding finished recording withLane
 finishing h l taken v = record { taken = taken; answer = finished h v; after = withLane (recording h v) l (holding []) }
 

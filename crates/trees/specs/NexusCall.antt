@@ -17,6 +17,7 @@ use lib.ListN.{length}
 use Rattle.trees.specs.Plain.{if_then_else_, member, sameBytes, bytes, Answer, refused, gives}
 use Rattle.trees.specs.Text.{isBlank, isLabelByte, turned}
 use Rattle.trees.specs.Names.{different}
+use Rattle.trees.specs.Verdict.{Branches}
 use Rattle.trees.specs.Held.{Held, Lane, holding, longer, verdict, finished, recording}
 use Rattle.trees.specs.Batch.{verdictNumber, Batched, withVerdict}
 use Rattle.trees.specs.Nexus.{Pair, File}
@@ -68,7 +69,7 @@ keysOf (p ∷ ps) = p .0 ∷ keysOf ps
 -- ---- the call
 
 -- "judged as its plain text handed whole to an empty lane"
-unfoldable pub onText : Held → List ℕ → Answer (List ℕ)
+unfoldable pub onText : Held → List ℕ → Answer Branches
 unfolding verdict longer
 onText h t = verdict h (longer (holding []) t)
 

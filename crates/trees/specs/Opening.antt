@@ -4,6 +4,7 @@
 --   mostRoom           the largest split room
 --   inRange x          all of them are in their ranges
 --   headBytes, laneBytes, treeBytes     what a head, a lane and a tree take of a store
+--   branchBytes        what the lengths of a tree take of it, where lengths are kept
 --   storeSize x        how many bytes must be lent for a collection of these numbers
 --   sizing x           the answer of the call that tells it
 --   Opening            what an accepted opening fixes
@@ -22,6 +23,8 @@ pub record Numbers : Type 0 where
   pub treeRoom : ℕ
   pub splitRoom : ℕ
   pub places : ℕ
+  -- "Opening says whether lengths are kept": 1, or 0 if not
+  pub kept : ℕ
 
 abbrev pub between : ℕ → ℕ → ℕ → Bool
 between least most x = leb least x && leb x most
@@ -30,14 +33,15 @@ between least most x = leb least x && leb x most
 abbrev pub mostRoom : ℕ
 mostRoom = 4096
 
--- the table of "What the collection holds"
+-- the table of "What the collection holds", and whether lengths are kept
 unfoldable pub inRange : Numbers → Bool
 inRange x =
     between 4 64 (x .taxa)
     && (between 1 8 (x .lanes)
     && (between 1 1024 (x .treeRoom)
     && (between 1 mostRoom (x .splitRoom)
-    && between 1 (2 * x .splitRoom) (x .places))))
+    && (between 1 (2 * x .splitRoom) (x .places)
+    && leb (x .kept) 1))))
 
 -- the bytes of the head, of a lane (a text and 8 bytes before it) and of a tree
 abbrev pub headBytes : ℕ
@@ -49,9 +53,14 @@ laneBytes = 4616
 abbrev pub treeBytes : ℕ
 treeBytes = 128
 
--- "at most 64 bytes per split of room, 256 per tree of room, 8,192 per lane and 8,192 besides"; at most two places go with a split
+-- the bytes of a tree's lengths: 8 for each of 64
+abbrev pub branchBytes : ℕ
+branchBytes = 512
+
+-- "at most 64 bytes per split of room, 256 per tree of room, 8,192 per lane and 8,192 besides"; at most two places go with a split; where
+-- lengths are kept, "memory per tree is up to 1,024 bytes"
 unfoldable pub storeSize : Numbers → ℕ
-storeSize x = headBytes + laneBytes * x .lanes + treeBytes * x .treeRoom + 24 * x .splitRoom + 2 * x .places
+storeSize x = headBytes + laneBytes * x .lanes + treeBytes * x .treeRoom + 24 * x .splitRoom + 2 * x .places + branchBytes * (x .kept * x .treeRoom)
 
 -- "numbers out of range it refuses with 2"
 unfoldable pub sizing : Numbers → Answer ℕ

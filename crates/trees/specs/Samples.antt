@@ -23,7 +23,7 @@ use Rattle.trees.specs.Questions.{treeNumber, oneSidedOf, doubledOf, wri
 unfoldable pub over : List (List ℕ) → Opening
 over ns =
     record {
-      numbers = record { taxa = length ns; lanes = 1; treeRoom = 4; splitRoom = 8; places = 1 };
+      numbers = record { taxa = length ns; lanes = 1; treeRoom = 4; splitRoom = 8; places = 1; kept = 0 };
       names = ns;
       first = replicate (length ns) 0;
       second = replicate (length ns) 0;

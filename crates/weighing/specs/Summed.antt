@@ -1,14 +1,9 @@
--- The three lengths of a split, as the definitions of crate trees have them.
+-- The three lengths of a split, one tree after another.
 --
---   sumsGiven l        those that the code has
 --   withLength s x     those of one tree more, which has the length x
 use mathlib.Core.List.{[], _∷_}
 use lib.Ieee.{Float}
 use Rattle.trees.specs.Sums.{shortest, longest, added, Sums}
-use Rattle.weighing.specs.declared.Lengths.{Lengths}
-
-unfoldable pub sumsGiven : Lengths → Sums
-sumsGiven l = record { shortest = l .shortest; longest = l .longest; sum = l .sum }
 
 -- each of the three goes on where it stands
 unfoldable pub withLength : Sums → Float → Sums

@@ -13,15 +13,10 @@ ghost use Rattle.trees.specs.Plain.{if_then_else_};
 ghost use Rattle.trees.specs.Whole.{rising};
 ghost use Rattle.trees.specs.Sums.{sums};
 ghost use Rattle.trees.specs.Weighted.{gap as gapOf, weighted as weightedOf};
+ghost use Rattle.answers.specs.Answers.{sumsGiven};
 ghost use Rattle.weighing.specs.Side.{Side};
-ghost use Rattle.weighing.specs.Summed.{sumsGiven, withLength};
-
-// The shortest, longest and summed length of a split, over some trees having it.
-pub struct Lengths {
-    pub shortest: f64,
-    pub longest: f64,
-    pub sum: f64,
-}
+ghost use Rattle.weighing.specs.Summed.{withLength};
+use answers::Lengths;
 
 // The weighted distance of two trees, each given by the masks of its splits and a length for each.
 pub fn weighted(a: &[u64], xs: &[f64], b: &[u64], ys: &[f64]) -> f64

@@ -68,10 +68,20 @@ returns-16 : tie.Need-returns-16
 unfolding refusalNumber
 returns-16 c = rw (c .enum-told16 .given .1)
 
+returns-17 : tie.Need-returns-17
+unfolding refusalNumber
+returns-17 c = rw (c .enum-told17 .given .1)
+
+returns-18 : tie.Need-returns-18
+unfolding refusalNumber
+returns-18 c = rw (c .enum-told18 .given .1)
+
 pub refusal-number-spec : {M : Type 1} → statement M
 refusal-number-spec =
     tie.close
     (tie.spec
+    (λ c. search needs)
+    (λ c. search needs)
     (λ c. search needs)
     (λ c. search needs)
     (λ c. search needs)
@@ -103,4 +113,6 @@ refusal-number-spec =
     returns-13
     returns-14
     returns-15
-    returns-16)
+    returns-16
+    returns-17
+    returns-18)

@@ -3,8 +3,9 @@ use mathlib.Core.Path.{_≡_, subst}
 use mathlib.Core.Bool.{true}
 use borrow.Author.Needs.{needs}
 use Rattle.theorems.specs.ProperDoubleLaws.{proper-number}
+use Rattle.trees.specs.Whole.{goodLength}
 use Rattle.doubles.specs.Double.{putDouble}
-use Rattle.doubles.specs.Stored.{branchGiven, goodLength, putLength}
+use Rattle.doubles.specs.Stored.{branchGiven, putLength}
 use Rattle.doubles.proofs.put_length.Statement.{statement}
 use Rattle.doubles.proofs.put_length.Tie as tie
 

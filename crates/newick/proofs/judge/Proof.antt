@@ -1,89 +1,33 @@
 -- `newick::judge` meets its contract. Assumes nothing.
-use native.Mathlib.Omega.{arith}
-use mathlib.Core.Path.{refl, sym, _∙_}
+use mathlib.Core.Path.{refl}
 use borrow.Author.Needs.{needs}
-use borrow.Author.Tests.{eqb-true, eqb-false, not-true, not-false}
-use Rattle.head.specs.Head.{openingAt}
-use Rattle.newick.proofs.TaxonLaws.{prepared-opening, prepared-taxa}
-use Rattle.newick.proofs.JudgeLaws.{judged-none, summing-asks, judged-wrong, judged-missing, gathering-asks, judged-splits, every-taxon-here}
+use Rattle.newick.proofs.TaxonLaws.{prepared-opening}
+use Rattle.newick.proofs.JudgeLaws.{judged-faulty, sound-read, judged-splits}
 use Rattle.newick.proofs.judge.Statement.{statement}
 use Rattle.newick.proofs.judge.Tie as tie
 
--- in the answers below, r is where the shape is read, l where the leaves are summed, and i where the taxa are compared with all taxa
-returns : tie.Need-returns
-returns c = judged-none _ _ _ _ _ _ _ (c .before .before .read-shape .ensures) (c .if1 .taken) _
-
-sum-leaves-requires : tie.Need-sum-leaves-requires
-sum-leaves-requires c κs =
-    let r = c .before .before .before .before .before in
-    let a = summing-asks (openingAt (r .before .before .before .before .before .before .args .head .now)) _ _ _ _ _ _ (r .read-shape .ensures) refl (c .before .before .before .if1 .left) _ (c .before .before .fewer .ensures) in
-    (r .before .before .before .before .before .before .pre .0, (a, omega (arith, a .0)))
-
-every-taxon-requires : tie.Need-every-taxon-requires
-every-taxon-requires c κs =
-    let r = c .before .before .before .before .before .before .before .before .before .before .before .before in
-    let l = prepared-taxa _ _ _ (r .before .before .before .before .before .before .pre .0) in
-    omega (arith, c .taxa .ensures .0)
+-- in the answers below, r is where the tree is read
+gather-splits-requires : tie.Need-gather-splits-requires
+gather-splits-requires c κs =
+    let r = c .before .before .before .before .before .before in
+    let p = r .before .before .before .before .before .before .pre in
+    let w = sound-read _ _ _ _ _ _ (r .read-tree .ensures) _ _ (c .before .before .before .before .t2 .given .1) refl in
+    ((p .0 .reach, p .0 .good), (w .sums, (w .spans, p .1 .1)))
 
 returns-2 : tie.Need-returns-2
 returns-2 c =
-    let i = c in
-    let l = i .before .before .before .before .before .before .before .before .before in
-    let r = l .before .before .before .before .before .before in
-    let p = r .before .before .before .before .before .before .pre in
-    let all = every-taxon-here _ _ _ (i .before .before .before .taxa .ensures .0) (i .before .before .every-taxon .ensures) in
-    judged-missing _ _ _ _ _ _ _ (r .read-shape .ensures) refl (l .before .before .before .before .if1 .left) _ (l .before .before .before .fewer .ensures) (prepared-opening _ _ _ (p .0)) _ _ (l .sum-leaves .ensures)
-    (i .before .before .before .before .before .before .enum-told .given .1)
-    (λ y. eqb-false _ _ (sym (i .before .is-same .ensures) ∙ not-true _ (i .if2 .taken)) (i .before .before .before .before .mask-of .ensures ∙ y ∙ sym all)) _
-
-gather-splits-requires : tie.Need-gather-splits-requires
-gather-splits-requires c κs =
-    let i = c .before .before .before in
-    let l = i .before .before .before .before .before .before .before .before .before in
-    let r = l .before .before .before .before .before .before in
-    let p = r .before .before .before .before .before .before .pre in
-    let all = every-taxon-here _ _ _ (i .before .before .before .taxa .ensures .0) (i .before .before .every-taxon .ensures) in
-    let a = gathering-asks _ _ _ _ _ _ _ (r .read-shape .ensures) refl (l .before .before .before .before .if1 .left) _ (l .before .before .before .fewer .ensures) (prepared-opening _ _ _ (p .0)) _ _ (l .sum-leaves .ensures)
-    (i .before .before .before .before .before .before .enum-told .given .1)
-    (sym (i .before .before .before .before .mask-of .ensures) ∙ eqb-true _ _ (sym (i .before .is-same .ensures) ∙ not-false _ (i .if2 .left)) ∙ all) refl in
-    ((p .0 .reach, p .0 .good), (a .0, ((a .1, a .2), p .1 .1)))
-
-returns-3 : tie.Need-returns-3
-returns-3 c =
-    let l = c .before .before .before .before in
-    let r = l .before .before .before .before .before .before in
-    judged-wrong _ _ _ _ _ _ _ (r .read-shape .ensures) refl (l .before .before .before .before .if1 .left) _ (l .before .before .before .fewer .ensures)
-    (prepared-opening _ _ _ (r .before .before .before .before .before .before .pre .0)) _ _ (l .sum-leaves .ensures) _ (c .before .l .given .1) _
-
-returns-4 : tie.Need-returns-4
-returns-4 c =
-    let i = c .before .before .before .before .before .before in
-    let l = i .before .before .before .before .before .before .before .before .before in
-    let r = l .before .before .before .before .before .before in
-    let p = r .before .before .before .before .before .before .pre in
-    let all = every-taxon-here _ _ _ (i .before .before .before .taxa .ensures .0) (i .before .before .every-taxon .ensures) in
-    judged-splits _ _ _ _ _ _ _ (r .read-shape .ensures) refl (l .before .before .before .before .if1 .left) _ (l .before .before .before .fewer .ensures) (prepared-opening _ _ _ (p .0)) _ _ (l .sum-leaves .ensures)
-    (i .before .before .before .before .before .before .enum-told .given .1)
-    (sym (i .before .before .before .before .mask-of .ensures) ∙ eqb-true _ _ (sym (i .before .is-same .ensures) ∙ not-false _ (i .if2 .left)) ∙ all) refl _ _ _ (c .before .before .gather-splits .ensures)
+    let r = c .before .before .before .before .before .before .before .before .before in
+    let w = sound-read _ _ _ _ _ _ (r .read-tree .ensures) _ _ (c .before .before .before .before .before .before .before .t2 .given .1) refl in
+    judged-splits _ _ _ _ (prepared-opening _ _ _ (r .before .before .before .before .before .before .pre .0)) _ _ w _ _ _ (c .before .before .gather-splits .ensures)
 
 pub judge-spec : {M : Type 1} → statement M
 judge-spec =
     tie.close
     (tie.spec
     (λ c κs. search needs)
-    returns
-    (λ c κs. search needs)
-    (λ c. search needs)
-    sum-leaves-requires
     (λ c. search needs)
     (λ c. search needs)
-    (λ c. search needs)
-    (λ c κs. search needs)
-    (λ c κs. search needs)
-    every-taxon-requires
-    (λ c κs. search needs)
-    returns-2
     gather-splits-requires
-    returns-3
+    (λ c. judged-faulty _ _ _ _ _ _ (c .before .before .before .read-tree .ensures) _ (c .before .t .given .1) _)
     (λ c. search needs)
-    returns-4)
+    returns-2)

@@ -7,13 +7,13 @@ use Rattle.opening.proofs.constants_good.Statement.{statement}
 use Rattle.opening.proofs.constants_good.Tie as tie
 
 returns : tie.Need-returns
-returns c = λ _ _ _. sym (constants-not-first _ _ _ (c .if1 .taken))
+returns c = λ _ _ _ _. sym (constants-not-first _ _ _ (c .if1 .taken))
 
 returns-2 : tie.Need-returns-2
-returns-2 c = λ _ _ _. sym (constants-not-second _ _ _ (c .before .if1 .left) (c .if2 .taken))
+returns-2 c = λ _ _ _ _. sym (constants-not-second _ _ _ (c .before .if1 .left) (c .if2 .taken))
 
 returns-3 : tie.Need-returns-3
-returns-3 c = λ _ _ _.
+returns-3 c = λ _ _ _ _.
     let k = c .before .before .before in
     c .all-below .ensures
     ∙ sym (constants-below _ _ (k .before .before .args .second .now) (c .before .before .if1 .left) (c .before .if2 .left) (λ i. omega (arith, k .shared-slice-known2 .given i)))

@@ -1,8 +1,9 @@
 -- `store::is_whole` meets its contract. Assumes nothing.
+use Rattle.theorems.specs.ListLaws.{and-left}
 use Rattle.opening.specs.GivenLaws.{failed, passed}
 use Rattle.layout.specs.WholeFacts.{head-facts}
 use Rattle.store.specs.SumLaws.{blank-new}
-use Rattle.store.specs.WholeTestLaws.{no-head, no-splits, no-trees, no-chains, by-lanes}
+use Rattle.store.specs.WholeTestLaws.{no-head, no-splits, no-trees, no-chains, no-lanes, by-branches}
 use Rattle.store.proofs.is_whole.Statement.{statement}
 use Rattle.store.proofs.is_whole.Tie as tie
 
@@ -21,4 +22,6 @@ is-whole-spec =
     (λ c κs. (head-facts _ (passed _ _ (c .before .before .before .before .before .before .before .before .before .before .before .head-good .ensures) (c .before .before .before .before .before .before .before .before .before .before .if1 .left)), c .before .fill-sums2 .ensures .0))
     (λ c. no-chains _ (passed _ _ (c .before .before .before .before .before .before .before .before .before .before .before .before .before .head-good .ensures) (c .before .before .before .before .before .before .before .before .before .before .before .before .if1 .left)) (passed _ _ (c .before .before .before .before .before .before .before .before .splits-good .ensures) (c .before .before .before .before .before .before .before .if2 .left)) (passed _ _ (c .before .before .before .before .before .before .trees-good .ensures) (c .before .before .before .before .before .if3 .left)) (failed _ _ (c .before .chains-good .ensures) (c .if4 .taken)))
     (λ c κs. head-facts _ (passed _ _ (c .before .before .before .before .before .before .before .before .before .before .before .before .before .head-good .ensures) (c .before .before .before .before .before .before .before .before .before .before .before .before .if1 .left)))
-    (λ c. by-lanes _ (passed _ _ (c .before .before .before .before .before .before .before .before .before .before .before .before .before .before .head-good .ensures) (c .before .before .before .before .before .before .before .before .before .before .before .before .before .if1 .left)) (passed _ _ (c .before .before .before .before .before .before .before .before .before .splits-good .ensures) (c .before .before .before .before .before .before .before .before .if2 .left)) (passed _ _ (c .before .before .before .before .before .before .before .trees-good .ensures) (c .before .before .before .before .before .before .if3 .left)) (passed _ _ (c .before .before .chains-good .ensures) (c .before .if4 .left)) (c .lanes-good .ensures)))
+    (λ c. no-lanes _ (passed _ _ (c .before .before .before .before .before .before .before .before .before .before .before .before .before .before .before .head-good .ensures) (c .before .before .before .before .before .before .before .before .before .before .before .before .before .before .if1 .left)) (passed _ _ (c .before .before .before .before .before .before .before .before .before .before .splits-good .ensures) (c .before .before .before .before .before .before .before .before .before .if2 .left)) (passed _ _ (c .before .before .before .before .before .before .before .before .trees-good .ensures) (c .before .before .before .before .before .before .before .if3 .left)) (passed _ _ (c .before .before .before .chains-good .ensures) (c .before .before .if4 .left)) (failed _ _ (c .before .lanes-good .ensures) (c .if5 .taken)))
+    (λ c κs. (head-facts _ (passed _ _ (c .before .before .before .before .before .before .before .before .before .before .before .before .before .before .before .head-good .ensures) (c .before .before .before .before .before .before .before .before .before .before .before .before .before .before .if1 .left)), and-left _ _ (passed _ _ (c .before .before .before .before .before .before .before .before .trees-good .ensures) (c .before .before .before .before .before .before .before .if3 .left))))
+    (λ c. by-branches _ (passed _ _ (c .before .before .before .before .before .before .before .before .before .before .before .before .before .before .before .before .head-good .ensures) (c .before .before .before .before .before .before .before .before .before .before .before .before .before .before .before .if1 .left)) (passed _ _ (c .before .before .before .before .before .before .before .before .before .before .before .splits-good .ensures) (c .before .before .before .before .before .before .before .before .before .before .if2 .left)) (passed _ _ (c .before .before .before .before .before .before .before .before .before .trees-good .ensures) (c .before .before .before .before .before .before .before .before .if3 .left)) (passed _ _ (c .before .before .before .before .chains-good .ensures) (c .before .before .before .if4 .left)) (passed _ _ (c .before .before .lanes-good .ensures) (c .before .if5 .left)) (c .branches-good .ensures)))

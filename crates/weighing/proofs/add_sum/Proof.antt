@@ -1,6 +1,7 @@
 -- `weighing::add_sum` meets its contract. Assumes nothing.
 use borrow.Author.Needs.{needs}
-use Rattle.weighing.specs.Summed.{sumsGiven, withLength}
+use Rattle.answers.specs.Answers.{sumsGiven}
+use Rattle.weighing.specs.Summed.{withLength}
 use Rattle.weighing.proofs.add_sum.Statement.{statement}
 use Rattle.weighing.proofs.add_sum.Tie as tie
 

@@ -2,7 +2,7 @@
 use mathlib.Core.Path.{refl}
 use lib.Ieee.{ofBits}
 use Rattle.trees.specs.Sums.{sums}
-use Rattle.weighing.specs.Summed.{sumsGiven}
+use Rattle.answers.specs.Answers.{sumsGiven}
 use Rattle.weighing.proofs.first_sum.Statement.{statement}
 use Rattle.weighing.proofs.first_sum.Tie as tie
 

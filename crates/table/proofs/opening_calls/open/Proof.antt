@@ -15,19 +15,20 @@ use Rattle.table.proofs.opening_calls.open.Tie as tie
 
 returns : tie.Need-returns
 unfolding refusalNumber
-returns c = refused-as _ 2 _ _ (not-in-range _ _ _ _ _ (failed _ _ (c .before .numbers-in-range .ensures) (c .if1 .taken))) refl
+returns c = refused-as _ 2 _ _ (not-in-range _ _ _ _ _ (failed _ _ (c .before .numbers-in-range .ensures _) (c .if1 .taken))) refl
 
 returns-2 : tie.Need-returns-2
 unfolding refusalNumber
 returns-2 c =
     let d = c .before .before in
-    let a = passed _ _ (d .before .numbers-in-range .ensures) (d .if1 .left) in
-    refused-as _ 2 _ _ (not-constants _ _ _ _ _ a (failed _ _ (c .before .constants-good .ensures _ _ _) (c .if2 .taken))) refl
+    let a = passed _ _ (d .before .numbers-in-range .ensures _) (d .if1 .left) in
+    refused-as _ 2 _ _ (not-constants _ _ _ _ _ a (failed _ _ (c .before .constants-good .ensures _ _ _ _) (c .if2 .taken))) refl
 
 read-names-requires : tie.Need-read-names-requires
 read-names-requires c κs =
     let d = c .before .before .before in
-    let a = passed _ _ (d .before .numbers-in-range .ensures) (d .if1 .left) in
+    let far = d .before .before .before .before .before .before in
+    let a = passed _ _ (d .before .numbers-in-range .ensures (far .args .kept)) (d .if1 .left) in
     (omega (arith, length-replicate {A = ℕ} 4096 0), in-range _ a .most-taxa)
 
 returns-3 : tie.Need-returns-3
@@ -36,14 +37,14 @@ returns-3 c =
     let n = c .before .before in
     let e = n .before .before in
     let d = e .before .before in
-    let a = passed _ _ (d .before .numbers-in-range .ensures) (d .if1 .left) in
-    let b = passed _ _ (e .before .constants-good .ensures _ _ _) (e .if2 .left) in
+    let a = passed _ _ (d .before .numbers-in-range .ensures _) (d .if1 .left) in
+    let b = passed _ _ (e .before .constants-good .ensures _ _ _ _) (e .if2 .left) in
     refused-as _ 3 _ _ (not-names _ _ _ _ _ a b (failed _ _ (n .read-names .ensures .0) (c .if3 .taken))) refl
 
 store-size-requires : tie.Need-store-size-requires
 store-size-requires c κs =
     let d = c .before .before .before .before .before .before in
-    passed _ _ (d .before .numbers-in-range .ensures) (d .if1 .left)
+    passed _ _ (d .before .numbers-in-range .ensures _) (d .if1 .left)
 
 returns-4 : tie.Need-returns-4
 unfolding refusalNumber
@@ -52,8 +53,8 @@ returns-4 c =
     let n = f .before .before in
     let e = n .before .before in
     let d = e .before .before in
-    let a = passed _ _ (d .before .numbers-in-range .ensures) (d .if1 .left) in
-    let b = passed _ _ (e .before .constants-good .ensures _ _ _) (e .if2 .left) in
+    let a = passed _ _ (d .before .numbers-in-range .ensures _) (d .if1 .left) in
+    let b = passed _ _ (e .before .constants-good .ensures _ _ _ _) (e .if2 .left) in
     let g = passed _ _ (n .read-names .ensures .0) (f .if3 .left) in
     refused-as _ 4 _ _ (not-long _ _ _ _ _ a b g (rw (c .before .store-size .ensures) at (c .if4 .taken))) refl
 
@@ -64,8 +65,8 @@ write-head-requires c κs =
     let n = f .before .before in
     let e = n .before .before in
     let d = e .before .before in
-    let a = passed _ _ (d .before .numbers-in-range .ensures) (d .if1 .left) in
-    let b = passed _ _ (e .before .constants-good .ensures _ _ _) (e .if2 .left) in
+    let a = passed _ _ (d .before .numbers-in-range .ensures _) (d .if1 .left) in
+    let b = passed _ _ (e .before .constants-good .ensures _ _ _ _) (e .if2 .left) in
     let g = passed _ _ (n .read-names .ensures .0) (f .if3 .left) in
     let q = n .read-names .ensures .1 (not-false _ (f .if3 .left)) in
     (lent-head _ _ (rw (h .before .store-size .ensures) at (h .if4 .left)), (a, (b, (omega (arith, f .before .names2 .given), ap (goodNames _) q ∙ g))))
@@ -89,8 +90,8 @@ returns-5 c =
     let n = f .before .before in
     let e = n .before .before in
     let d = e .before .before in
-    let a = passed _ _ (d .before .numbers-in-range .ensures) (d .if1 .left) in
-    let b = passed _ _ (e .before .constants-good .ensures _ _ _) (e .if2 .left) in
+    let a = passed _ _ (d .before .numbers-in-range .ensures _) (d .if1 .left) in
+    let b = passed _ _ (e .before .constants-good .ensures _ _ _ _) (e .if2 .left) in
     let g = passed _ _ (n .read-names .ensures .0) (f .if3 .left) in
     let q = n .read-names .ensures .1 (not-false _ (f .if3 .left)) in
     let l = rw (h .before .store-size .ensures) at (h .if4 .left) in

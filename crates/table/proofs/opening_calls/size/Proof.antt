@@ -10,6 +10,6 @@ size-spec =
     tie.close
     (tie.spec
     (λ c κs. search needs)
-    (λ c. size-refused _ (failed _ _ (c .before .numbers-in-range .ensures) (c .if1 .taken)))
-    (λ c κs. passed _ _ (c .before .numbers-in-range .ensures) (c .if1 .left))
-    (λ c. size-given _ _ (passed _ _ (c .before .before .numbers-in-range .ensures) (c .before .if1 .left)) (c .store-size .ensures)))
+    (λ c. size-refused _ (failed _ _ (c .before .numbers-in-range .ensures _) (c .if1 .taken)))
+    (λ c κs. passed _ _ (c .before .numbers-in-range .ensures _) (c .if1 .left))
+    (λ c. size-given _ _ (passed _ _ (c .before .before .numbers-in-range .ensures _) (c .before .if1 .left)) (c .store-size .ensures)))

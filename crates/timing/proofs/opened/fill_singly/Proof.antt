@@ -8,10 +8,10 @@ use Rattle.timing.proofs.opened.fill_singly.Statement.{statement}
 use Rattle.timing.proofs.opened.fill_singly.Tie as tie
 
 abbrev Inv-loop : tie.InvT-loop
-Inv-loop s₀ names texts b₀ s b = (b ≤ length texts) × (length s ≡ length s₀)
+Inv-loop s₀ kept names texts b₀ s b = (b ≤ length texts) × (length s ≡ length s₀)
 
 abbrev μ-loop : tie.MeasureT-loop
-μ-loop s₀ names texts b₀ s b = length texts - b
+μ-loop s₀ kept names texts b₀ s b = length texts - b
 
 pub fill-singly-spec : {M : Type 1} → statement M
 fill-singly-spec =

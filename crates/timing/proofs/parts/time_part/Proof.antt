@@ -6,10 +6,10 @@ use Rattle.timing.proofs.parts.time_part.Statement.{statement}
 use Rattle.timing.proofs.parts.time_part.Tie as tie
 
 abbrev Inv-loop : tie.InvT-loop
-Inv-loop part n names texts s₀ matrix₀ from i₀ s matrix i = i ≤ n
+Inv-loop part n kept names texts s₀ matrix₀ from i₀ s matrix i = i ≤ n
 
 abbrev μ-loop : tie.MeasureT-loop
-μ-loop part n names texts s₀ matrix₀ from i₀ s matrix i = n - i
+μ-loop part n kept names texts s₀ matrix₀ from i₀ s matrix i = n - i
 
 pub time-part-spec : {M : Type 1} → statement M
 time-part-spec =
