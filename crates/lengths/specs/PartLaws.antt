@@ -1,7 +1,9 @@
 -- The parts of a length: a sign, digits with a point or none, an exponent. Assumes nothing.
 --
 --   digit-no-point, digit-no-e, point-no-e   a byte is of one class at most
---   number-append, every-append     digits behind others
+--   sign-is                                  which bytes are signs
+--   number-append, every-append, every-behind     digits behind others
+--   first-e                         what begins with an exponent begins with e or E
 --   Stops r, NoPoint r              r does not begin with a digit, with a point
 --   Parted w ds fs r                the bytes w of a length behind its sign: digits ds, digits fs behind a point or none, an exponent r or nothing
 --   whole-parted, point-parted      what was read without and with a point
@@ -15,7 +17,7 @@ use mathlib.Core.Bool.{Bool, true, false, _||_, false≢true}
 use mathlib.Core.List.{List, [], _∷_, _++_, append-nil}
 use lib.Dec.{leb, eqb}
 use lib.IntN.{pos, _-ℤ_}
-use lib.ListN.{length}
+use lib.ListN.{length, getD}
 use borrow.Author.Tests.{leb-true, eqb-true, ne-eqb, eq-eqb}
 use Rattle.trees.specs.Plain.{if_then_else_, every}
 use Rattle.trees.specs.Length.{isDigit, isSign, isPoint, isE, isDigits, unsigned, withoutPoint, beforeE, fromE, isDecimal, isExponent, isLength}
@@ -41,7 +43,7 @@ pub point-no-e : (b : ℕ) → b ≡ 46 → isE b ≡ false
 unfolding isE
 point-no-e b h = either-false (eqb b 101) (eqb b 69) (ne-eqb b 101 (λ e. omega arith)) (ne-eqb b 69 (λ e. omega arith))
 
-sign-is : (b : ℕ) → isSign b ≡ true → (b ≡ 43) ⊎ (b ≡ 45)
+pub sign-is : (b : ℕ) → isSign b ≡ true → (b ≡ 43) ⊎ (b ≡ 45)
 unfolding isSign
 sign-is b h = elim (or-cases (eqb b 43) (eqb b 45) h) [ inl e ↦ inl (eqb-true b 43 e) | inr e ↦ inr (eqb-true b 45 e) ]
 
@@ -73,7 +75,7 @@ unfolding every
 every-append [] w h k = k
 every-append (b ∷ v) w h k = rw (and-left (isDigit b) (every isDigit v) h) (every-append v w (and-right (isDigit b) (every isDigit v) h) k)
 
-every-behind : (v w : List ℕ) → every isDigit (v ++ w) ≡ true → every isDigit w ≡ true
+pub every-behind : (v w : List ℕ) → every isDigit (v ++ w) ≡ true → every isDigit w ≡ true
 unfolding every
 every-behind [] w h = h
 every-behind (b ∷ v) w h = every-behind v w (and-right (isDigit b) (every isDigit (v ++ w)) h)
@@ -97,6 +99,15 @@ digits-behindPoint : (ds r : List ℕ) → every isDigit ds ≡ true → behindP
 unfolding behindPoint every
 digits-behindPoint [] r h = refl
 digits-behindPoint (d ∷ ds) r h = rw (digit-no-point d (and-left (isDigit d) (every isDigit ds) h)) (digits-behindPoint ds r (and-right (isDigit d) (every isDigit ds) h))
+
+pub first-e : (w : List ℕ) (c : ℕ) (r : List ℕ) → fromE w ≡ c ∷ r → isE c ≡ true
+unfolding fromE
+first-e [] c r h = absurd (omega (arith, ap length h))
+first-e (b ∷ w) c r h = go (isE b) refl h (first-e w c r)
+  where
+    go : (t : Bool) → isE b ≡ t → (if t then b ∷ w else fromE w) ≡ c ∷ r → (fromE w ≡ c ∷ r → isE c ≡ true) → isE c ≡ true
+    go true e k f = ap (λ (l : List ℕ). isE (getD l 0 0)) (sym k) ∙ e
+    go false e k f = f k
 
 -- ---- the parts of a length behind its sign
 

@@ -1,19 +1,16 @@
 // The value of a length in a text, as a double.
 //
-// Its contract cites `lengthOf` of crate trees, Value.antt; `specs/Read.antt` says what each reader answers, in terms of the same file.
+// Its contract cites `LengthStands` and `LengthTaken` of `specs/Read.antt`, which says what each reader answers in terms of crate trees, Value.antt.
 ghost use mathlib.Core.Path.{_≡_};
 ghost use Prim.Native.Nat.{ℕ, _+_, _-_, _*_, _^_, _≤_, _<_};
 ghost use mathlib.Core.Bool.{true, false};
 ghost use lib.IntN.{pos, negsuc, _-ℤ_};
 ghost use lib.Ieee.Exact.{HasValue};
 ghost use lib.ListN.{length};
-ghost use lib.Seq.{slice};
-ghost use Rattle.trees.specs.Plain.{every};
-ghost use Rattle.trees.specs.Length.{isDigit, withoutPoint, beforeE, isLength, isExponent};
-ghost use Rattle.trees.specs.Value.{isMinus, withSign, measured, signed, lengthOf};
+ghost use Rattle.trees.specs.Value.{withSign, measured, signed};
 ghost use Rattle.lengths.specs.Near.{Near};
 ghost use Rattle.lengths.specs.Answer.{valueGiven};
-ghost use Rattle.lengths.specs.Read.{Digits, Unsigned, DecimalRead, ExponentRead};
+ghost use Rattle.lengths.specs.Read.{hasE, MinusAt, SignPast, Digits, DecimalPast, ExponentPast, LengthStands, LengthTaken};
 
 // The value of a length, or that it is outside the exact range.
 pub enum Value {
@@ -34,38 +31,46 @@ pub struct Decimal {
     pub at: usize,
 }
 
-// An exponent: whether it is negative, and its size.
+// An exponent: whether it is negative, its size, and the place behind it.
 pub struct Exponent {
     pub negative: bool,
     pub size: u64,
+    pub at: usize,
 }
 
-// The double of the length from b up to e.
-pub fn length_of(text: &[u8], b: usize, e: usize) -> Value
-    requires { ⌜ (b ≤ e) × (e ≤ length (now text)) ⌝ }
+// A length that was read: its value, and the place behind it.
+pub struct Taken {
+    pub value: Value,
+    pub at: usize,
+}
+
+// The double of the length at b. Each of its bytes is read once: the length ends where its parts do.
+pub fn length_at(text: &[u8], b: usize) -> Taken
+    requires { ⌜ LengthStands (now text) b ⌝ }
     requires { ⌜ length (now text) < 2 ^ 59 ⌝ }
-    requires { ⌜ isLength (slice b e (now text)) ≡ true ⌝ }
-    ensures { λ r. ⌜ valueGiven r ≡ lengthOf (slice b e (now (text .entry))) ⌝ }
+    ensures { λ r. ⌜ LengthTaken (now (text .entry)) b r ⌝ }
 {
-    let minus = is_minus(text, b, e);
-    let d = read_decimal(text, past_sign(text, b, e), e);
-    let x = read_exponent(text, d.at, e);
-    scaled_by(minus, d.n, x.negative, x.size, d.behind)
+    let minus = is_minus(text, b);
+    let d = read_decimal(text, past_sign(text, b));
+    let x = read_exponent(text, d.at);
+    Taken {
+        value: scaled_by(minus, d.n, x.negative, x.size, d.behind),
+        at: x.at,
+    }
 }
 
 // Digits, with a point among or beside them or none.
-fn read_decimal(text: &[u8], from: usize, e: usize) -> Decimal
-    requires { ⌜ (from ≤ e) × (e ≤ length (now text)) ⌝ }
-    requires { ⌜ every isDigit (withoutPoint (beforeE (slice from e (now text)))) ≡ true ⌝ }
-    ensures { λ r. ⌜ DecimalRead (now (text .entry)) from e r ⌝ }
+fn read_decimal(text: &[u8], from: usize) -> Decimal
+    requires { ⌜ from ≤ length (now text) ⌝ }
+    ensures { λ r. ⌜ DecimalPast (now (text .entry)) from r ⌝ }
 {
-    let whole = read_digits(text, from, e, 0);
+    let whole = read_digits(text, from, 0);
     let at = whole.at;
     let n = whole.n;
-    if at < e {
+    if at < text.len() {
         if text[at] == 46 {
             let behind = at + 1;
-            let part = read_digits(text, behind, e, n);
+            let part = read_digits(text, behind, n);
             let end = part.at;
             return Decimal {
                 n: part.n,
@@ -78,43 +83,57 @@ fn read_decimal(text: &[u8], from: usize, e: usize) -> Decimal
 }
 
 // An exponent, or nothing.
-fn read_exponent(text: &[u8], at: usize, e: usize) -> Exponent
-    requires { ⌜ (at ≤ e) × (e ≤ length (now text)) ⌝ }
-    requires { ⌜ isExponent (slice at e (now text)) ≡ true ⌝ }
-    ensures { λ r. ⌜ ExponentRead (slice at e (now (text .entry))) r ⌝ }
+fn read_exponent(text: &[u8], at: usize) -> Exponent
+    requires { ⌜ at ≤ length (now text) ⌝ }
+    ensures { λ r. ⌜ ExponentPast (now (text .entry)) at r ⌝ }
 {
-    if at == e {
+    if !has_e(text, at) {
         return Exponent {
             negative: false,
             size: 0,
+            at,
         };
     }
     let from = at + 1;
-    let negative = is_minus(text, from, e);
-    let digits = read_digits(text, past_sign(text, from, e), e, 0);
+    let negative = is_minus(text, from);
+    let digits = read_digits(text, past_sign(text, from), 0);
     Exponent {
         negative,
         size: digits.n,
+        at: digits.at,
     }
 }
 
-// Whether a minus stands at from.
-fn is_minus(text: &[u8], from: usize, e: usize) -> bool
-    requires { ⌜ (from ≤ e) × (e ≤ length (now text)) ⌝ }
-    ensures { λ r. ⌜ r ≡ isMinus (slice from e (now (text .entry))) ⌝ }
+// Whether e or E stands at `at`.
+fn has_e(text: &[u8], at: usize) -> bool
+    ensures { λ r. ⌜ r ≡ hasE (now (text .entry)) at ⌝ }
 {
-    if from < e {
+    if at < text.len() {
+        let b = text[at];
+        if b == 101 {
+            return true;
+        }
+        return b == 69;
+    }
+    false
+}
+
+// Whether a minus stands at from.
+fn is_minus(text: &[u8], from: usize) -> bool
+    ensures { λ r. ⌜ MinusAt (now (text .entry)) from r ⌝ }
+{
+    if from < text.len() {
         return text[from] == 45;
     }
     false
 }
 
 // Past the sign at from, if one stands there.
-fn past_sign(text: &[u8], from: usize, e: usize) -> usize
-    requires { ⌜ (from ≤ e) × (e ≤ length (now text)) ⌝ }
-    ensures { λ r. ⌜ Unsigned (now (text .entry)) from e r ⌝ }
+fn past_sign(text: &[u8], from: usize) -> usize
+    requires { ⌜ from ≤ length (now text) ⌝ }
+    ensures { λ r. ⌜ SignPast (now (text .entry)) from r ⌝ }
 {
-    if from < e {
+    if from < text.len() {
         let b = text[from];
         if b == 45 {
             return from + 1;
@@ -127,13 +146,13 @@ fn past_sign(text: &[u8], from: usize, e: usize) -> usize
 }
 
 // The digits from `from` on, behind those of n.
-fn read_digits(text: &[u8], from: usize, e: usize, n: u64) -> Run
-    requires { ⌜ (from ≤ e) × (e ≤ length (now text)) ⌝ }
-    ensures { λ r. ⌜ Digits (now (text .entry)) from e n r ⌝ }
+fn read_digits(text: &[u8], from: usize, n: u64) -> Run
+    requires { ⌜ from ≤ length (now text) ⌝ }
+    ensures { λ r. ⌜ Digits (now (text .entry)) from (length (now (text .entry))) n r ⌝ }
 {
     let mut m = n;
     let mut i = from;
-    while i < e {
+    while i < text.len() {
         let b = wide(text[i]);
         if b < 48 {
             return Run { n: m, at: i };

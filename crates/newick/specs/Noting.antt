@@ -5,21 +5,23 @@
 --   isExact w           the length w is in the exact range
 --   noted i c n l ss    the words l with the lengths behind closing brackets noted in order, from place n on; i: whether the last node that
 --                       ended before ss is an inner one, noted just before place n
---   PastOther           past an opening bracket or a label
+--   isStop b            the byte b is a colon, a closing bracket, a comma or a quote
+--   Passed s i j        from i up to j stands nothing that is noted
+--   NextStop s i j      j is the first place from i on where such a byte stands
 --   MeasuredBehind      the length behind a colon
 --   LengthsNoted        all of them
 use Prim.Native.Nat.{ℕ, suc, _-_, _≤_, _<_}
 use mathlib.Core.Path.{_≡_}
-use mathlib.Core.Logic.{_⊎_}
-use mathlib.Core.Bool.{Bool, true, false}
+use mathlib.Core.Bool.{Bool, true, false, _||_}
 use mathlib.Core.List.{List, [], _∷_}
-use lib.ListN.{length, set}
-use Rattle.trees.specs.Plain.{if_then_else_, every}
-use Rattle.trees.specs.Text.{Symbol, openBracket, closeBracket, comma, colon, stray, token, symbols}
+use lib.Dec.{eqb}
+use lib.ListN.{length, getD, set}
+use Rattle.trees.specs.Plain.{if_then_else_, every, byte}
+use Rattle.trees.specs.Text.{apostrophe, Symbol, openBracket, closeBracket, comma, colon, stray, token, symbols}
 use Rattle.trees.specs.Length.{isLength}
 use Rattle.trees.specs.Value.{lengthOf}
 use Rattle.trees.specs.Lengths.{isGiven}
-use Rattle.text.specs.Read.{NoBlank, symbolsAt}
+use Rattle.text.specs.Read.{symbolsAt}
 use Rattle.doubles.specs.Stored.{allOnes}
 use Rattle.newick.specs.Words.{wordOf}
 use Rattle.newick.specs.declared.noting.Measured.{Measured}
@@ -67,12 +69,20 @@ noted i c n l (stray ∷ r) = noted i false n l r
 noted i false n l (token w ∷ r) = noted i false n l r
 noted i true n l (token w ∷ r) = noted i false n (if i then set l (n - 1) (wordOf (lengthOf w)) else l) r
 
--- the symbol from i up to j, where no blank stands
-pub record PastOther (s : List ℕ) (i j : ℕ) : Type 0 where
-  pub symbol : (symbolsAt s i ≡ openBracket ∷ symbolsAt s j) ⊎ ((w : List ℕ) × (symbolsAt s i ≡ token w ∷ symbolsAt s j))
-  pub past : i < j
+unfoldable pub isStop : ℕ → Bool
+isStop b = eqb b (byte ":") || (eqb b (byte ")") || (eqb b (byte ",") || eqb b apostrophe))
+
+-- brackets that open, blanks, and labels or the rest of one
+pub record Passed (s : List ℕ) (i j : ℕ) : Type 0 where
+  pub past : i ≤ j
   pub within : j ≤ length s
-  pub stop : NoBlank s j
+  pub fine : Fine false (symbolsAt s j)
+  pub words : (k : Bool) (n : ℕ) (l : List ℕ) → noted k false n l (symbolsAt s j) ≡ noted k false n l (symbolsAt s i)
+  pub lengths : lengthsIn false (symbolsAt s j) ≡ lengthsIn false (symbolsAt s i)
+
+pub record NextStop (s : List ℕ) (i j : ℕ) : Type 0 where
+  pub passed : Passed s i j
+  pub stop : j < length s → isStop (getD s j 0) ≡ true
 
 -- the length w from i up to j, and its word
 pub record MeasuredAt (s : List ℕ) (i j x : ℕ) : Type 0 where
@@ -82,7 +92,6 @@ pub record MeasuredAt (s : List ℕ) (i j x : ℕ) : Type 0 where
   pub word : x ≡ wordOf (lengthOf length-token)
   pub past : i < j
   pub within : j ≤ length s
-  pub stop : NoBlank s j
 
 unfoldable pub MeasuredBehind : List ℕ → ℕ → Measured → Type 0
 MeasuredBehind s i Outside = (w : List ℕ) × (r : List Symbol) × (symbolsAt s i ≡ token w ∷ r) × (isExact w ≡ false)

@@ -4,12 +4,12 @@ use lengths::Value;
 ghost use mathlib.Core.Path.{_≡_};
 ghost use mathlib.Core.Bool.{true, false};
 ghost use Prim.Native.Nat.{_-_, _≤_, _<_};
-ghost use lib.ListN.{length, getD, set};
+ghost use lib.ListN.{length, set};
 ghost use Rattle.trees.specs.Plain.{if_then_else_};
 ghost use Rattle.trees.specs.Text.{symbols};
 ghost use Rattle.trees.specs.Held.{mostText};
-ghost use Rattle.text.specs.Read.{NoBlank, symbolsAt};
-ghost use Rattle.newick.specs.Noting.{Fine, PastOther, MeasuredBehind, LengthsNoted};
+ghost use Rattle.text.specs.Read.{symbolsAt};
+ghost use Rattle.newick.specs.Noting.{Fine, isStop as stopsAt, NextStop, MeasuredBehind, LengthsNoted};
 
 // The words of 64 lengths: `mostLengths` of specs/Words.antt.
 pub(crate) const MOST_LENGTHS: usize = 64;
@@ -31,7 +31,7 @@ pub(crate) fn note_lengths(text: &[u8], words: &mut [u64; MOST_LENGTHS]) -> bool
 {
     let mut inner = false;
     let mut n = 0;
-    let mut at = text::skip_blanks(text, 0);
+    let mut at = next_stop(text, 0);
     while at < text.len() {
         let b = text[at];
         if b == b':' {
@@ -40,24 +40,57 @@ pub(crate) fn note_lengths(text: &[u8], words: &mut [u64; MOST_LENGTHS]) -> bool
                 return false;
             };
             note_last(words, inner, n, x);
-            at = e;
+            at = next_stop(text, e);
             continue;
         }
         if b == b')' {
             put(words, n, NO_LENGTH);
             n += 1;
             inner = true;
-            at = text::skip_blanks(text, at + 1);
+            at = next_stop(text, at + 1);
             continue;
         }
         if b == b',' {
             inner = false;
-            at = text::skip_blanks(text, at + 1);
+            at = next_stop(text, at + 1);
             continue;
         }
-        at = past_other(text, at);
+        at = next_stop(text, text::label_end(text, at));
     }
     true
+}
+
+// The first place from `from` on where a colon, a closing bracket, a comma or a quote stands. What is passed byte by byte has no length:
+// opening brackets, blanks, and labels without quotes.
+fn next_stop(text: &[u8], from: usize) -> usize
+    requires { ⌜ from ≤ length (now text) ⌝ }
+    requires { ⌜ Fine false (symbolsAt (now text) from) ⌝ }
+    ensures { λ r. ⌜ NextStop (now (text .entry)) from r ⌝ }
+{
+    let mut at = from;
+    while at < text.len() {
+        if is_stop(text[at]) {
+            return at;
+        }
+        at += 1;
+    }
+    at
+}
+
+// Whether b is a colon, a closing bracket, a comma or a quote.
+fn is_stop(b: u8) -> bool
+    ensures { λ r. ⌜ r ≡ stopsAt b ⌝ }
+{
+    if b == b':' {
+        return true;
+    }
+    if b == b')' {
+        return true;
+    }
+    if b == b',' {
+        return true;
+    }
+    b == b'\''
 }
 
 // The length behind a colon.
@@ -67,25 +100,13 @@ fn length_behind(text: &[u8], at: usize) -> Measured
     ensures { λ r. ⌜ MeasuredBehind (now (text .entry)) at r ⌝ }
 {
     let b = text::skip_blanks(text, at);
-    let e = text::label_end(text, b);
-    let v = lengths::length_of(text, b, e);
+    let t = lengths::length_at(text, b);
+    let e = t.at;
+    let v = t.value;
     match v {
         Value::Outside => Measured::Outside,
-        Value::Inside(x) => Measured::Inside(text::skip_blanks(text, e), f64::to_bits(x)),
+        Value::Inside(x) => Measured::Inside(e, f64::to_bits(x)),
     }
-}
-
-// Past an opening bracket or a label, and the blanks behind it.
-fn past_other(text: &[u8], at: usize) -> usize
-    requires { ⌜ (at < length (now text)) × NoBlank (now text) at × Fine false (symbolsAt (now text) at) ⌝ }
-    requires { ⌜ (getD (now text) at 0 ≡ 58 → ⊥) × (getD (now text) at 0 ≡ 41 → ⊥) × (getD (now text) at 0 ≡ 44 → ⊥) ⌝ }
-    ensures { λ r. ⌜ PastOther (now (text .entry)) at r ⌝ }
-{
-    let e = text::label_end(text, at);
-    if e == at {
-        return text::skip_blanks(text, at + 1);
-    }
-    text::skip_blanks(text, e)
 }
 
 // Notes x as the last of n words, if the node that ended is an inner one.

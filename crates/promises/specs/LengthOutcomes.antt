@@ -1,17 +1,20 @@
 -- The promises of the functions on branch lengths leave one outcome. Each theorem is over the function's own `Post`. Assumes nothing.
 --
 --   doubles     put-length-once, get-length-once, holds-length-once
---   lengths     length-of-once
+--   lengths     length-at-once
 --   weighing    weighing-weighted-once, first-sum-once, add-sum-once
 --   rows        length-in-once
-use mathlib.Core.Path.{_≡_, refl, sym, ap, subst}
+use Prim.Native.Nat.{ℕ}
+use mathlib.Core.Path.{_≡_, refl, sym, ap, ap₂, _∙_, subst}
+use mathlib.Core.List.{List}
 use mathlib.Core.Option.{Option, none, some}
 use lib.Ieee.{Float}
+use lib.Seq.{slice}
 use denote.Ref.{now}
 use Rattle.doubles.proofs.put_length.Reads as put-length
 use Rattle.doubles.proofs.get_length.Reads as get-length
 use Rattle.doubles.proofs.holds_length.Reads as holds-length
-use Rattle.lengths.proofs.length_of.Reads as length-of
+use Rattle.lengths.proofs.length_at.Reads as length-at
 use Rattle.weighing.proofs.weighted.Reads as weighted
 use Rattle.weighing.proofs.first_sum.Reads as first-sum
 use Rattle.weighing.proofs.add_sum.Reads as add-sum
@@ -19,9 +22,13 @@ use Rattle.rows.proofs.length_in.Reads as length-in
 use Rattle.doubles.specs.declared.Length.{Length}
 use Rattle.doubles.specs.declared.Length.the-variants.{Absent, Given}
 use Rattle.doubles.specs.Stored.{branchGiven}
+use Rattle.trees.specs.Value.{lengthOf}
+use Rattle.text.specs.OnceLaws.{run-once}
 use Rattle.lengths.specs.declared.Value.{Value}
 use Rattle.lengths.specs.declared.Value.the-variants.{Outside, Inside}
+use Rattle.lengths.specs.declared.Taken.{Taken}
 use Rattle.lengths.specs.Answer.{valueGiven}
+use Rattle.lengths.specs.Read.{LengthTaken}
 use Rattle.promises.specs.Once.{Once, AnswerOnce, arg1}
 use Rattle.promises.specs.Outcomes.{sums-one, both}
 
@@ -64,8 +71,14 @@ holds-length-once k x q r y z a b = both a b
 
 -- ---- lengths
 
-pub length-of-once : AnswerOnce length-of.Post
-length-of-once k x q r y z a b = value-one q r (both a b)
+-- a run of label bytes has one end
+taken-one : (s : List ℕ) (b : ℕ) (q r : Taken) → LengthTaken s b q → LengthTaken s b r → q ≡ r
+taken-one s b q r x y =
+    let e : q .at ≡ r .at = run-once s b (q .at) (r .at) (x .run) (y .run) in
+    ap₂ (λ (v : Value) (n : ℕ). record { value = v; at = n }) (value-one (q .value) (r .value) (x .value ∙ ap (λ (n : ℕ). lengthOf (slice b n s)) e ∙ sym (y .value))) e
+
+pub length-at-once : AnswerOnce length-at.Post
+length-at-once k x q r y z a b = taken-one _ _ q r a b
 
 -- ---- weighing
 

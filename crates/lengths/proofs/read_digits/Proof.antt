@@ -1,16 +1,17 @@
 -- `lengths::read_digits` meets its contract. Assumes nothing.
 use Prim.Native.Nat.{_-_}
 use mathlib.Core.Path.{refl}
+use lib.ListN.{length}
 use borrow.Author.Needs.{needs}
 use Rattle.lengths.specs.ReadLaws.{Got, got-none, got-more, got-stop, got-all, below-digit, above-digit}
 use Rattle.lengths.proofs.read_digits.Statement.{statement}
 use Rattle.lengths.proofs.read_digits.Tie as tie
 
 abbrev Inv-loop : tie.InvT-loop
-Inv-loop text from e n m₀ i₀ m i = Got text from e n m i
+Inv-loop text from n m₀ i₀ m i = Got text from (length text) n m i
 
 abbrev μ-loop : tie.MeasureT-loop
-μ-loop text from e n m₀ i₀ m i = e - i
+μ-loop text from n m₀ i₀ m i = length text - i
 
 loop-holds : tie.Need-loop-holds Inv-loop μ-loop
 loop-holds c = got-none _ _ _ _ (search needs)
