@@ -4,6 +4,7 @@
 //! written since they were peeked. An answer that depends on others is `unmodelled`.
 
 use crate::collection::{Collection, Fed};
+use crate::layout::{head_number, SPLITS_HELD, TREES_HELD};
 use crate::memory::{Memory, MOST_LENT};
 use crate::opening::{open, Numbers};
 use crate::question::{refused, Question, Writes};
@@ -231,6 +232,7 @@ fn written(collection: &Collection, writes: Writes, accepted: bool) -> Vec<Range
         (Writes::Lane(_), true) => vec![0..size],
         (Writes::Lane(lane), false) if lane < numbers.lanes => vec![numbers.lane(lane as usize)],
         (Writes::NoLane, true) => vec![0..lanes.start, lanes.end..size],
+        (Writes::Trees, _) => vec![head_number(TREES_HELD).range(), head_number(SPLITS_HELD).range(), lanes.end..size],
         _ => Vec::new(),
     }
 }

@@ -189,6 +189,19 @@ impl Collection {
         self.trees.push(tree);
     }
 
+    // Withdrawing
+
+    /// "Trees after it move down by one number. A split whose count falls to 0 leaves the table": all is as if the trees
+    /// that are left were the accepted ones.
+    pub fn withdraw(&mut self, tree: u64) -> Result<(), u32> {
+        self.tree_numbered(tree)?;
+        let mut left = std::mem::take(&mut self.trees);
+        left.remove(tree as usize);
+        self.counts.clear();
+        left.into_iter().for_each(|tree| self.record(tree));
+        Ok(())
+    }
+
     // Questions
 
     pub fn opening(&self) -> &Opening {

@@ -20,7 +20,7 @@ impl<'a> Run<'a> {
         calls.into_iter().zip(answers).collect()
     }
 
-    /// The verdicts and closings in their order, and all answers behind the last `room`; none if there is none of either.
+    /// The verdicts, closings and withdrawals in their order, and all answers behind the last `room`; none if there is none of either.
     fn outcome(&self) -> Vec<String> {
         let pairs = self.pairs();
         let last = pairs.iter().rposition(|(call, _)| kind(call) == b"room");
@@ -55,12 +55,12 @@ fn verdicts_of((call, answer): &Pair) -> Vec<String> {
         (b"feed", ["refused", _, refusal]) => vec![format!("-{refusal}")],
         (b"batch", ["batch", verdicts @ .., "taken", _]) => verdicts.iter().map(|word| word.to_string()).collect(),
         (b"nexus", ["nexus", verdicts @ ..]) => verdicts.iter().map(|word| word.to_string()).collect(),
-        (b"feed" | b"batch" | b"nexus" | b"close", _) => vec![format!("{} {answer}", text(kind(call)))],
+        (b"feed" | b"batch" | b"nexus" | b"close" | b"withdraw", _) => vec![format!("{} {answer}", text(kind(call)))],
         _ => Vec::new(),
     }
 }
 
-/// Whether both runs came to the same verdicts, closings and last answers.
+/// Whether both runs came to the same verdicts, closings, withdrawals and last answers.
 pub fn same_verdicts(a: &Run, b: &Run) -> bool {
     same_lines(&a.outcome(), &b.outcome())
 }

@@ -61,12 +61,11 @@ impl Lent {
         let number = *random.pick(&[1, 1, 1, 2, 3]);
         let damages: Vec<Damage> = (0..number).flat_map(|_| self.damage(random)).collect();
         let mut lines: Vec<String> = damages.iter().map(Damage::line).collect();
-        let writes = random.one_in(4);
+        let writes = random.one_in(3);
         if writes {
-            let piece = *random.pick(&[&b"(A,B,C,D,E);"[..], b"x';(A,B,C);", b"'A;';", b"'';"]);
-            lines.extend(every_call(piece));
+            lines.extend(calls_that_write(random));
         } else {
-            lines.extend((0..random.between(1, 3)).map(|_| random.pick(&QUESTIONS).to_string()));
+            lines.extend(some_questions(random));
         }
         if random.one_in(3) {
             lines.push(format!("peek 0 {}", self.bytes.len()));
@@ -195,6 +194,21 @@ impl Lent {
         let long = self.parts.lists.get(tree).map_or(0, Vec::len);
         numbers.tree_row(tree, some_of(random, long, MOST_LISTED as usize + 1))
     }
+}
+
+/// Every call, or withdrawals and questions on what they leave.
+fn calls_that_write(random: &mut Random) -> Vec<String> {
+    if random.one_in(2) {
+        let piece = *random.pick(&[&b"(A,B,C,D,E);"[..], b"x';(A,B,C);", b"'A;';", b"'';"]);
+        return every_call(piece);
+    }
+    let mut lines: Vec<String> = (0..random.between(1, 3)).map(|_| format!("withdraw {}", random.below(4))).collect();
+    lines.extend(some_questions(random));
+    lines
+}
+
+fn some_questions(random: &mut Random) -> Vec<String> {
+    (0..random.between(1, 3)).map(|_| random.pick(&QUESTIONS).to_string()).collect()
 }
 
 const KINDS: usize = 18;

@@ -10,7 +10,6 @@ use crate::words::hex;
 
 /// 15 and 16 before 4; 4 in a list one verdict too short; the verdicts 6 to 10 and 17, alone and together.
 pub fn files(maker: &mut Maker) {
-    let last = maker.numbers.lanes - 1;
     begin_lanes(maker);
     for room in ["room 0", "room 1", "room -"] {
         maker.ask(room);
@@ -28,18 +27,22 @@ pub fn files(maker: &mut Maker) {
     }
     nexus_of(maker, &[]);
     maker.ask("room -");
-    // A lane that was touched would come to another verdict.
-    let rest = written_names(&maker.names, b',');
-    maker.feed(0, &[&rest[..], b");"].concat());
-    maker.close(last);
-    maker.peek();
+    end_lanes(maker);
 }
 
 /// The last lane ran over in open quotes, if it is not the first, which holds the front of a text.
-fn begin_lanes(maker: &mut Maker) {
+pub fn begin_lanes(maker: &mut Maker) {
     maker.feed(maker.numbers.lanes - 1, &[&vec![b' '; MOST_BYTES], &b"'"[..]].concat());
     maker.close(0);
     maker.feed(0, b"(");
+    maker.peek();
+}
+
+/// A lane that was touched would come to another verdict.
+pub fn end_lanes(maker: &mut Maker) {
+    let rest = written_names(&maker.names, b',');
+    maker.feed(0, &[&rest[..], b");"].concat());
+    maker.close(maker.numbers.lanes - 1);
     maker.peek();
 }
 

@@ -143,6 +143,9 @@ fn by_chance(mut random: Random, files: usize) -> Vec<u8> {
         let file = any_file(&mut maker.random, &maker.names, &pool);
         maker.nexus(&file);
         maker.peek();
+        if maker.random.one_in(5) {
+            maker.withdraw_some();
+        }
     }
     (0..numbers.lanes).for_each(|lane| maker.close(lane));
     maker.questions();

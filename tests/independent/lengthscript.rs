@@ -1,6 +1,6 @@
 //! Branch lengths: each length by hand, at each place of a text; two-child roots; sums in orders in which the rounding
-//! shows; lengths cut at each byte, at the limit of a text, and in NEXUS files; then collections by chance. Lengths are
-//! kept or not.
+//! shows, and of the trees that withdrawals leave; lengths cut at each byte, at the limit of a text, and in NEXUS files;
+//! then collections by chance. Lengths are kept or not.
 
 use crate::collection::Fed;
 use crate::files::{can_stand, file_of};
@@ -128,7 +128,8 @@ const ADDED: [[&str; 6]; 5] = [
     ["5", "-5", "0", "-0", "1e-10", "-1e-10"],
 ];
 
-/// The same lengths over the trees, in several orders; every tree has the split.
+/// The same lengths over the trees, in several orders; every tree has the split. Then one after another is withdrawn, so
+/// that a sum from which a length is taken away again differs from one added afresh.
 fn orders_of_trees(mut random: Random) -> Vec<u8> {
     let mut out = Vec::new();
     for added in ADDED.into_iter().cycle().take(4 * ADDED.len()) {
@@ -138,6 +139,13 @@ fn orders_of_trees(mut random: Random) -> Vec<u8> {
         for length in lengths {
             maker.weighed(&format!("((A,B):{length},C,D,E)"));
             maker.ask("lengths 0");
+        }
+        maker.peek();
+        for left in (1..=lengths.len()).rev() {
+            let tree = maker.random.between(1, left);
+            maker.withdraw(tree);
+            maker.ask("lengths 0");
+            maker.ask("weighted 0 1");
         }
         maker.peek();
         out.extend(maker.script());
@@ -259,6 +267,9 @@ fn by_chance(mut random: Random) -> Vec<u8> {
     let mut maker = Maker::open(random, names, numbers, 1);
     for _ in 0..10 {
         feed_some(&mut maker, &pool);
+        if maker.random.one_in(3) {
+            maker.withdraw_some();
+        }
     }
     maker.peek();
     maker.questions();

@@ -203,15 +203,18 @@ fn taxa(random: &mut Random) -> Vec<u8> {
 
 // Rooms
 
-/// The last free tree, and one past it.
+/// The last free tree, and one past it; the same again where some are withdrawn.
 fn small_tree_rooms(mut random: Random) -> Vec<u8> {
     let room = random.between(1, 4) as u64;
     let mut maker = opened(random, 7, 1, room, 60);
-    for _ in 0..room + 2 {
-        let text = bare_text(&mut maker.random, &maker.names, 3);
-        maker.text(&text);
-        maker.ask("matrix");
-        maker.peek();
+    for withdrawn in 0..=room {
+        (0..withdrawn).for_each(|_| maker.withdraw_some());
+        for _ in 0..room + 2 {
+            let text = bare_text(&mut maker.random, &maker.names, 3);
+            maker.text(&text);
+            maker.ask("matrix");
+            maker.peek();
+        }
     }
     maker.questions();
     maker.script()
@@ -221,6 +224,8 @@ fn small_split_rooms(mut random: Random) -> Vec<u8> {
     let room = random.between(1, 30) as u64;
     let mut maker = opened(random, 8, 1, 1000, room);
     fill_split_room(&mut maker);
+    maker.peek();
+    withdraw_and_fill(&mut maker, 6);
     maker.peek();
     maker.questions();
     maker.script()
@@ -247,8 +252,15 @@ fn fill_split_room(maker: &mut Maker) {
     maker.feed(0, &text);
 }
 
+/// So many trees withdrawn, and the split room filled to the last again.
+fn withdraw_and_fill(maker: &mut Maker, trees: usize) {
+    (0..trees).for_each(|_| maker.withdraw_some());
+    maker.ask("count");
+    fill_split_room(maker);
+}
+
 /// Splits of one tree, at most so many of them new.
-fn some_new_splits(maker: &mut Maker, most: usize) -> Masks {
+pub fn some_new_splits(maker: &mut Maker, most: usize) -> Masks {
     let text = bare_text(&mut maker.random, &maker.names, 2);
     let all = judge(&maker.names, &text).expect("a tree of all names");
     let is_known = |mask: &u64| maker.held.counts().contains_key(mask);
@@ -300,6 +312,16 @@ fn largest_tree_room(random: Random) -> Vec<u8> {
     let text = written(&maker.names, &pool[0]);
     maker.feed(0, &text);
     maker.peek();
+    for tree in [0, 1022, 511] {
+        maker.withdraw(tree);
+        maker.ask("trees");
+        maker.ask("count");
+        maker.feed(0, &text);
+    }
+    maker.feed(0, &text);
+    maker.withdraw(1023);
+    maker.peek();
+    maker.feed(0, &text);
     for line in
         ["trees", "count", "splits", "matrix", "strict", "majority", "both", "collisions", "tree 1023", "write 1023"]
     {
@@ -314,12 +336,14 @@ fn most_lengths(mut random: Random) -> Vec<u8> {
     let numbers = Numbers { taxa: 64, lanes: 8, tree_room: 1024, split_room: 4096, places: 8192, lengths: true };
     let mut maker = Maker::open(random, names, numbers, 3);
     let pool: Vec<Masks> = (0..12).map(|_| some_new_splits(&mut maker, 61)).collect();
-    while maker.held.number_of_trees() < 1024 {
-        let splits = thinned(&mut maker, &pool);
-        let text = written(&maker.names, &splits);
-        let text = with_lengths(&mut maker.random, &text, &ADDENDS);
-        maker.batch(3, &text);
+    fill_with_lengths(&mut maker, &pool);
+    for tree in [1023, 0, 511, 1024, 1020] {
+        maker.withdraw(tree);
+        maker.ask("weighted 0 1019");
+        maker.ask("lengths 20");
     }
+    maker.peek();
+    fill_with_lengths(&mut maker, &pool);
     for pair in ["0 1023", "1023 511", "1022 1023", "7 7", "1024 0"] {
         maker.ask(format!("weighted {pair}"));
     }
@@ -329,8 +353,17 @@ fn most_lengths(mut random: Random) -> Vec<u8> {
     maker.script()
 }
 
+fn fill_with_lengths(maker: &mut Maker, pool: &[Masks]) {
+    while maker.held.number_of_trees() < 1024 {
+        let splits = thinned(maker, pool);
+        let text = written(&maker.names, &splits);
+        let text = with_lengths(&mut maker.random, &text, &ADDENDS);
+        maker.batch(3, &text);
+    }
+}
+
 /// One of the pool without some of its splits.
-fn thinned(maker: &mut Maker, pool: &[Masks]) -> Masks {
+pub fn thinned(maker: &mut Maker, pool: &[Masks]) -> Masks {
     let splits = maker.random.pick(pool).clone();
     let often = *maker.random.pick(&[2, 10, 100]);
     splits.into_iter().filter(|_| !maker.random.one_in(often)).collect()
@@ -340,6 +373,8 @@ fn thinned(maker: &mut Maker, pool: &[Masks]) -> Masks {
 fn largest_split_room(random: Random) -> Vec<u8> {
     let mut maker = opened(random, 64, 1, 200, 4096);
     fill_split_room(&mut maker);
+    maker.peek();
+    withdraw_and_fill(&mut maker, 12);
     maker.peek();
     maker.questions();
     maker.script()

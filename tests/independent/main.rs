@@ -1,5 +1,5 @@
 //! An independent calculation of every answer, to compare the proved programs with. It is written from document 01,
-//! entries 2026-01 to 2026-03 of document 02 and the settled points, and shares nothing with the code that it is compared with.
+//! entries 2026-01 to 2026-03 and 2026-05 of document 02 and the settled points, and shares nothing with the code that it is compared with.
 
 mod big;
 mod branches;
@@ -54,6 +54,9 @@ mod text;
 mod verdict;
 mod weights;
 mod whole;
+mod withdrawals;
+mod withdrawcheck;
+mod withdrawrefusals;
 mod words;
 
 use compare::Run;
@@ -94,6 +97,7 @@ fn maker(word: &str) -> Option<Make> {
         "nexus" => filescript::nexus,
         "quotes" => quotes::quotes,
         "lengths" => lengthscript::lengths,
+        "withdrawals" => withdrawals::withdrawals,
         "limits" => limits::limits,
         "largest" => limits::largest,
         "oddities" => oddities::oddities,
@@ -146,7 +150,7 @@ fn usage() {
     eprintln!("nexus-texts | nexus-calls NAMES FILE | nexus-damages SEED COUNT NAMES FILE");
     eprintln!("GENERATOR SEED COUNT | damaged SEED COUNT SCRIPT ANSWERS, a generator being");
     eprintln!("texts | sheet | calls | mixed | whole | batched | filed | zeros | refusals | stores | made | nexus");
-    eprintln!("quotes | lengths | limits | largest | oddities");
+    eprintln!("quotes | lengths | withdrawals | limits | largest | oddities");
     std::process::exit(2);
 }
 

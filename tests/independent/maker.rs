@@ -84,6 +84,19 @@ impl Maker {
         let _ = self.held.close(lane);
     }
 
+    pub fn withdraw(&mut self, tree: usize) {
+        self.ask(format!("withdraw {tree}"));
+        let _ = self.held.withdraw(tree as u64);
+    }
+
+    /// The first tree, the last, the middle one or any, if there is one.
+    pub fn withdraw_some(&mut self) {
+        let trees = self.held.number_of_trees();
+        let any = self.random.below(trees.max(1));
+        let tree = *self.random.pick(&[0, trees.saturating_sub(1), trees / 2, any]);
+        self.withdraw(tree);
+    }
+
     /// Every question, with every tree and with splits from the first to one past the last, behind a lifted limit.
     pub fn questions(&mut self) {
         for line in ["room -", "trees", "count", "splits", "matrix", "strict", "majority", "both", "collisions"] {
@@ -108,6 +121,7 @@ pub fn every_call(piece: &[u8]) -> Vec<String> {
     let mut calls: Vec<String> = QUESTIONS.iter().map(|line| line.to_string()).collect();
     calls.extend([format!("feed 0 {}", hex(piece)), "close 0".to_string(), format!("batch 0 {}", hex(piece))]);
     calls.push(format!("nexus {}", hex(&[b"#NEXUS BEGIN TREES; TREE t=", piece, b"END;"].concat())));
+    calls.push("withdraw 0".to_string());
     calls
 }
 

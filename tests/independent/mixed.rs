@@ -1,5 +1,5 @@
 //! The same texts five ways: cut anywhere and mixed over 8 lanes; whole, in the order of their semicolons; in
-//! batches; in NEXUS files; and cut and mixed again with one place and all constants 0.
+//! batches; in NEXUS files; and cut and mixed again with one place and all constants 0. Withdrawals stand in their places.
 
 use crate::files::{can_stand, file_of};
 use crate::generator::{first_constants, second_constants, some_names, some_places, some_shapes, some_texts};
@@ -19,6 +19,7 @@ enum Step {
     /// A piece for a lane; it may go on behind a semicolon, and the rest comes again.
     Piece(usize, Vec<u8>),
     Close(usize),
+    Withdraw(usize),
     /// A question on the way, for the ways that cut alike.
     Ask(String),
     Peek,
@@ -85,11 +86,18 @@ fn some_steps(random: &mut Random, count: usize, text: impl Fn(&mut Random) -> V
         steps.push(match random.below(100) {
             0..=2 => waiting[lane].close(lane),
             3..=14 => Step::Ask(some_question(random)),
-            15 if random.one_in(4) => Step::Peek,
+            15..=19 => Step::Withdraw(some_tree(random)),
+            20 if random.one_in(4) => Step::Peek,
             _ => Step::Piece(lane, waiting[lane].some_piece(random, &text)),
         });
     }
     steps
+}
+
+/// Mostly one that there is.
+fn some_tree(random: &mut Random) -> usize {
+    let (low, high) = (random.below(4), random.below(60));
+    *random.pick(&[0, low, low, high, high, 1024])
 }
 
 /// What is still to be fed to a lane.
@@ -100,7 +108,8 @@ struct Waiting {
     fed: Vec<u8>,
 }
 
-fn some_question(random: &mut Random) -> String {
+/// A question about the first trees and splits.
+pub fn some_question(random: &mut Random) -> String {
     let (a, b) = (random.below(6), random.below(6));
     let lines = [
         "trees".to_string(),
@@ -163,6 +172,7 @@ fn cut(plan: &Plan, zeros: bool) -> Vec<u8> {
         match step {
             Step::Piece(lane, piece) => drop(maker.feed(*lane as u64, piece)),
             Step::Close(lane) => maker.close(*lane as u64),
+            Step::Withdraw(tree) => maker.withdraw(*tree),
             Step::Ask(line) => maker.ask(line),
             Step::Peek => maker.peek(),
         }
@@ -171,10 +181,12 @@ fn cut(plan: &Plan, zeros: bool) -> Vec<u8> {
     maker.script()
 }
 
-/// What the steps come to in whole texts: one with its semicolon, or a closing with what the lane then held.
+/// What the steps come to in whole texts: one with its semicolon, a closing with what the lane then held, or a
+/// withdrawal.
 enum Whole {
     Text(usize, Vec<u8>),
     Closing(usize, Vec<u8>),
+    Withdrawal(usize),
 }
 
 fn whole_texts(plan: &Plan) -> Vec<Whole> {
@@ -187,6 +199,7 @@ fn whole_texts(plan: &Plan) -> Vec<Whole> {
                 out.extend(text.map(|text| Whole::Text(*lane, text)));
             }
             Step::Close(lane) => out.push(Whole::Closing(*lane, std::mem::take(&mut held[*lane]))),
+            Step::Withdraw(tree) => out.push(Whole::Withdrawal(*tree)),
             Step::Ask(_) | Step::Peek => (),
         }
     }
@@ -202,6 +215,7 @@ fn whole(plan: &Plan) -> Vec<u8> {
                 maker.feed(lane as u64, &rest);
                 maker.close(lane as u64);
             }
+            Whole::Withdrawal(tree) => maker.withdraw(tree),
         }
     }
     maker.questions();
@@ -213,20 +227,30 @@ fn batched(plan: &Plan) -> Vec<u8> {
     let mut maker = plan.opened();
     let mut texts: Vec<Vec<u8>> = Vec::new();
     for text in whole_texts(plan) {
-        let closing = matches!(text, Whole::Closing(..));
-        let (Whole::Text(_, bytes) | Whole::Closing(_, bytes)) = text;
-        texts.push(bytes);
-        if closing || texts.len() == MOST_IN_BATCH {
-            maker.batch(0, &texts.concat());
-            texts.clear();
+        match text {
+            Whole::Text(_, text) => texts.push(text),
+            Whole::Closing(_, rest) => {
+                texts.push(rest);
+                batch(&mut maker, &mut texts);
+                maker.close(0);
+            }
+            Whole::Withdrawal(tree) => {
+                batch(&mut maker, &mut texts);
+                maker.withdraw(tree);
+            }
         }
-        if closing {
-            maker.close(0);
+        if texts.len() == MOST_IN_BATCH {
+            batch(&mut maker, &mut texts);
         }
     }
-    maker.batch(0, &texts.concat());
+    batch(&mut maker, &mut texts);
     maker.questions();
     maker.script()
+}
+
+fn batch(maker: &mut Maker, texts: &mut Vec<Vec<u8>>) {
+    maker.batch(0, &texts.concat());
+    texts.clear();
 }
 
 /// In files while the lanes hold what they are closed with; a text that cannot stand in a file is fed to its lane.
@@ -244,6 +268,10 @@ fn filed(plan: &Plan, mut random: Random) -> Vec<u8> {
                 maker.feed(lane as u64, &rest);
                 file(&mut maker, &mut random, &mut texts);
                 maker.close(lane as u64);
+            }
+            Whole::Withdrawal(tree) => {
+                file(&mut maker, &mut random, &mut texts);
+                maker.withdraw(tree);
             }
         }
         if texts.len() == MOST_IN_FILE {

@@ -5,7 +5,7 @@ use crate::random::Random;
 use crate::words::hex;
 
 /// A line of every call that is one once something is opened.
-const GOOD: [&str; 29] = [
+const GOOD: [&str; 30] = [
     "size 4 1 1 1 1",
     "size 4 1 1 1 1 lengths",
     "open 4 1 1 1 1 41204220432044 0,0,0,0 0,0,0,0 lengths",
@@ -13,6 +13,7 @@ const GOOD: [&str; 29] = [
     "feed 0 28",
     "feed 0 -",
     "close 0",
+    "withdraw 0",
     "batch 0 3b",
     "nexus -",
     "nexus 234e4558555320424547494e2054524545533b205452454520743d28412c422c432c44293b20454e443b",
@@ -37,7 +38,7 @@ const GOOD: [&str; 29] = [
     "poke 8866 00",
 ];
 
-const OTHERS: [&str; 56] = [
+const OTHERS: [&str; 60] = [
     "",
     " ",
     "  ",
@@ -89,6 +90,10 @@ const OTHERS: [&str; 56] = [
     "weighted 18446744073709551615 18446744073709551616",
     "lengths 18446744073709551615",
     "lengths 18446744073709551616",
+    "withdraw 007",
+    "withdraw 18446744073709551615",
+    "withdraw 18446744073709551616",
+    "withdraw 0 lengths",
     "feed 0 --",
     "nexus",
     "nexus - -",

@@ -7,6 +7,7 @@ use crate::words::{bytes, number};
 
 pub enum Question {
     Close(u64),
+    Withdraw(u64),
     Batch(u64, Vec<u8>),
     Nexus(Vec<u8>),
     Trees,
@@ -30,6 +31,7 @@ impl Question {
     pub fn of(words: &[&[u8]]) -> Option<Question> {
         Some(match words {
             [b"close", lane] => Question::Close(number(lane)?),
+            [b"withdraw", t] => Question::Withdraw(number(t)?),
             [b"batch", lane, piece] => Question::Batch(number(lane)?, bytes(piece)?),
             [b"nexus", file] => Question::Nexus(bytes(file)?),
             [b"trees"] => Question::Trees,
@@ -55,6 +57,7 @@ impl Question {
     pub fn ask(&self, collection: &mut Collection, room: usize) -> Result<Vec<u8>, u32> {
         Ok(match self {
             Question::Close(lane) => collection.close(*lane).map(|()| b"done".to_vec())?,
+            Question::Withdraw(t) => collection.withdraw(*t).map(|()| b"done".to_vec())?,
             Question::Batch(lane, piece) => batch_line(&collection.batch(*lane, piece, room)?),
             Question::Nexus(file) => nexus_line(&collection.nexus(file, room)?),
             Question::Trees => number_line(collection.number_of_trees() as u64),
@@ -75,12 +78,13 @@ impl Question {
         })
     }
 
-    /// What the call may write; a refused batch or file writes nothing, a refused closing empties its lane.
+    /// What the call may write; a refused batch, file or withdrawal writes nothing, a refused closing empties its lane.
     pub fn writes(&self, done: bool) -> Writes {
         match self {
             Question::Close(lane) => Writes::Lane(*lane),
             Question::Batch(lane, _) if done => Writes::Lane(*lane),
             Question::Nexus(_) if done => Writes::NoLane,
+            Question::Withdraw(_) if done => Writes::Trees,
             _ => Writes::Nothing,
         }
     }
@@ -93,6 +97,8 @@ pub enum Writes {
     Lane(u64),
     /// With an accepted tree all of the store but the lanes.
     NoLane,
+    /// How many trees and splits there are, and all behind the lanes.
+    Trees,
 }
 
 impl Fed {

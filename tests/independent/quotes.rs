@@ -233,6 +233,9 @@ fn by_chance(mut random: Random) -> Vec<u8> {
         let cut = maker.random.between(0, text.len());
         maker.feed(0, &text[..cut]);
         maker.feed(1, &text);
+        if maker.random.one_in(3) {
+            maker.withdraw_some();
+        }
         maker.feed(0, &text[cut..]);
         let lane = maker.random.below(3) as u64;
         let name = maker.random.pick(&maker.names).clone();

@@ -12,10 +12,11 @@ use crate::maker::{every_call, open_line, size_line, Maker};
 use crate::opening::Numbers;
 use crate::random::Random;
 use crate::verdict::MOST_BYTES;
+use crate::withdrawrefusals::{withdrawals, withdrawals_at_full_rooms};
 use crate::words::hex;
 
 /// Numbers that are past the range of any lane, tree or split.
-const FAR: [u64; 5] = [1025, 4097, 1 << 32, (1 << 32) + 1, u64::MAX];
+pub const FAR: [u64; 5] = [1025, 4097, 1 << 32, (1 << 32) + 1, u64::MAX];
 
 /// A script of so many rounds, each over names and numbers of its own.
 pub fn refusals(seed: u64, count: usize) -> Vec<u8> {
@@ -35,6 +36,7 @@ fn round(mut random: Random, lengths: bool) -> Vec<u8> {
     lanes_and_texts(&mut maker);
     files(&mut maker);
     numbers_and_rooms(&mut maker);
+    withdrawals(&mut maker);
     full_rooms(&mut maker);
     openings(&mut maker);
     not_whole(&mut maker);
@@ -58,7 +60,7 @@ impl Maker {
         [&b"("[..], &written_names(leaves, b','), b")"].concat()
     }
 
-    fn watched_text(&mut self, text: &[u8]) {
+    pub fn watched_text(&mut self, text: &[u8]) {
         self.text(text);
         self.peek();
     }
@@ -72,7 +74,7 @@ fn no_trees(maker: &mut Maker) {
         for line in ["strict", "majority", "both", "tree 0", "write 0", "split 0", "one 0 0", "two 0 0"] {
             maker.watched(line);
         }
-        for line in ["weighted 0 0", "lengths 0", "matrix", "splits"] {
+        for line in ["weighted 0 0", "lengths 0", "matrix", "splits", "withdraw 0", "withdraw 1"] {
             maker.watched(line);
         }
         maker.watched("batch 0 -");
@@ -223,7 +225,7 @@ fn wrong_numbers(maker: &mut Maker) {
         for line in ["one FAR 0", "one 0 FAR", "one FAR FAR", "two FAR 0", "two 0 FAR", "tree FAR", "write FAR"] {
             maker.watched(line.replace("FAR", &far.to_string()));
         }
-        for line in ["weighted FAR 0", "weighted 2 FAR", "weighted FAR FAR"] {
+        for line in ["weighted FAR 0", "weighted 2 FAR", "weighted FAR FAR", "withdraw FAR"] {
             maker.watched(line.replace("FAR", &far.to_string()));
         }
     }
@@ -288,6 +290,7 @@ fn full_rooms(maker: &mut Maker) {
         maker.peek();
     }
     files_at_full_rooms(maker);
+    withdrawals_at_full_rooms(maker);
     maker.questions();
 }
 
@@ -428,7 +431,7 @@ fn not_whole(maker: &mut Maker) {
             maker.ask(room);
             let text = [maker.any_text(), b";".to_vec()].concat();
             let wrong = ["feed 8 28", "close 8", "batch 9 3b", "split 9", "tree 9", "one 9 9", "two 9 9", "write 9"];
-            let wrong = wrong.into_iter().chain(["weighted 9 9", "lengths 9"]).map(str::to_string);
+            let wrong = wrong.into_iter().chain(["weighted 9 9", "lengths 9", "withdraw 9"]).map(str::to_string);
             for line in every_call(&text).into_iter().chain(wrong).chain(refused_files(maker)) {
                 maker.watched(line);
             }

@@ -38,7 +38,7 @@ struct Script {
 }
 
 /// Lines that are no calls.
-const BAD_LINES: [&str; 40] = [
+const BAD_LINES: [&str; 44] = [
     "",
     " ",
     "trees ",
@@ -54,6 +54,10 @@ const BAD_LINES: [&str; 40] = [
     "feed  0 -",
     "close",
     "close 0 0",
+    "withdraw",
+    "withdraw -",
+    "withdraw 0 0",
+    "withdraw 18446744073709551616",
     "open",
     "agree 1",
     "Trees",
@@ -120,7 +124,8 @@ impl Script {
             46..=50 => self.batch_line(),
             51..=54 => self.nexus_line(),
             55..=57 => self.close_line(),
-            58..=90 => self.question_line(),
+            58..=61 => self.withdraw_line(),
+            62..=90 => self.question_line(),
             91..=94 => self.room_line(),
             95..=97 => self.bad_opening_line(),
             98 => self.bad_line(),
@@ -152,6 +157,10 @@ impl Script {
         let lane = self.lane();
         self.odd[lane] = false;
         format!("close {lane}")
+    }
+
+    fn withdraw_line(&mut self) -> String {
+        format!("withdraw {}", self.small())
     }
 
     fn batch_line(&mut self) -> String {
@@ -270,9 +279,10 @@ impl Script {
         self.planned.push(open);
         self.planned.push(self.peek_all());
         for _ in 0..4 {
-            let call = match self.random.below(6) {
+            let call = match self.random.below(7) {
                 0 => self.feed_line(),
                 1 => self.nexus_line(),
+                2 => self.withdraw_line(),
                 _ => self.question_line(),
             };
             self.planned.push(call);
@@ -284,9 +294,11 @@ impl Script {
     /// Too little memory first; then enough, with calls before the opening.
     fn lend_again(&mut self, size: u64) -> String {
         let before = [self.question_line(), self.feed_line(), self.nexus_line(), self.close_line()];
+        let withdraw = self.withdraw_line();
         let open = self.open_line();
         self.planned.push(open);
         self.planned.extend(before);
+        self.planned.push(withdraw);
         self.lent = size + 5;
         self.planned.push(format!("lend {}", self.lent));
         let open = self.open_line();

@@ -1,5 +1,5 @@
 //! `selfcheck`: the samples of document 01, the sheet of the summary program, the limits, and the settled points; then
-//! the checks of quotes, of lengths, of stores and of NEXUS files.
+//! the checks of quotes, of lengths, of stores, of NEXUS files and of withdrawals.
 
 use crate::calls::treecalls;
 use crate::collection::Collection;
@@ -15,6 +15,7 @@ use crate::storecheck::store_checks;
 use crate::summary::treesum;
 use crate::text::is_length;
 use crate::verdict::{judge, Masks};
+use crate::withdrawcheck::withdrawal_checks;
 use crate::words::hex;
 
 const T0: &str = "((A,B),C,(D,E))";
@@ -36,6 +37,7 @@ pub fn selfcheck() -> bool {
         length_checks(),
         store_checks(),
         file_checks(),
+        withdrawal_checks(),
     ]
     .concat();
     for (name, right) in &checks {

@@ -12,7 +12,7 @@ use std::collections::BTreeSet;
 type Check = (String, bool);
 
 /// One lane that holds `(A,`, two trees of room and three splits, two places; S1's tree and S2's over A to E.
-fn by_hand() -> Vec<u8> {
+pub fn by_hand() -> Vec<u8> {
     let mut store = vec![165; 9044];
     let fields: [(usize, usize, &[u64]); 14] = [
         (0, 2, &[5, 1, 2, 3, 2, 2, 3, 0]),
@@ -30,16 +30,21 @@ fn by_hand() -> Vec<u8> {
         (16, 1, &[1, 65]),
         (4104, 1, &[40, 65, 44]),
     ];
-    for (from, width, values) in fields {
-        for (i, value) in values.iter().enumerate() {
-            store[from + width * i..][..width].copy_from_slice(&value.to_le_bytes()[..width]);
-        }
-    }
+    put_fields(&mut store, &fields);
     for (taxon, letter) in b"ABCDE".iter().enumerate() {
         store[16 + 33 * taxon] = 1;
         store[17 + 33 * taxon] = *letter;
     }
     store
+}
+
+/// Numbers of one width from some byte on.
+pub fn put_fields(store: &mut [u8], fields: &[(usize, usize, &[u64])]) {
+    for (from, width, values) in fields {
+        for (i, value) in values.iter().enumerate() {
+            store[from + width * i..][..*width].copy_from_slice(&value.to_le_bytes()[..*width]);
+        }
+    }
 }
 
 /// The same store with lengths kept: S1's tree has 0.5 and none, S2's −1 and 0.1.
@@ -218,7 +223,7 @@ fn checker_checks(store: &[u8]) -> Vec<Check> {
     ]
 }
 
-fn with_byte(store: &[u8], at: usize, byte: u8) -> Vec<u8> {
+pub fn with_byte(store: &[u8], at: usize, byte: u8) -> Vec<u8> {
     let mut changed = store.to_vec();
     changed[at] = byte;
     changed

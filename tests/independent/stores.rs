@@ -16,7 +16,7 @@ pub fn stores(seed: u64, count: usize) -> Vec<u8> {
     (0..count).flat_map(|_| small_collection(Random::new(random.next())).script()).collect()
 }
 
-/// Some trees, and something in the lanes.
+/// Some trees, of which some are withdrawn, and something in the lanes.
 fn small_collection(mut random: Random) -> Maker {
     let n = *random.pick(&[4, 5, 5, 6, 7, 8, 12, 64]);
     let names = names(&mut random, n);
@@ -38,8 +38,15 @@ fn small_collection(mut random: Random) -> Maker {
         let shape = shape(&mut maker.random, &maker.names, most_children);
         let text = text_of(&mut maker.random, &shape);
         maker.text(&text);
+        if maker.random.one_in(4) {
+            maker.withdraw_some();
+            maker.peek();
+        }
     }
     fill_lanes(&mut maker);
+    if maker.random.one_in(3) {
+        maker.withdraw_some();
+    }
     maker.questions();
     maker.peek();
     maker
@@ -91,12 +98,13 @@ pub fn made_bytes(random: &mut Random, i: usize) -> (Maker, Vec<u8>) {
     (maker, bytes)
 }
 
-/// Every call, and texts that may be accepted.
+/// Every call, texts that may be accepted, and withdrawals.
 fn calls_on(random: &mut Random, maker: &Maker) -> Vec<String> {
     let tree = shape(random, &maker.names, 3);
     let text = [one_text(random, &maker.names, &[tree]), b";".to_vec()].concat();
     let mut lines = every_call(&text);
     lines.extend(["close 0".to_string(), format!("feed 0 {}", hex(&text))]);
+    lines.extend((0..random.below(3)).map(|_| format!("withdraw {}", random.below(3))));
     let behind = ["splits", "matrix", "majority", "strict", "both", "collisions", "weighted 0 2", "lengths 2"];
     lines.extend(behind.map(str::to_string));
     lines

@@ -1,4 +1,4 @@
-// Calls that change the lent memory: `lend`, `poke`, `feed`, `close`, `batch` and `nexus`.
+// Calls that change the lent memory: `lend`, `poke`, `feed`, `close`, `withdraw`, `batch` and `nexus`.
 use crate::kinds;
 use crate::parse::Call;
 use crate::parts;
@@ -8,6 +8,7 @@ use answers::Fed;
 use answers::Lane;
 use answers::Number;
 use answers::Progress;
+use answers::Tree;
 
 // `lend N`: makes the first N bytes of the memory 165.
 pub(crate) fn lend(memory: &mut [u8], n: usize) -> Reply {
@@ -36,6 +37,7 @@ pub(crate) fn make(
         kinds::FEED => feed(lent, call.a, bytes),
         kinds::BATCH => batch(lent, call.a, bytes, verdicts, room),
         kinds::NEXUS => nexus(lent, bytes, verdicts, room),
+        kinds::WITHDRAW => withdraw(lent, call.a),
         _ => replies::finish(feeding::close(lent, Lane(call.a))),
     }
 }
@@ -79,6 +81,11 @@ fn batch(lent: &mut [u8], lane: usize, piece: &[u8], verdicts: &mut [u32], room:
     let mut reply = replies::number(replies::BATCH, answer);
     reply.b = piece.len() as u64;
     reply
+}
+
+// `withdraw T`.
+fn withdraw(lent: &mut [u8], tree: usize) -> Reply {
+    replies::finish(withdrawing::withdraw(lent, Tree(tree)))
 }
 
 // `nexus HEX`.

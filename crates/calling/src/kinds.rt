@@ -21,47 +21,49 @@ pub(crate) const BOTH: usize = 7;
 // A number behind it.
 pub(crate) const CLOSE: usize = 8;
 
-pub(crate) const SPLIT: usize = 9;
+pub(crate) const WITHDRAW: usize = 9;
 
-pub(crate) const LENGTHS: usize = 10;
+pub(crate) const SPLIT: usize = 10;
 
-pub(crate) const TREE: usize = 11;
+pub(crate) const LENGTHS: usize = 11;
 
-pub(crate) const WRITE: usize = 12;
+pub(crate) const TREE: usize = 12;
 
-pub(crate) const LEND: usize = 13;
+pub(crate) const WRITE: usize = 13;
 
-pub(crate) const ROOM: usize = 14;
+pub(crate) const LEND: usize = 14;
+
+pub(crate) const ROOM: usize = 15;
 // Two numbers.
-pub(crate) const ONE: usize = 15;
+pub(crate) const ONE: usize = 16;
 
-pub(crate) const TWO: usize = 16;
+pub(crate) const TWO: usize = 17;
 
-pub(crate) const WEIGHTED: usize = 17;
+pub(crate) const WEIGHTED: usize = 18;
 
-pub(crate) const AGREE: usize = 18;
+pub(crate) const AGREE: usize = 19;
 
-pub(crate) const PEEK: usize = 19;
+pub(crate) const PEEK: usize = 20;
 // A number and bytes.
-pub(crate) const POKE: usize = 20;
+pub(crate) const POKE: usize = 21;
 
-pub(crate) const FEED: usize = 21;
+pub(crate) const FEED: usize = 22;
 
-pub(crate) const BATCH: usize = 22;
+pub(crate) const BATCH: usize = 23;
 // Bytes.
-pub(crate) const NEXUS: usize = 23;
+pub(crate) const NEXUS: usize = 24;
 // Five numbers, and a last word or not.
-pub(crate) const SIZE: usize = 24;
+pub(crate) const SIZE: usize = 25;
 // Five numbers, bytes and two lists, and a last word or not.
-pub(crate) const OPEN: usize = 25;
+pub(crate) const OPEN: usize = 26;
 // A line that is no call.
-pub(crate) const NO_CALL: usize = 26;
+pub(crate) const NO_CALL: usize = 27;
 
 // The call of a word.
 pub(crate) fn of_word(word: &[u8]) -> usize {
     parts::place(
         word,
-        b"trees count collisions splits matrix strict majority both close split lengths tree write lend room one two weighted agree peek poke feed batch nexus size open ",
+        b"trees count collisions splits matrix strict majority both close withdraw split lengths tree write lend room one two weighted agree peek poke feed batch nexus size open ",
     )
 }
 
@@ -119,7 +121,7 @@ pub(crate) fn writes(kind: usize) -> usize {
     match kind {
         SPLITS | TREE | MATRIX => A_LIST,
         STRICT | MAJORITY | BOTH | WRITE => A_TEXT,
-        CLOSE | POKE..=NEXUS => MEMORY,
+        CLOSE | WITHDRAW | POKE..=NEXUS => MEMORY,
         _ => NOTHING,
     }
 }

@@ -1,6 +1,7 @@
 -- Every byte of a store, what "whole" means of it, and the laws of where things lie and of parts in order.
 pub mod Columns
 pub mod Store
+pub mod Becomes
 pub mod StoreLaws
 pub mod KeptLaws
 pub mod WholeStore

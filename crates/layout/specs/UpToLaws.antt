@@ -20,7 +20,7 @@ use lib.ListN.{length, getD, take, length-append, List·getD-append}
 use lib.Seq.{take-suc, getD-at}
 use Rattle.trees.specs.Plain.{if_then_else_, member}
 use Rattle.trees.specs.Consensus.{count}
-use Rattle.theorems.specs.ListLaws.{less-or-not, Mem, mem-getD}
+use Rattle.theorems.specs.ListLaws.{less-or-not, Mem, mem-getD, mem-where}
 use Rattle.theorems.specs.RisingLaws.{Rising}
 use Rattle.theorems.specs.ConsensusLaws.{count-step}
 use Rattle.head.specs.Head.{fromTo, upTo}
@@ -30,8 +30,7 @@ use Rattle.layout.specs.WholeStore.{listedIn}
 -- ---- the members of a list
 
 pub mem-at : (l : List ℕ) (k : ℕ) → Mem k l → (i : ℕ) × (i < length l) × (getD l i 0 ≡ k)
-mem-at (x ∷ l) k (inl e) = (0, omega arith, sym e)
-mem-at (x ∷ l) k (inr h) = let r = mem-at l k h in (suc (r .0), omega (arith, r .1), r .2)
+mem-at l k h = mem-where l k 0 h
 
 -- ---- one more at the end
 

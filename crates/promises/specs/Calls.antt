@@ -3,7 +3,7 @@
 --   Question             what may be asked of a collection; a list is a lent buffer, as it is before the call
 --   Reply                how it is answered: by a number, a split, a double or three, and by the lent buffers as they are left
 --   reply h q            what the collection h answers to q
---   Made                 a call: `one`, a feeding or a closing; `many`, a batch, with its lane, its piece and the lent buffer for its verdicts;
+--   Made                 a call: `one`, a feeding, a closing or a withdrawal; `many`, a batch, with its lane, its piece and the lent buffer for its verdicts;
 --                        `file`, a NEXUS file, with the lent buffer for its verdicts; `ask`, a question; `reopen`, an opening that is refused, with its numbers, its name list and its constants
 --   Told                 what a call answers
 --   told lent h c        what the call c answers of the collection h in so many lent bytes
@@ -11,13 +11,14 @@
 --   toldAll, afterAll    the same of the calls cs, one after another
 --   cut n q p            the piece p in pieces: n texts, each with its semicolon, and what is behind them; q: whether quotes are open before p
 --   fileTexts f room     the plain texts that the NEXUS file f hands in, with room for so many verdicts
---   handed h c           the feedings and closings that the call c on the collection h comes to: a batch feeds its texts one after another, and a
---                        file hands in its plain texts
+--   handed h c           the feedings, closings and withdrawals that the call c on the collection h comes to: a batch feeds its texts one after
+--                        another, and a file hands in its plain texts
 --   handedAll h cs       those of the calls cs, one after another
 --   LeavesMade j h c     the call c on the collection h neither ends nor closes the text of lane j, nor is it a batch that would
 --   QuietMade j h cs     so do all the calls cs, one after another
 --   verdictOf v          the verdict that a batch or a file gives as the number v
---   verdictsTold as      the verdicts among the answers as, in order, those of a batch or a file in their places
+--   verdictsTold as      the verdicts among the answers as, in order, those of a batch or a file in their places, and what closings and
+--                        withdrawals answer in theirs
 --   isCollisions c       the call c asks for the collision number
 --   otherTold cs as      the answers as to the calls cs, without the collision numbers
 use Prim.Native.Nat.{ℕ, zero, suc, _-_}

@@ -10,27 +10,35 @@
 --   openedFree, open-once                                         opening
 --   fedFree, feed-once                                            feeding
 --   closedFree, close-once                                        closing
---   asked-same, fed-same, closed-same                             no call tells two lent bytes apart that are the same as stores
-use Prim.Native.Nat.{ℕ}
-use mathlib.Core.Path.{_≡_, refl, ap₂}
+--   withdrawnFree, withdraw-once                                  withdrawing
+--   asked-same, fed-same, closed-same, withdrawn-same             no call tells two lent bytes apart that are the same as stores
+use Prim.Native.Nat.{ℕ, _<_}
+use mathlib.Core.Path.{_≡_, refl, sym, ap, ap₂, subst, _∙_}
 use mathlib.Core.Bool.{Bool, true, false}
 use mathlib.Core.List.{List}
 use lib.ListN.{length}
 use denote.Ref.{now}
 use Rattle.trees.specs.Plain.{if_then_else_, Answer, refused, gives}
-use Rattle.trees.specs.Opening.{Opening, opening}
+use Rattle.trees.specs.Opening.{Numbers, Opening, opening}
 use Rattle.trees.specs.Held.{Held, Closed, opened, feeding, closing}
 use Rattle.trees.specs.Held as held
+use Rattle.trees.specs.Withdrawing.{Withdrawn, withdrawing}
+use Rattle.theorems.specs.WithdrawLaws.{withdrawing-opening}
 use Rattle.answers.specs.declared.Finish.{Finish}
 use Rattle.answers.specs.declared.Fed.{Fed}
+use Rattle.head.specs.Head.{numbersAt}
 use Rattle.opening.specs.Given.{numbersOf}
+use Rattle.layout.specs.Store.{treeFrom, heldAt}
+use Rattle.layout.specs.WholeStore.{wholeAt}
+use Rattle.store.specs.HeldWholeLaws.{held-numbers}
 use Rattle.table.specs.Promises.{OpenedAs}
 use Rattle.feeding.specs.Feeding.{reached, fedOf, closedOf, isAccepted, FedAs, ClosedAs}
+use Rattle.withdrawing.specs.Withdrawn.{there, withdrawnOf, WithdrawnAs}
 use Rattle.answers.proofs.refusal_number.Reads as refusal-number
 use Rattle.answers.proofs.verdict_number.Reads as verdict-number
 use Rattle.masks.proofs.agree.Reads as agree
 use Rattle.store.proofs.is_whole.Reads as is-whole
-use Rattle.store.specs.Lent.{ifWhole}
+use Rattle.store.specs.Lent.{ifWhole, Holds}
 use Rattle.table.proofs.size.Reads as size
 use Rattle.table.proofs.open.Reads as open-call
 use Rattle.table.proofs.tree_count.Reads as tree-count
@@ -50,7 +58,8 @@ use Rattle.consensus.proofs.both.Reads as both-trees
 use Rattle.consensus.proofs.write_accepted.Reads as write-accepted
 use Rattle.feeding.proofs.feed.Reads as feed
 use Rattle.feeding.proofs.close.Reads as close
-use Rattle.promises.specs.Once.{Once, AnswerOnce, arg1, arg2, arg3, arg4, arg5, arg6, arg7, arg8, arg9, arg10, SameStore, Free, nothing, lane, store, SameBut}
+use Rattle.withdrawing.proofs.withdraw.Reads as withdraw
+use Rattle.promises.specs.Once.{Once, AnswerOnce, arg1, arg2, arg3, arg4, arg5, arg6, arg7, arg8, arg9, arg10, SameStore, Free, nothing, lane, table, store, SameBut}
 use Rattle.promises.specs.Outcomes.{both, split-one, weight-one, split-lengths-one, progress-one, finish-both, number-both, lengths-both, filled-both, holds-both, outside-both}
 
 -- ---- tests
@@ -171,6 +180,35 @@ closed-both s l q r t u a b = (finish-both q r (a .answer) (b .answer), go (reac
 pub close-once : Once close.Post (λ x q r y z. (q ≡ r) × SameBut (closedFree (now (arg1 x)) (arg2 x .0)) (now (arg1 y)) (now (arg1 z)))
 close-once k x q r y z a b = closed-both _ _ q r _ _ a b
 
+-- ---- withdrawing
+
+-- the opening and the lanes stay as found, and without such a tree every byte
+unfoldable pub withdrawnFree : List ℕ → ℕ → Free
+withdrawnFree s k = if there s k then table else nothing
+
+-- what is held keeps its opening, so the lanes end where they did
+withdrawn-numbers : (s : List ℕ) (k : ℕ) (t : List ℕ) → Holds (withdrawnOf s k .after) s t → numbersAt t ≡ numbersAt s
+unfolding withdrawnOf
+withdrawn-numbers s k t h = sym (held-numbers t) ∙ ap (λ (x : Held). x .opening .numbers) (h .held) ∙ go (wholeAt s) ∙ held-numbers s
+  where
+    go : (b : Bool) → (if b then withdrawing (heldAt s) k else record { answer = refused 1; after = heldAt s }) .after .opening .numbers ≡ heldAt s .opening .numbers
+    go true = ap (λ (o : Opening). o .numbers) (withdrawing-opening (heldAt s) k)
+    go false = refl
+
+withdrawn-both : (s : List ℕ) (k : ℕ) (q r : Finish) (t u : List ℕ) → WithdrawnAs s k q t → WithdrawnAs s k r u → (q ≡ r) × SameBut (withdrawnFree s k) t u
+unfolding withdrawnFree SameBut
+withdrawn-both s k q r t u a b = (finish-both q r (a .answer) (b .answer), go (there s k) refl)
+  where
+    go : (m : Bool) → there s k ≡ m → SameBut (if m then table else nothing) t u
+    go false e = both (a .found e) (b .found e)
+    go true e = (
+      holds-both (withdrawnOf s k .after) s t u (a .holds e) (b .holds e),
+      λ i l o. let m = subst (λ (n : Numbers). i < treeFrom n 0) (withdrawn-numbers s k t (a .holds e)) l in both (b .front i m o) (a .front i m o),
+    )
+
+pub withdraw-once : Once withdraw.Post (λ x q r y z. (q ≡ r) × SameBut (withdrawnFree (now (arg1 x)) (arg2 x .0)) (now (arg1 y)) (now (arg1 z)))
+withdraw-once k x q r y z a b = withdrawn-both _ _ q r _ _ a b
+
 -- ---- two lent bytes that are the same as stores
 
 module _ (t u : List ℕ) (e : SameStore t u) where
@@ -187,3 +225,7 @@ module _ (t u : List ℕ) (e : SameStore t u) where
   pub closed-same : (l : ℕ) → closedOf t l ≡ closedOf u l
   unfolding closedOf
   closed-same l = ap₂ {C = Closed} (λ (b : Bool) (h : Held). if b then closing h l else record { answer = refused 1; after = h }) (e .whole) (e .holding)
+
+  pub withdrawn-same : (k : ℕ) → withdrawnOf t k ≡ withdrawnOf u k
+  unfolding withdrawnOf
+  withdrawn-same k = ap₂ {C = Withdrawn} (λ (b : Bool) (h : Held). if b then withdrawing h k else record { answer = refused 1; after = h }) (e .whole) (e .holding)

@@ -11,6 +11,7 @@ pub mod StepLaws
 pub mod RunLaws
 pub mod QuietStepLaws
 pub mod FileCallLaws
+pub mod WithdrawCallLaws
 pub mod ReadBackCallLaws
 pub mod EntryOutcomes
 pub mod BatchOutcomes

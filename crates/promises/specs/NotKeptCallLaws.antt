@@ -17,7 +17,7 @@ use Rattle.trees.specs.Opening.{Opening}
 use Rattle.trees.specs.Held.{Held, laneOf, longer, holding, verdict, moreWanted, accepted, Fed, finished, finishing}
 use Rattle.trees.specs.NexusCall.{onText}
 use Rattle.trees.specs.Questions.{ifTree}
-use Rattle.trees.specs.Runs.{Call, feed, hand, close, Heard, fed, closedLane, answer, next, answers, ending, Final, acceptedAs, refusedWith, closedWith, finals}
+use Rattle.trees.specs.Runs.{Call, feed, hand, close, withdraw, Heard, fed, closedLane, withdrew, answer, next, answers, ending, Final, acceptedAs, refusedWith, closedWith, withdrawnWith, finals}
 use Rattle.theorems.specs.ListLaws.{Mem}
 use Rattle.theorems.specs.FeedingLaws.{endsAt, lastPart, feedingBy, feeding-by}
 use Rattle.theorems.specs.RunLaws.{ending-opening}
@@ -36,11 +36,13 @@ refusalOf : Final → ℕ
 refusalOf (acceptedAs t) = 0
 refusalOf (refusedWith k) = k
 refusalOf (closedWith a) = 0
+refusalOf (withdrawnWith a) = 0
 
 abbrev NotSeventeen : Heard → Type 0
 NotSeventeen (fed n (refused k)) = k ≡ 17 → ⊥
 NotSeventeen (fed n (gives p)) = Unit {0}
 NotSeventeen (closedLane a) = Unit {0}
+NotSeventeen (withdrew a) = Unit {0}
 
 -- a verdict of 17 behind an answer that is not
 behind : (a : Heard) (as′ : List Heard) → NotSeventeen a → Mem (refusedWith 17) (finals (a ∷ as′)) → Mem (refusedWith 17) (finals as′)
@@ -52,6 +54,8 @@ behind (fed n (refused k)) as′ q (inl e) = absurd (q (sym (ap refusalOf e)))
 behind (fed n (refused k)) as′ q (inr m) = m
 behind (closedLane a) as′ q (inl e) = absurd (omega (arith, ap refusalOf e))
 behind (closedLane a) as′ q (inr m) = m
+behind (withdrew a) as′ q (inl e) = absurd (omega (arith, ap refusalOf e))
+behind (withdrew a) as′ q (inr m) = m
 
 module _ (h : Held) (none-kept : h .opening .numbers .kept ≡ 0) where
   judged-not : (n : ℕ) (v : Answer Branches) → (v ≡ refused 17 → ⊥) → NotSeventeen (fed n (finished h v))
@@ -71,6 +75,7 @@ module _ (h : Held) (none-kept : h .opening .numbers .kept ≡ 0) where
       subst (λ (f : Fed). NotSeventeen (fed (f .taken) (f .answer))) (sym (feeding-by h l p)) (fed-not (ltb l (h .opening .numbers .lanes)) (endsAt h l p) l p)
   answer-not (hand t) = let x = longer (holding []) t in judged-not (suc (length t)) (verdict h x) (not-seventeen h none-kept x)
   answer-not (close l) = tt
+  answer-not (withdraw k) = tt
 
 next-opening : (h : Held) (c : Call) → next h c .opening ≡ h .opening
 unfolding ending

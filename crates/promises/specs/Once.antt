@@ -9,7 +9,7 @@
 --   arg1 .. arg10         the arguments
 --   SameStore t u         two lent bytes are alike in whether they are whole, in what they hold, in how many they are, and in those past
 --                         the size
---   Free                  what a call leaves free in the lent bytes: nothing, one lane's own bytes, or the store's
+--   Free                  what a call leaves free in the lent bytes: nothing, one lane's own bytes, those behind the lanes, or all of the store's
 --   SameBut f t u         two lent bytes are the same but for what is free; what is free is compared by what it holds
 use Prim.Native.Nat.{ℕ, _≤_}
 use mathlib.Core.Path.{_≡_}
@@ -18,6 +18,7 @@ use lib.ListN.{length, getD}
 use Rattle.layout.specs.Store.{sizeAt, heldAt}
 use Rattle.layout.specs.WholeStore.{wholeAt}
 use Rattle.feeding.specs.Feeding.{SameOutside}
+use Rattle.withdrawing.specs.Withdrawn.{SameFront}
 
 -- ---- promises
 
@@ -81,10 +82,12 @@ pub record SameStore (t u : List ℕ) : Type 0 where
 pub data Free : Type 0 where
   nothing : Free
   lane : ℕ → Free
+  table : Free
   store : Free
 
 -- "All lent memory stays as found, save the lane emptied by a verdict or a closing"
 unfoldable pub SameBut : Free → List ℕ → List ℕ → Type 0
 SameBut nothing t u = t ≡ u
 SameBut (lane l) t u = SameStore t u × SameOutside t l u
+SameBut table t u = SameStore t u × SameFront t u
 SameBut store t u = SameStore t u

@@ -18,7 +18,7 @@ use Rattle.trees.specs.Consensus as of
 use Rattle.trees.specs.Written.{written}
 use Rattle.trees.specs.Held.{Held, holding, laneOf, Progress, accepted, feeding}
 use Rattle.trees.specs.Questions.{ifRoom, ifTree, ifTrees, tree, strictOf, majorityOf, together, bothOf, writtenOf}
-use Rattle.trees.specs.Runs.{feed, fed, closedLane, answer, next}
+use Rattle.trees.specs.Runs.{feed, fed, closedLane, withdrew, answer, next}
 use Rattle.trees.specs.Whole.{goodTree}
 use Rattle.theorems.specs.Absent.{absent}
 use Rattle.theorems.specs.ReadBackLaws.{NoTreeRoom, NoSplitRoom, ReadBack, reads-back, strict-whole, majority-whole, tree-whole}
@@ -120,6 +120,7 @@ pub record ReadBackAs (u s : List ℕ) (n : ℕ) (a : Told) (t : List ℕ) : Typ
 answerIn : Told → Answer Progress
 answerIn (heard (fed n a)) = a
 answerIn (heard (closedLane a)) = refused 0
+answerIn (heard (withdrew a)) = refused 0
 answerIn (batched a v) = refused 0
 answerIn (replied a) = refused 0
 answerIn (notOpened k) = refused 0

@@ -20,7 +20,7 @@ use Rattle.trees.specs.Plain.{if_then_else_, Answer, refused, gives}
 use Rattle.trees.specs.Opening.{Numbers, Opening}
 use Rattle.trees.specs.Held.{Held, Lane, holding, moreWanted, accepted, opened, laneOf}
 use Rattle.trees.specs.Questions.{collisionsOf}
-use Rattle.trees.specs.Runs.{Call, Heard, fed, closedLane, answers, ending, Final, acceptedAs, refusedWith, closedWith, finals, wholeTexts}
+use Rattle.trees.specs.Runs.{Call, Heard, fed, closedLane, withdrew, answers, ending, Final, acceptedAs, refusedWith, closedWith, withdrawnWith, finals, wholeTexts}
 use Rattle.theorems.specs.Alike.{Alike, withPlaces, SameAnswers}
 use Rattle.theorems.specs.AlikeLaws.{questions-alike}
 use Rattle.theorems.specs.RunLaws.{ending-append, answers-append, ending-opening}
@@ -45,6 +45,7 @@ verdicts-append (fed n (gives moreWanted) ∷ as′) bs = verdicts-append as′ 
 verdicts-append (fed n (gives (accepted t)) ∷ as′) bs = ap (λ (vs : List Final). acceptedAs t ∷ vs) (verdicts-append as′ bs)
 verdicts-append (fed n (refused k) ∷ as′) bs = ap (λ (vs : List Final). refusedWith k ∷ vs) (verdicts-append as′ bs)
 verdicts-append (closedLane a ∷ as′) bs = ap (λ (vs : List Final). closedWith a ∷ vs) (verdicts-append as′ bs)
+verdicts-append (withdrew a ∷ as′) bs = ap (λ (vs : List Final). withdrawnWith a ∷ vs) (verdicts-append as′ bs)
 
 pub after-all : (cs : List Made) (h : Held) → afterAll h cs ≡ ending h (handedAll h cs)
 unfolding afterAll handedAll ending
@@ -102,7 +103,7 @@ module _ (x : Numbers) (names first second before s : List ℕ) (o : Opens x nam
   abbrev begun : Held
   begun = opened (openingOf x names first second)
 
-  -- the whole texts of the calls cs, handed in one after another in the order of their semicolons, closings in their places
+  -- the whole texts of the calls cs, handed in one after another in the order of their semicolons, closings and withdrawals in their places
   abbrev texts : List Made → List Call
   texts cs = wholeTexts (x .lanes) (handedAll begun cs)
 

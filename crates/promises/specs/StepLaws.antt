@@ -21,9 +21,11 @@ use Rattle.trees.specs.Held as held
 use Rattle.trees.specs.Batch.{Batched, batch}
 use Rattle.trees.specs.NexusCall.{nexus}
 use Rattle.trees.specs.Questions.{treesHeld, splitsHeld, splitList, splitNumber, treeNumber, oneSidedOf, doubledOf, matrixOf, collisionsOf, strictOf, majorityOf, bothOf, writtenOf, weightedOf, sumsOf}
-use Rattle.trees.specs.Runs.{feed, hand, close, fed, closedLane, answer, next}
+use Rattle.trees.specs.Withdrawing.{Withdrawn, withdrawing}
+use Rattle.trees.specs.Runs.{feed, hand, close, withdraw, fed, closedLane, withdrew, answer, next}
 use Rattle.theorems.specs.ListLaws.{by-test}
 use Rattle.theorems.specs.FeedingLaws.{feeding-by}
+use Rattle.theorems.specs.WithdrawLaws.{withdrawing-by}
 use Rattle.theorems.specs.RunLaws.{ending-opening}
 use Rattle.answers.specs.declared.Finish.{Finish}
 use Rattle.answers.specs.declared.Number.{Number}
@@ -34,11 +36,13 @@ use Rattle.opening.specs.Given.{openingOf}
 use Rattle.layout.specs.Store.{heldAt}
 use Rattle.layout.specs.WholeStore.{wholeAt}
 use Rattle.store.specs.HeldWholeLaws.{held-numbers}
+use Rattle.store.specs.RecordedAtLaws.{trees-length}
 use Rattle.store.specs.Lent.{Holds}
 use Rattle.store.specs.LentLaws.{when-whole}
 use Rattle.table.specs.Promises.{OpenedAs}
 use Rattle.feeding.specs.Feeding.{reached, fedOf, closedOf, batchOf, FedAs, ClosedAs, BatchedAs}
 use Rattle.nexus.specs.Fed.{nexusOf, NexusAs}
+use Rattle.withdrawing.specs.Withdrawn.{there, withdrawnOf, WithdrawnAs}
 use Rattle.summary.specs.PartLaws.{holds-then}
 use Rattle.promises.specs.Calls.{Question, tree-count, split-count, one-split, split-list, tree-splits, one-sided, doubled, matrix, collisions, strict, majority, both, write-accepted, weighted, split-lengths, Reply, number, split, filled, bothFilled, eachFilled, weight, sums, fill, fillBoth, fillEach, reply, Made, one, many, file, ask, reopen, Told, heard, batched, replied, notOpened, numbersIn, afterBatch, refusalIn, told, after, toldAll, afterAll, handed}
 use Rattle.promises.specs.Steps.{Asked, Opened, Opens, Step, Steps}
@@ -183,6 +187,21 @@ module _ (s : List ℕ) (w : wholeAt s ≡ true) (l : ℕ) where
   unfolding closing
   closed-nowhere e = rw (sym lane-test ∙ e) refl
 
+-- ---- withdrawing
+
+module _ (s : List ℕ) (w : wholeAt s ≡ true) (k : ℕ) where
+  pub withdrawn-whole : withdrawnOf s k ≡ withdrawing (heldAt s) k
+  unfolding withdrawnOf
+  withdrawn-whole = rw w
+
+  pub tree-test : there s k ≡ ltb k (length (heldAt s .trees))
+  unfolding there
+  tree-test = rw (w, trees-length s)
+
+  -- a tree that is not there changes nothing
+  withdrawn-nowhere : there s k ≡ false → withdrawing (heldAt s) k .after ≡ heldAt s
+  withdrawn-nowhere e = ap (λ (x : Withdrawn). x .after) (withdrawing-by (heldAt s) k) ∙ rw (sym tree-test ∙ e) refl
+
 -- ---- every call
 
 module _ (s : List ℕ) (w : wholeAt s ≡ true) (t : List ℕ) where
@@ -226,6 +245,15 @@ module _ (s : List ℕ) (w : wholeAt s ≡ true) (t : List ℕ) where
       go : (b : Bool) → reached s l ≡ b → Holds (closing (heldAt s) l .after) s t
       go true e = rw (closed-whole s w l) at (f .holds e)
       go false e = rw (closed-nowhere s w l e) (stays (f .found e))
+  step-follows (one (withdraw k)) a q =
+      (go (there s k) refl, q .2 ∙ ap (λ (x : Answer (Unit {0})). heard (withdrew x)) (f .answer ∙ rw (withdrawn-whole s w k) refl))
+    where
+      f : WithdrawnAs s k (q .0) t
+      f = q .1
+
+      go : (b : Bool) → there s k ≡ b → Holds (withdrawing (heldAt s) k .after) s t
+      go true e = rw (withdrawn-whole s w k) at (f .holds e)
+      go false e = rw (withdrawn-nowhere s w k e) (stays (f .found e))
   step-follows (many l p v) a q =
       let f : BatchedAs (batchOf s l p (length v)) l (q .0) s v t (q .1) = q .2 in
       let r = batch-follows (batch (heldAt s) l p (length v)) l (q .0) v (q .1) (subst (λ (x : Answer Batched). BatchedAs x l (q .0) s v t (q .1)) (batch-whole l p v) f) in

@@ -14,7 +14,7 @@ use mathlib.Core.List.{List, [], _∷_}
 use denote.Ref.{RefT}
 use Rattle.trees.specs.Plain.{refused, gives}
 use Rattle.trees.specs.Opening.{Numbers}
-use Rattle.trees.specs.Runs.{feed, hand, close, fed, closedLane}
+use Rattle.trees.specs.Runs.{feed, hand, close, withdraw, fed, closedLane, withdrew}
 use Rattle.answers.specs.declared.Fed.{Fed}
 use Rattle.answers.specs.declared.Finish.{Finish}
 use Rattle.answers.specs.declared.Number.{Number}
@@ -44,6 +44,7 @@ use Rattle.feeding.proofs.feed.Reads as feeds
 use Rattle.feeding.proofs.close.Reads as closes
 use Rattle.feeding.proofs.batch.Reads as batches
 use Rattle.nexus.proofs.feed_file.Reads as files
+use Rattle.withdrawing.proofs.withdraw.Reads as withdraws
 use Rattle.promises.specs.Calls.{Question, tree-count, split-count, one-split, split-list, tree-splits, one-sided, doubled, matrix, collisions, strict, majority, both, write-accepted, weighted, split-lengths, Reply, number, split, filled, bothFilled, eachFilled, weight, sums, Made, one, many, file, ask, reopen, Told, heard, batched, replied, notOpened}
 
 abbrev pub lent : List ℕ → RefT (List ℕ)
@@ -118,6 +119,8 @@ Step s (one (feed l p)) a t =
 Step s (one (hand x)) a t = ⊥
 Step s (one (close l)) a t =
     (r : Finish) × closes.Post ([], tt) (lent s, (record { 0 = l }, tt)) r (lent t, (record { 0 = l }, tt)) × (a ≡ heard (closedLane (finishGiven r)))
+Step s (one (withdraw k)) a t =
+    (r : Finish) × withdraws.Post ([], tt) (lent s, (record { 0 = k }, tt)) r (lent t, (record { 0 = k }, tt)) × (a ≡ heard (withdrew (finishGiven r)))
 Step s (many l p v) a t =
     (r : Number) × (w : List ℕ)
     × batches.Post ([], ([], ([], tt))) (lent s, (record { 0 = l }, (lent p, (lent v, tt)))) r (lent t, (record { 0 = l }, (lent p, (lent w, tt))))

@@ -31,6 +31,7 @@ use Rattle.records.specs.Records.{masksOf}
 use Rattle.records.specs.RecordLaws.{masks-length, masks-at}
 use Rattle.head.specs.Head.{numbersAt, openingAt}
 use Rattle.layout.specs.Store.{sizeAt, branchesOf, partsAt, maskIn, countIn, treesHeldAt, splitsHeldAt, masksAt, heldAt}
+use Rattle.layout.specs.Becomes.{Becomes}
 use Rattle.layout.specs.StoreLaws.{lengths-length}
 use Rattle.layout.specs.WholeStore.{listedIn, wholeAt}
 use Rattle.layout.specs.WholeFacts.{HeadAt, whole-at-facts}
@@ -41,7 +42,7 @@ use Rattle.layout.specs.OpeningKeptLaws.{numbers-held, size-held}
 use Rattle.store.specs.RecordedAtLaws.{trees-length, recorded-at, recorded-length}
 use Rattle.store.specs.HeldWholeLaws.{held-numbers}
 use Rattle.store.specs.Lent.{Holds}
-use Rattle.recording.specs.Added.{withList, Rows, Becomes, nextLengths, Listed}
+use Rattle.recording.specs.Added.{withList, Rows, nextLengths, Listed}
 use Rattle.recording.specs.ListSoundLaws.{list-counted, list-sound, list-held}
 use Rattle.recording.specs.Recording.{SplitsOf, lengthsGiven, LengthsOf, treeGiven, newIn, Stands, RowsOf, Grown, Accepts}
 use Rattle.recording.specs.NewLaws.{mem-mask, stands-new}

@@ -27,13 +27,14 @@ use Rattle.records.specs.Records.{masksOf}
 use Rattle.records.specs.RecordLaws.{masks-length, masks-at}
 use Rattle.head.specs.Head.{numbersAt, secondAt, openingAt}
 use Rattle.layout.specs.Store.{Parts, branchesOf, partsAt, splitsHeldAt, masksAt, heldIn}
+use Rattle.layout.specs.Becomes.{Becomes}
 use Rattle.layout.specs.WholeStore.{wholeAt, placeIn}
 use Rattle.layout.specs.WholeFacts.{HeadAt, whole-at-facts}
 use Rattle.layout.specs.Sound.{Sound, whole-sound}
 use Rattle.layout.specs.UpToLaws.{mem-at, one-more, rising-at}
 use Rattle.layout.specs.OrderLaws.{masks-mem}
 use Rattle.layout.specs.OpeningKeptLaws.{numbers-held, first-held, second-held, size-held, head-held}
-use Rattle.recording.specs.Added.{Becomes, Added, nextLengths, LengthsPut, withSplit}
+use Rattle.recording.specs.Added.{Added, nextLengths, LengthsPut, withSplit}
 use Rattle.recording.specs.SplitSoundLaws.{split-sound, split-held}
 use Rattle.recording.specs.Recording.{SplitsOf, lengthOfWord, lengthsGiven, LengthsOf, newIn, RowsOf, Grown}
 use Rattle.recording.specs.NewLaws.{mask-mem, mem-mask, new-none, new-old, new-next, new-within, row-recorded, row-known, row-unknown}

@@ -5,6 +5,7 @@
 --   SaveOthers l h k   the same but for the texts of lanes other than l
 --   SameFed f g        two feedings that answer the same and leave the collections alike
 --   SameClosed f g     two closings that do
+--   SameWithdrawn f g  two withdrawals that do
 --   SameAnswers h k    every question but that for the collision number has the same answer
 --   SameRun h k cs     the calls cs have the same answers, and leave the same trees, lengths and texts and the same answers to questions
 use Prim.Native.Nat.{ℕ}
@@ -13,6 +14,7 @@ use mathlib.Core.List.{List}
 use lib.ListN.{length}
 use Rattle.trees.specs.Opening.{Numbers}
 use Rattle.trees.specs.Held.{Held, laneOf, Fed, Closed}
+use Rattle.trees.specs.Withdrawing.{Withdrawn}
 use Rattle.trees.specs.Questions.{treesHeld, splitsHeld, splitList, splitNumber, treeNumber, oneSidedOf, doubledOf, matrixOf, strictOf, majorityOf, bothOf, writtenOf, weightedOf, sumsOf}
 use Rattle.trees.specs.Runs.{Call, answers, ending}
 
@@ -46,6 +48,10 @@ pub record SameFed (f g : Fed) : Type 0 where
   pub after : Alike (f .after) (g .after)
 
 pub record SameClosed (f g : Closed) : Type 0 where
+  pub answer : f .answer ≡ g .answer
+  pub after : Alike (f .after) (g .after)
+
+pub record SameWithdrawn (f g : Withdrawn) : Type 0 where
   pub answer : f .answer ≡ g .answer
   pub after : Alike (f .after) (g .after)
 

@@ -1,8 +1,10 @@
--- Laws of alike collections: verdicts, feeding, closing and questions have the same answers.
+-- Laws of alike collections: verdicts, feeding, closing, withdrawing and questions have the same answers.
 --
+--   same-alike, same-collisions    collections with the same opening, trees and lengths are alike, and have the same collision number
 --   verdict-alike                  the verdict on a lane's text
 --   feeding-alike, closing-alike   feeding and closing a lane that holds the same
 --   judged-alike, recorded-alike   a text that is handed in
+--   withdrawing-alike              withdrawing a tree
 --   questions-alike                every question but that for the collision number
 use Prim.Native.Nat.{ℕ, suc, _+_}
 use mathlib.Core.Path.{_≡_, refl, ap, sym, _∙_, subst}
@@ -17,9 +19,29 @@ use Rattle.trees.specs.Value.{Length}
 use Rattle.trees.specs.Verdict.{Branches, judgedWith}
 use Rattle.trees.specs.Held.{Held, Lane, holding, overrun, laneOf, withLane, withTree, openIn, longer, newSplits, roomFor, withRoom, verdict, accepted, Fed, finished, recording, finishing, feeding, closed, closing}
 use Rattle.trees.specs.NexusCall.{onText}
-use Rattle.trees.specs.Questions.{treesHeld, splitsHeld, splitList, splitNumber, treeNumber, oneSidedOf, doubledOf, matrixOf, strictOf, majorityOf, bothOf, writtenOf, weightedOf, sumsOf}
+use Rattle.trees.specs.Withdrawing.{withoutAt, withoutTree, withdrawing}
+use Rattle.trees.specs.Questions.{treesHeld, splitsHeld, splitList, splitNumber, treeNumber, oneSidedOf, doubledOf, matrixOf, collisionsOf, strictOf, majorityOf, bothOf, writtenOf, weightedOf, sumsOf}
 use Rattle.theorems.specs.FeedingLaws.{endsAt, feedingBy, feeding-by, closingBy, closing-by}
-use Rattle.theorems.specs.Alike.{Alike, SameFed, SameClosed, SameAnswers}
+use Rattle.theorems.specs.WithdrawLaws.{withdrawingBy, withdrawing-by}
+use Rattle.theorems.specs.Alike.{Alike, SameFed, SameClosed, SameWithdrawn, SameAnswers}
+
+-- ---- the same opening
+
+module _ (h k : Held) (o : h .opening ≡ k .opening) (t : h .trees ≡ k .trees) where
+  pub same-alike : h .lengths ≡ k .lengths → Alike h k
+  same-alike l = record {
+    names = λ i. o i .names;
+    lanes = λ i. o i .numbers .lanes;
+    treeRoom = λ i. o i .numbers .treeRoom;
+    splitRoom = λ i. o i .numbers .splitRoom;
+    kept = λ i. o i .numbers .kept;
+    trees = t;
+    lengths = l;
+  }
+
+  pub same-collisions : collisionsOf h ≡ collisionsOf k
+  unfolding collisionsOf
+  same-collisions = λ i. collisionsOf (record { opening = o i; trees = t i; lengths = []; texts = [] })
 
 -- ---- verdicts
 
@@ -52,31 +74,31 @@ module _ (h k : Held) (a : Alike h k) where
 
   -- ---- feeding
 
-  lane-alike : (l : ℕ) (x y : Lane) → Alike (withLane h l x) (withLane k l y)
-  unfolding withLane
-  lane-alike l x y =
+  -- the same openings, with other trees, lengths and lanes
+  parts-alike : (ts us : List (List ℕ)) (xss yss : List (List Length)) (xs ys : List Lane) → ts ≡ us → xss ≡ yss
+      → Alike (record { opening = h .opening; trees = ts; lengths = xss; texts = xs }) (record { opening = k .opening; trees = us; lengths = yss; texts = ys })
+  parts-alike ts us xss yss xs ys t l =
       record {
         names = a .names;
         lanes = a .lanes;
         treeRoom = a .treeRoom;
         splitRoom = a .splitRoom;
         kept = a .kept;
-        trees = a .trees;
-        lengths = a .lengths;
+        trees = t;
+        lengths = l;
       }
+
+  lane-alike : (l : ℕ) (x y : Lane) → Alike (withLane h l x) (withLane k l y)
+  unfolding withLane
+  lane-alike l x y = parts-alike _ _ _ _ _ _ (a .trees) (a .lengths)
+
+  -- with the tree b more
+  abbrev moreTrees : (b : Branches) → (h .trees ++ b .splits ∷ [] ≡ k .trees ++ b .splits ∷ []) × (h .lengths ++ b .lengths ∷ [] ≡ k .lengths ++ b .lengths ∷ [])
+  moreTrees b = (λ i. a .trees i ++ b .splits ∷ [], λ i. a .lengths i ++ b .lengths ∷ [])
 
   tree-alike : (b : Branches) → Alike (withTree h b) (withTree k b)
   unfolding withTree
-  tree-alike b =
-      record {
-        names = a .names;
-        lanes = a .lanes;
-        treeRoom = a .treeRoom;
-        splitRoom = a .splitRoom;
-        kept = a .kept;
-        trees = λ i. a .trees i ++ b .splits ∷ [];
-        lengths = λ i. a .lengths i ++ b .lengths ∷ [];
-      }
+  tree-alike b = parts-alike _ _ _ _ _ _ (moreTrees b .0) (moreTrees b .1)
 
   finishing-alike : (l n : ℕ) (v : Answer Branches) → SameFed (finishing h l n v) (finishing k l n v)
   unfolding finishing finished recording withTree withLane
@@ -85,15 +107,7 @@ module _ (h k : Held) (a : Alike h k) where
       record {
         taken = refl;
         answer = λ i. gives (accepted (length (a .trees i)));
-        after = record {
-          names = a .names;
-          lanes = a .lanes;
-          treeRoom = a .treeRoom;
-          splitRoom = a .splitRoom;
-          kept = a .kept;
-          trees = λ i. a .trees i ++ b .splits ∷ [];
-          lengths = λ i. a .lengths i ++ b .lengths ∷ [];
-        };
+        after = parts-alike _ _ _ _ _ _ (moreTrees b .0) (moreTrees b .1);
       }
 
   ended-alike : (l : ℕ) (p : List ℕ) (x : Lane) → SameFed (textEnded h l p x) (textEnded k l p x)
@@ -145,6 +159,19 @@ module _ (h k : Held) (a : Alike h k) where
       let forth : closing k l ≡ closingBy (ltb l (h .opening .numbers .lanes)) k l = closing-by k l ∙ ap (λ n. closingBy (ltb l n) k l) (sym (a .lanes)) in
       subst (λ f. SameClosed f (closing k l)) (sym (closing-by h l))
       (subst (SameClosed (closingBy (ltb l (h .opening .numbers .lanes)) h l)) (sym forth) (shut-alike l (ltb l (h .opening .numbers .lanes)) e))
+
+  -- ---- withdrawing
+
+  withdrawn-alike : (n : ℕ) (b : Bool) → SameWithdrawn (withdrawingBy b h n) (withdrawingBy b k n)
+  unfolding withoutTree
+  withdrawn-alike n true = record { answer = refl; after = parts-alike _ _ _ _ _ _ (λ i. withoutAt n (a .trees i)) (λ i. withoutAt n (a .lengths i)) }
+  withdrawn-alike n false = record { answer = refl; after = a }
+
+  pub withdrawing-alike : (n : ℕ) → SameWithdrawn (withdrawing h n) (withdrawing k n)
+  withdrawing-alike n =
+      let forth : withdrawing k n ≡ withdrawingBy (ltb n (length (h .trees))) k n = withdrawing-by k n ∙ (λ i. withdrawingBy (ltb n (length (sym (a .trees) i))) k n) in
+      subst (λ f. SameWithdrawn f (withdrawing k n)) (sym (withdrawing-by h n))
+      (subst (SameWithdrawn (withdrawingBy (ltb n (length (h .trees))) h n)) (sym forth) (withdrawn-alike n (ltb n (length (h .trees)))))
 
 -- ---- questions
 

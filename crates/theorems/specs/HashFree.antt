@@ -12,10 +12,12 @@ use Rattle.trees.specs.Plain.{gives}
 use Rattle.trees.specs.Opening.{Numbers, Opening, opening}
 use Rattle.trees.specs.Held.{Held, Lane, holding, opened, laneOf, recording, feeding, closing}
 use Rattle.trees.specs.NexusCall.{onText}
+use Rattle.trees.specs.Withdrawing.{withdrawing}
 use Rattle.theorems.specs.HeldLaws.{Accepted, opening-accepted}
-use Rattle.trees.specs.Runs.{Call, feed, hand, close, Heard, fed, closedLane, answer, next, answers, ending}
+use Rattle.trees.specs.Runs.{Call, feed, hand, close, withdraw, Heard, fed, closedLane, withdrew, answer, next, answers, ending}
 use Rattle.theorems.specs.Alike.{Alike, withPlaces, SameRun}
-use Rattle.theorems.specs.AlikeLaws.{feeding-alike, judged-alike, recorded-alike, closing-alike, questions-alike}
+use Rattle.theorems.specs.AlikeLaws.{feeding-alike, judged-alike, recorded-alike, closing-alike, withdrawing-alike, questions-alike}
+use Rattle.theorems.specs.WithdrawLaws.{withdrawing-texts}
 use Rattle.theorems.specs.OwnLaneLaws.{laneAfter, lanesAfter, recording-texts, feeding-texts, closing-texts}
 
 -- ---- one call
@@ -63,6 +65,14 @@ module _ (h k : Held) (s : Same h k) (t : List ℕ) where
   unfolding answer
   handed-heard = ap (fed (suc (length t))) (judged-alike h k (s .alike) t)
 
+module _ (h k : Held) (s : Same h k) (n : ℕ) where
+  withdrawn-same : Same (withdrawing h n .after) (withdrawing k n .after)
+  withdrawn-same = record { alike = withdrawing-alike h k (s .alike) n .after; texts = withdrawing-texts h n ∙ s .texts ∙ sym (withdrawing-texts k n) }
+
+  withdrawn-heard : answer h (withdraw n) ≡ answer k (withdraw n)
+  unfolding answer
+  withdrawn-heard = ap withdrew (withdrawing-alike h k (s .alike) n .answer)
+
 -- ---- a run of calls
 
 run-answers : (h k : Held) → Same h k → (cs : List Call) → answers h cs ≡ answers k cs
@@ -71,6 +81,7 @@ run-answers h k s [] = refl
 run-answers h k s (feed l p ∷ cs) = ap₂ (λ (a : Heard) (r : List Heard). a ∷ r) (feeding-heard h k s l p) (run-answers (feeding h l p .after) (feeding k l p .after) (feeding-same h k s l p) cs)
 run-answers h k s (hand t ∷ cs) = ap₂ (λ (a : Heard) (r : List Heard). a ∷ r) (handed-heard h k s t) (run-answers (recording h (onText h t)) (recording k (onText k t)) (handed-same h k s t) cs)
 run-answers h k s (close l ∷ cs) = ap₂ (λ (a : Heard) (r : List Heard). a ∷ r) (closing-heard h k s l) (run-answers (closing h l .after) (closing k l .after) (closing-same h k s l) cs)
+run-answers h k s (withdraw n ∷ cs) = ap₂ (λ (a : Heard) (r : List Heard). a ∷ r) (withdrawn-heard h k s n) (run-answers (withdrawing h n .after) (withdrawing k n .after) (withdrawn-same h k s n) cs)
 
 run-same : (h k : Held) → Same h k → (cs : List Call) → Same (ending h cs) (ending k cs)
 unfolding ending next
@@ -78,6 +89,7 @@ run-same h k s [] = s
 run-same h k s (feed l p ∷ cs) = run-same (feeding h l p .after) (feeding k l p .after) (feeding-same h k s l p) cs
 run-same h k s (hand t ∷ cs) = run-same (recording h (onText h t)) (recording k (onText k t)) (handed-same h k s t) cs
 run-same h k s (close l ∷ cs) = run-same (closing h l .after) (closing k l .after) (closing-same h k s l) cs
+run-same h k s (withdraw n ∷ cs) = run-same (withdrawing h n .after) (withdrawing k n .after) (withdrawn-same h k s n) cs
 
 pub alike-run : (h k : Held) → Alike h k → h .texts ≡ k .texts → (cs : List Call) → SameRun h k cs
 alike-run h k a e cs =

@@ -1,9 +1,10 @@
--- "Whole" is kept: a collection just opened is whole, and feeding and closing a whole one leave it whole.
+-- "Whole" is kept: a collection just opened is whole, and feeding, closing and withdrawing leave a whole one whole.
 --
 --   Whole h             what the test of a whole collection says, as facts
 --   verdict-fits        a tree that a verdict gives is in order, with its lengths, and there is room for it
 --   opening-accepted    what an accepted opening fixes
---   opened-whole, feeding-whole, handed-whole, closing-whole    the calls keep "whole"
+--   opened-good         a collection just opened, its opening being good, is whole
+--   opened-whole, feeding-whole, handed-whole, closing-whole, withdrawing-whole    the calls keep "whole"
 use Prim.Native.Nat.{ℕ, zero, suc, _+_, _≤_, _<_}
 use native.Mathlib.Omega.{arith}
 use mathlib.Core.Path.{_≡_, refl, sym, _∙_, subst}
@@ -11,7 +12,7 @@ use mathlib.Core.Bool.{Bool, true, _&&_, true≢false}
 use mathlib.Core.List.{List, [], _∷_, _++_}
 use lib.Dec.{leb, ltb, eqb}
 use lib.ListN.{length, set, replicate, length-append, length-set, length-replicate}
-use borrow.Author.Tests.{ltb-false, leb-true, le-leb, eqb-true, eqb-false, eq-eqb}
+use borrow.Author.Tests.{ltb-true, ltb-false, leb-true, le-leb, eqb-true, eqb-false, eq-eqb}
 use Rattle.trees.specs.Plain.{every, Answer, refused, gives}
 use Rattle.trees.specs.Names.{namesIn, goodNames}
 use Rattle.trees.specs.Consensus.{recorded}
@@ -20,11 +21,13 @@ use Rattle.trees.specs.Verdict.{Branches, judgedWith}
 use Rattle.trees.specs.Opening.{Numbers, Opening, inRange, goodConstants, storeSize, opening}
 use Rattle.trees.specs.Held.{Held, Lane, holding, overrun, mostText, opened, laneOf, withLane, withTree, longer, newSplits, roomFor, withRoom, verdict, Fed, recording, finishing, feeding, Closed, closing}
 use Rattle.trees.specs.NexusCall.{onText}
+use Rattle.trees.specs.Withdrawing.{withoutAt, withoutTree, Withdrawn, withdrawing}
 use Rattle.trees.specs.Whole.{goodTree, goodBranches, goodLengths, goodLane, goodOpening}
 use Rattle.theorems.specs.WholeHeld.{whole}
 use Rattle.theorems.specs.ListLaws.{by-test, and-left, and-right, and-true}
 use Rattle.theorems.specs.RisingLaws.{rising-true}
-use Rattle.theorems.specs.RecordedLaws.{recorded-more}
+use Rattle.theorems.specs.RecordedLaws.{recorded-more, recorded-within}
+use Rattle.theorems.specs.WithdrawLaws.{without-fewer, without-mem, every-without}
 use Rattle.theorems.specs.LengthVerdictLaws.{with-good}
 use Rattle.theorems.specs.OpeningLaws.{both, named}
 use Rattle.theorems.specs.ConsensusLaws.{good-rising}
@@ -193,6 +196,20 @@ abbrev IfAccepted : Numbers → List ℕ → Answer Opening → Type 0
 IfAccepted x nameList (refused k) = Unit {0}
 IfAccepted x nameList (gives o) = Accepted x nameList o
 
+pub opened-good : (o : Opening) → goodOpening o ≡ true → whole (opened o) ≡ true
+unfolding opened recorded every goodLengths
+opened-good o g =
+    facts-whole (opened o)
+    record {
+      opening-good = g;
+      trees-good = refl;
+      lengths-good = refl;
+      trees-fit = omega arith;
+      splits-fit = omega arith;
+      lanes-count = length-replicate (o .numbers .lanes) (holding []);
+      lanes-good = every-replicate goodLane (o .numbers .lanes) (holding []) empty-good;
+    }
+
 module _ (x : Numbers) (nameList first second : List ℕ) (lent : ℕ) (o : Opening) (e : opening x nameList first second lent ≡ gives o) where
   pub opening-accepted : Accepted x nameList o
   unfolding opening goodOpening
@@ -207,18 +224,7 @@ module _ (x : Numbers) (nameList first second : List ℕ) (lent : ℕ) (o : Open
       (λ a. tt))
 
   pub opened-whole : whole (opened o) ≡ true
-  unfolding opened recorded every goodLengths
-  opened-whole =
-      facts-whole (opened o)
-      record {
-        opening-good = opening-accepted .good;
-        trees-good = refl;
-        lengths-good = refl;
-        trees-fit = omega arith;
-        splits-fit = omega arith;
-        lanes-count = length-replicate (o .numbers .lanes) (holding []);
-        lanes-good = every-replicate goodLane (o .numbers .lanes) (holding []) empty-good;
-      }
+  opened-whole = opened-good o (opening-accepted .good)
 
 -- "After a semicolon the lane is empty either way"
 finishing-whole : (h : Held) (l n : ℕ) (v : Answer Branches) → Whole h → Fits h v → Whole (finishing h l n v .after)
@@ -247,3 +253,31 @@ pub closing-whole : (h : Held) (l : ℕ) → whole h ≡ true → whole (closing
 unfolding closing
 closing-whole h l e =
     by-test (λ (c : Closed). whole (c .after) ≡ true) (ltb l (h .opening .numbers .lanes)) (λ _. facts-whole _ (lane-whole h l (holding []) empty-good (whole-facts h e))) (λ _. e)
+
+lengths-without : (kept k : ℕ) (ts : List (List ℕ)) (xss : List (List Length)) → goodLengths kept ts xss ≡ true → goodLengths kept (withoutAt k ts) (withoutAt k xss) ≡ true
+unfolding goodLengths withoutAt
+lengths-without kept k [] [] e = refl
+lengths-without kept k [] (xs ∷ xss) e = absurd (true≢false (sym e))
+lengths-without kept k (t ∷ ts) [] e = absurd (true≢false (sym e))
+lengths-without kept zero (t ∷ ts) (xs ∷ xss) e = and-right (goodBranches kept t xs) (goodLengths kept ts xss) e
+lengths-without kept (suc k) (t ∷ ts) (xs ∷ xss) e =
+    and-true (and-left (goodBranches kept t xs) (goodLengths kept ts xss) e) (lengths-without kept k ts xss (and-right (goodBranches kept t xs) (goodLengths kept ts xss) e))
+
+withoutTree-whole : (h : Held) (k : ℕ) → k < length (h .trees) → Whole h → Whole (withoutTree h k)
+unfolding withoutTree
+withoutTree-whole h k l w =
+    record {
+      opening-good = w .opening-good;
+      trees-good = every-without (goodTree (h .opening .numbers .taxa)) k (h .trees) (w .trees-good);
+      lengths-good = lengths-without (h .opening .numbers .kept) k (h .trees) (h .lengths) (w .lengths-good);
+      trees-fit = omega (arith, without-fewer k (h .trees) l, w .trees-fit);
+      splits-fit = omega (arith, recorded-within (withoutAt k (h .trees)) (h .trees) (without-mem k (h .trees)), w .splits-fit);
+      lanes-count = w .lanes-count;
+      lanes-good = w .lanes-good;
+    }
+
+pub withdrawing-whole : (h : Held) (k : ℕ) → whole h ≡ true → whole (withdrawing h k .after) ≡ true
+unfolding withdrawing
+withdrawing-whole h k e =
+    by-test (λ (w : Withdrawn). whole (w .after) ≡ true) (ltb k (length (h .trees)))
+    (λ l. facts-whole (withoutTree h k) (withoutTree-whole h k (ltb-true k (length (h .trees)) l) (whole-facts h e))) (λ _. e)

@@ -1,5 +1,5 @@
 -- Lanes make no difference: pieces cut anywhere, between two apostrophes too, and mixed over lanes give what the whole texts give one after
--- another.
+-- another, closings and withdrawals in their places.
 --
 --   whole-text, whole-closing       a whole text on empty lanes: it ends, or its lane is closed; and all lanes are empty again
 --   same-run                        from pending bytes on, a run comes to what its whole texts come to
@@ -21,16 +21,17 @@ use Rattle.trees.specs.Text.{semicolon, openAfter, hasEnd, beforeEnd}
 use Rattle.trees.specs.Opening.{Opening}
 use Rattle.trees.specs.Questions.{collisionsOf}
 use Rattle.trees.specs.Held.{Held, Lane, opened, longer, finished, closed}
+use Rattle.trees.specs.Withdrawing.{withdrawing}
 use Rattle.theorems.specs.ListLaws.{if-true, if-false}
 use Rattle.theorems.specs.OpeningLaws.{every-getD}
 use Rattle.theorems.specs.HeldLaws.{every-set, every-replicate}
-use Rattle.trees.specs.Runs.{Call, feed, hand, close, answers, ending, closedWith, finals, endsIn, textsAfter, wholeTexts, onLane, onOneLane}
+use Rattle.trees.specs.Runs.{Call, feed, hand, close, withdraw, answers, ending, closedWith, withdrawnWith, finals, endsIn, textsAfter, wholeTexts, onLane, onOneLane}
 use Rattle.theorems.specs.RunLaws.{ending-opening}
 use Rattle.theorems.specs.Alike.{SameAnswers}
-use Rattle.theorems.specs.AlikeLaws.{questions-alike}
+use Rattle.theorems.specs.AlikeLaws.{same-alike, same-collisions, questions-alike}
 use Rattle.theorems.specs.QuoteLaws.{before-unended, before-end, has-end}
 use Rattle.theorems.specs.PieceLaws.{text, map-replicate, set-replicate, getD-all, unended, unended-append, closed-append}
-use Rattle.theorems.specs.OutcomeLaws.{Trees, Outcome, outcome, noted, shut, state, partOf, grown, judgement, outcome-hand, outcome-text, outcome-more, outcome-no-lane, outcome-closed, outcome-not-closed}
+use Rattle.theorems.specs.OutcomeLaws.{Trees, treesOf, Outcome, outcome, noted, shut, state, partOf, grown, judgement, outcome-hand, outcome-text, outcome-more, outcome-no-lane, outcome-closed, outcome-not-closed, outcome-withdrawn}
 
 module _ (o : Opening) where
   -- ---- a whole text, all lanes being empty
@@ -165,6 +166,11 @@ module _ (o : Opening) where
         go : (b : Bool) → ltb l (o .numbers .lanes) ≡ b → AsWhole cs → outcome (state o ts us) (close l ∷ cs) ≡ outcome (state o ts empty) (moved (textsAfter us (close l ∷ cs)))
         go true e r = run-closing l cs r ts us d e
         go false e r = run-no-closing l cs r ts us d e
+    same-run (withdraw k ∷ cs) ts us d =
+        let w = withdrawing (state o ts []) k in
+        outcome-withdrawn o ts us k cs
+        ∙ ap (λ (r : Outcome). (withdrawnWith (w .answer) ∷ r .0, r .1)) (same-run cs (treesOf (w .after)) us d)
+        ∙ sym (outcome-withdrawn o ts empty k (moved (textsAfter us cs)))
 
     opened-run : (cs : List Call) → outcome (opened o) cs ≡ outcome (opened o) (moved (wholeTexts (o .numbers .lanes) cs))
     unfolding wholeTexts
@@ -190,6 +196,7 @@ own-lanes [] = refl
 own-lanes (feed l p ∷ cs) = ap (λ (ds : List Call). feed l p ∷ ds) (own-lanes cs)
 own-lanes (hand t ∷ cs) = ap (λ (ds : List Call). hand t ∷ ds) (own-lanes cs)
 own-lanes (close l ∷ cs) = ap (λ (ds : List Call). close l ∷ ds) (own-lanes cs)
+own-lanes (withdraw k ∷ cs) = ap (λ (ds : List Call). withdraw k ∷ ds) (own-lanes cs)
 
 module _ (o : Opening) (cs : List Call) where
   pub lanes-make-no-difference : (finals (answers (opened o) cs) ≡ finals (answers (opened o) (wholeTexts (o .numbers .lanes) cs)))
@@ -220,16 +227,9 @@ module _ (o : Opening) (cs : List Call) where
 
   pub questions-make-no-difference : SameAnswers (ending (opened o) cs) (ending (opened o) (wholeTexts (o .numbers .lanes) cs))
   questions-make-no-difference =
-      questions-alike (ending (opened o) cs) (ending (opened o) (wholeTexts (o .numbers .lanes) cs)) (record {
-        names = λ i. same-opening i .names;
-        lanes = λ i. same-opening i .numbers .lanes;
-        treeRoom = λ i. same-opening i .numbers .treeRoom;
-        splitRoom = λ i. same-opening i .numbers .splitRoom;
-        kept = λ i. same-opening i .numbers .kept;
-        trees = lanes-make-no-difference .1;
-        lengths = lanes-make-no-difference .2;
-      })
+      let h = ending (opened o) cs in
+      let k = ending (opened o) (wholeTexts (o .numbers .lanes) cs) in
+      questions-alike h k (same-alike h k same-opening (lanes-make-no-difference .1) (lanes-make-no-difference .2))
 
   pub collisions-make-no-difference : collisionsOf (ending (opened o) cs) ≡ collisionsOf (ending (opened o) (wholeTexts (o .numbers .lanes) cs))
-  unfolding collisionsOf
-  collisions-make-no-difference = λ i. collisionsOf (record { opening = same-opening i; trees = lanes-make-no-difference .1 i; lengths = []; texts = [] })
+  collisions-make-no-difference = same-collisions (ending (opened o) cs) (ending (opened o) (wholeTexts (o .numbers .lanes) cs)) same-opening (lanes-make-no-difference .1)

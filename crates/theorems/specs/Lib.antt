@@ -30,6 +30,7 @@ pub mod WrittenLaws
 pub mod FeedingLaws
 pub mod WrittenFedLaws
 pub mod RecordedLaws
+pub mod WithdrawLaws
 pub mod WholeHeld
 pub mod HeldLaws
 pub mod MetricLaws
@@ -50,6 +51,9 @@ pub mod FaultLaws
 pub mod LengthVerdictLaws
 pub mod RefusingLaws
 pub mod RefusalNumberLaws
+pub mod Remaining
+pub mod AfreshLaws
+pub mod RoomAgainLaws
 pub mod NotKeptLaws
 pub mod EdgeLaws
 pub mod EdgeLengthLaws
@@ -68,6 +72,8 @@ pub mod NexusSoundLaws
 pub mod NexusLaws
 pub mod NexusTextLaws
 pub mod NexusFedLaws
+pub mod UnendedLaws
+pub mod ThroughLaneLaws
 pub mod NexusCallLaws
 pub mod NexusFile
 pub mod NexusFileLaws

@@ -5,7 +5,7 @@
 --   by-elim P b     so it is where the choice is written as cases
 --   less-or-not, equal-or-not     two numbers compared
 --   same-bool       two tests are equal where each passes with the other
---   mem-getD        what stands in a list is a member
+--   mem-stands, mem-getD, mem-where     what stands in a list is a member, and each member stands somewhere
 --   map-append, map-same, map-back     a list with a function on each
 --   keep-append     the members of two lists that pass a test
 --   keep-step, keep-most     how many pass a test: one member more, and never more than there are
@@ -86,10 +86,17 @@ abbrev pub Mem : {A : Type 0} → A → List A → Type 0
 Mem x [] = ⊥
 Mem x (y ∷ l) = (x ≡ y) ⊎ Mem x l
 
+pub mem-stands : {A : Type 0} (l : List A) (j : ℕ) (d : A) → j < length l → Mem (getD l j d) l
+mem-stands [] j d h = absurd (omega arith)
+mem-stands (x ∷ l) zero d h = inl refl
+mem-stands (x ∷ l) (suc j) d h = inr (mem-stands l j d (omega arith))
+
 pub mem-getD : (l : List ℕ) (j : ℕ) → j < length l → Mem (getD l j 0) l
-mem-getD [] j h = absurd (omega arith)
-mem-getD (x ∷ l) zero h = inl refl
-mem-getD (x ∷ l) (suc j) h = inr (mem-getD l j (omega arith))
+mem-getD l j h = mem-stands l j 0 h
+
+pub mem-where : {A : Type 0} (l : List A) (y d : A) → Mem y l → (i : ℕ) × (i < length l) × (getD l i d ≡ y)
+mem-where (x ∷ l) y d (inl e) = (0, omega arith, sym e)
+mem-where (x ∷ l) y d (inr m) = let r = mem-where l y d m in (suc (r .0), omega (arith, r .1), r .2)
 
 pub mem-left : {A : Type 0} (x : A) (l k : List A) → Mem x l → Mem x (l ++ k)
 mem-left x (y ∷ l) k (inl e) = inl e

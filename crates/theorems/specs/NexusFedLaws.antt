@@ -3,6 +3,7 @@
 --   heardVerdict a, heardTaken a     the verdict that an answer is, as a number; how many bytes it took
 --   fedTo l ts          the texts ts fed to lane l, each with its semicolon
 --   handing-lanes       handing in texts changes no lane
+--   text-after, text-heard     a text with its semicolon, fed to an empty lane, leaves and answers what it does handed in
 --   EmptyLane h l       the lane l is there, and empty
 --   FedAs h l ts b      the verdicts and the collection of b are those of the texts ts fed to lane l, each taken whole
 --   handing-as-feeding     texts in which none ends, handed in, are so fed
@@ -21,7 +22,7 @@ use Rattle.trees.specs.Names.{different}
 use Rattle.trees.specs.Verdict.{Branches}
 use Rattle.trees.specs.Held.{Held, Lane, holding, laneOf, withLane, openIn, longer, verdict, Fed, finished, recording, finishing, feeding}
 use Rattle.trees.specs.Batch.{verdictNumber, Batched, withVerdict}
-use Rattle.trees.specs.Runs.{Call, feed, Heard, fed, closedLane, answer, next, answers, ending}
+use Rattle.trees.specs.Runs.{Call, feed, Heard, fed, closedLane, withdrew, answer, next, answers, ending}
 use Rattle.trees.specs.Nexus.{File, IsNexus}
 use Rattle.trees.specs.NexusReading.{readFile}
 use Rattle.trees.specs.NexusCall.{keysOf, plainTexts, onText, handing, handedIn, nexus}
@@ -39,10 +40,12 @@ unfoldable pub heardVerdict : Heard → ℕ
 unfolding verdictNumber
 heardVerdict (fed n a) = verdictNumber a
 heardVerdict (closedLane a) = 0
+heardVerdict (withdrew a) = 0
 
 unfoldable pub heardTaken : Heard → ℕ
 heardTaken (fed n a) = n
 heardTaken (closedLane a) = 0
+heardTaken (withdrew a) = 0
 
 abbrev pub fedTo : ℕ → List (List ℕ) → List Call
 fedTo l ts = map (λ t. feed l (t ++ semicolon ∷ [])) ts
@@ -71,7 +74,7 @@ pub record EmptyLane (h : Held) (l : ℕ) : Type 0 where
   pub there : ltb l (h .opening .numbers .lanes) ≡ true
   pub empty : laneOf h l ≡ holding []
 
-empty-kept : (h : Held) (l : ℕ) (v : Answer Branches) → EmptyLane h l → EmptyLane (recording h v) l
+pub empty-kept : (h : Held) (l : ℕ) (v : Answer Branches) → EmptyLane h l → EmptyLane (recording h v) l
 unfolding laneOf
 empty-kept h l v e =
     record {
@@ -96,11 +99,11 @@ module _ (h : Held) (l : ℕ) (e : EmptyLane h l) (t : List ℕ) (u : Unended t)
       feeding-by h l (t ++ 59 ∷ []) ∙ ap₂ (λ (x y : Bool). feedingBy x y h l (t ++ 59 ∷ [])) (e .there) text-ends
       ∙ ap₂ (λ (w : List ℕ) (x : Lane). finishing h l (suc (length w)) (verdict h (longer x w))) text-before (e .empty)
 
-  text-after : feeding h l (t ++ 59 ∷ []) .after ≡ recording h (onText h t)
+  pub text-after : feeding h l (t ++ 59 ∷ []) .after ≡ recording h (onText h t)
   unfolding finishing
   text-after = ap (λ (r : Fed). r .after) text-fed ∙ lane-emptied (recording h (onText h t)) l (empty-kept h l (onText h t) e .empty)
 
-  text-heard : answer h (feed l (t ++ 59 ∷ [])) ≡ fed (suc (length t)) (finished h (onText h t))
+  pub text-heard : answer h (feed l (t ++ 59 ∷ [])) ≡ fed (suc (length t)) (finished h (onText h t))
   unfolding answer finishing
   text-heard = ap (λ (r : Fed). fed (r .taken) (r .answer)) text-fed
 

@@ -8,6 +8,7 @@
 --   outcome-hand        a text that is handed in
 --   outcome-text, outcome-more, outcome-closed    one call to a lane
 --   outcome-no-lane, outcome-not-closed           one call to a lane that does not exist
+--   outcome-withdrawn   a withdrawal: it does not depend on what the lanes hold, either
 use Prim.Native.Nat.{ℕ, suc}
 use mathlib.Core.Path.{_≡_, refl, ap, ap₂, sym, _∙_}
 use mathlib.Core.Bool.{Bool, true, false}
@@ -21,8 +22,10 @@ use Rattle.trees.specs.Opening.{Opening}
 use Rattle.trees.specs.Verdict.{Branches}
 use Rattle.trees.specs.Held.{Held, Lane, holding, laneOf, withLane, withTree, openIn, longer, verdict, Progress, moreWanted, accepted, Fed, finished, recording, finishing, feeding, Closed, closed, closing}
 use Rattle.trees.specs.NexusCall.{onText}
+use Rattle.trees.specs.Withdrawing.{withoutTree, Withdrawn, withdrawing}
 use Rattle.theorems.specs.FeedingLaws.{endsAt, lastPart, feedingBy, feeding-by, closingBy, closing-by}
-use Rattle.trees.specs.Runs.{Call, feed, hand, close, fed, answer, next, answers, ending, Final, acceptedAs, refusedWith, closedWith, finals, endsIn}
+use Rattle.trees.specs.Runs.{Call, feed, hand, close, withdraw, fed, answer, next, answers, ending, Final, acceptedAs, refusedWith, closedWith, withdrawnWith, finals, endsIn}
+use Rattle.theorems.specs.WithdrawLaws.{withdrawingBy, withdrawing-by}
 use Rattle.theorems.specs.Alike.{Alike}
 use Rattle.theorems.specs.AlikeLaws.{verdict-alike}
 use Rattle.theorems.specs.PieceLaws.{longer-longer, text, open-text, map-set}
@@ -66,6 +69,14 @@ shut c cs = (closedWith (c .answer) ∷ outcome (c .after) cs .0, outcome (c .af
 pub outcome-close : (h : Held) (l : ℕ) (cs : List Call) → outcome h (close l ∷ cs) ≡ shut (closing h l) cs
 unfolding outcome answer next
 outcome-close h l cs = refl
+
+-- a withdrawal's answer, and then the rest of the run
+abbrev pub drawn : Withdrawn → List Call → Outcome
+drawn w cs = (withdrawnWith (w .answer) ∷ outcome (w .after) cs .0, outcome (w .after) cs .1)
+
+outcome-withdraw : (h : Held) (k : ℕ) (cs : List Call) → outcome h (withdraw k ∷ cs) ≡ drawn (withdrawing h k) cs
+unfolding outcome answer next
+outcome-withdraw h k cs = refl
 
 -- ---- a collection whose lanes hold pending bytes
 
@@ -195,3 +206,21 @@ module _ (o : Opening) where
 
     pub outcome-not-closed : (cs : List Call) → ltb l (o .numbers .lanes) ≡ false → outcome (state ts us) (close l ∷ cs) ≡ shut (record { answer = refused 5; after = state ts us }) cs
     outcome-not-closed cs e = outcome-close (state ts us) l cs ∙ ap (λ (c : Closed). shut c cs) (closing-by (state ts us) l ∙ ap (λ b. closingBy b (state ts us) l) e)
+
+  module _ (ts : Trees) (us : List (List ℕ)) (k : ℕ) where
+    -- what withdrawing tree k answers and leaves
+    abbrev pub drawnFrom : Withdrawn
+    drawnFrom = let w = withdrawing (state ts []) k in record { answer = w .answer; after = state (treesOf (w .after)) us }
+
+    state-withdrawing : withdrawing (state ts us) k ≡ drawnFrom
+    unfolding withoutTree
+    state-withdrawing =
+        withdrawing-by (state ts us) k ∙ go (ltb k (length (ts .0)))
+        ∙ ap (λ (w : Withdrawn). record { answer = w .answer; after = state (treesOf (w .after)) us }) (sym (withdrawing-by (state ts []) k))
+      where
+        go : (b : Bool) → withdrawingBy b (state ts us) k ≡ (let w = withdrawingBy b (state ts []) k in record { answer = w .answer; after = state (treesOf (w .after)) us })
+        go true = refl
+        go false = refl
+
+    pub outcome-withdrawn : (cs : List Call) → outcome (state ts us) (withdraw k ∷ cs) ≡ drawn drawnFrom cs
+    outcome-withdrawn cs = outcome-withdraw (state ts us) k cs ∙ ap (λ (w : Withdrawn). drawn w cs) state-withdrawing

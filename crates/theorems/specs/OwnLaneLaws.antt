@@ -22,7 +22,7 @@ use Rattle.trees.specs.Verdict.{Branches}
 use Rattle.trees.specs.Held.{Held, Lane, holding, laneOf, withLane, withTree, openIn, longer, verdict, Fed, recording, finishing, feeding, Closed, closing}
 use Rattle.theorems.specs.FeedingLaws.{endsAt, lastPart, feedingBy, feeding-by, closingBy, closing-by}
 use Rattle.theorems.specs.Alike.{Alike, SaveOthers}
-use Rattle.theorems.specs.AlikeLaws.{feeding-alike, closing-alike}
+use Rattle.theorems.specs.AlikeLaws.{same-alike, feeding-alike, closing-alike}
 
 -- ---- what a call leaves of the opening and of the lanes
 
@@ -132,16 +132,7 @@ after-same-lane false xs ys l x s = s
 
 module _ (l : ℕ) (h k : Held) (s : SaveOthers l h k) where
   save-alike : Alike h k
-  save-alike =
-      record {
-        names = λ i. s .opening i .names;
-        lanes = λ i. s .opening i .numbers .lanes;
-        treeRoom = λ i. s .opening i .numbers .treeRoom;
-        splitRoom = λ i. s .opening i .numbers .splitRoom;
-        kept = λ i. s .opening i .numbers .kept;
-        trees = s .trees;
-        lengths = s .lengths;
-      }
+  save-alike = same-alike h k (s .opening) (s .trees) (s .lengths)
 
   -- the lanes after a call that leaves x in h's lane l and y, which is x, in k's
   save-lanes : (x y : Lane) → x ≡ y → SameLane l (lanesAfter (ltb l (h .opening .numbers .lanes)) (h .texts) l x) (lanesAfter (ltb l (k .opening .numbers .lanes)) (k .texts) l y)

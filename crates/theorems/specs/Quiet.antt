@@ -10,14 +10,16 @@ use mathlib.Core.List.{List, [], _∷_}
 use lib.ListN.{length}
 use Rattle.trees.specs.Text.{hasEnd}
 use Rattle.trees.specs.Held.{Held, laneOf, openIn}
-use Rattle.trees.specs.Runs.{Call, feed, hand, close, next}
+use Rattle.trees.specs.Runs.{Call, feed, hand, close, withdraw, next}
 
--- a piece to lane j ends no text behind what the lane got so far, and lane j is not closed; calls to other lanes and NEXUS files are free
+-- a piece to lane j ends no text behind what the lane got so far, and lane j is not closed; calls to other lanes, NEXUS files and
+-- withdrawals are free
 unfoldable pub Leaves : ℕ → Held → Call → Type 0
 unfolding hasEnd openIn laneOf
 Leaves j h (feed l p) = l ≡ j → hasEnd (openIn (laneOf h l)) p ≡ false
 Leaves j h (hand t) = Unit {0}
 Leaves j h (close l) = l ≡ j → ⊥
+Leaves j h (withdraw k) = Unit {0}
 
 unfoldable pub Quiet : ℕ → Held → List Call → Type 0
 unfolding Leaves next

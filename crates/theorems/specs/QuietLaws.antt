@@ -15,10 +15,12 @@ use borrow.Author.Tests.{eqb-true, eqb-false}
 use Rattle.trees.specs.Plain.{Answer}
 use Rattle.trees.specs.Held.{Held, Lane, holding, Progress, laneOf, recording, Fed, feeding, closing}
 use Rattle.trees.specs.NexusCall.{onText}
+use Rattle.trees.specs.Withdrawing.{withdrawing}
 use Rattle.trees.specs.Questions.{collisionsOf}
-use Rattle.trees.specs.Runs.{Call, feed, hand, close, Heard, fed, closedLane, answer, next, answers, ending}
+use Rattle.trees.specs.Runs.{Call, feed, hand, close, withdraw, Heard, fed, closedLane, withdrew, answer, next, answers, ending}
 use Rattle.theorems.specs.Alike.{Alike, SaveOthers, SameAnswers}
-use Rattle.theorems.specs.AlikeLaws.{judged-alike, recorded-alike, questions-alike}
+use Rattle.theorems.specs.AlikeLaws.{same-alike, same-collisions, judged-alike, recorded-alike, withdrawing-alike, questions-alike}
+use Rattle.theorems.specs.WithdrawLaws.{withdrawing-opening, withdrawing-texts}
 use Rattle.theorems.specs.FeedingLaws.{endsAt, feedingBy, feeding-by}
 use Rattle.theorems.specs.OwnLaneLaws.{laneAfter, lanesAfter, recording-opening, recording-texts, feeding-opening, feeding-texts, unfinished-keeps-trees, unfinished-keeps-lengths, other-lanes-kept, other-lanes-kept-closing, own-lane-only, own-lane-only-closing}
 use Rattle.theorems.specs.Quiet.{Leaves, Quiet, SaveLane}
@@ -107,18 +109,10 @@ module _ (j : ℕ) (h k : Held) (s : SaveLane j h k) where
     },
   )
 
--- ---- a text that is handed in
+-- ---- a text that is handed in, and a withdrawal
 
 save-alike : (j : ℕ) (h k : Held) → SaveLane j h k → Alike h k
-save-alike j h k s = record {
-  names = λ i. s .opening i .names;
-  lanes = λ i. s .opening i .numbers .lanes;
-  treeRoom = λ i. s .opening i .numbers .treeRoom;
-  splitRoom = λ i. s .opening i .numbers .splitRoom;
-  kept = λ i. s .opening i .numbers .kept;
-  trees = s .trees;
-  lengths = s .lengths;
-}
+save-alike j h k s = same-alike h k (s .opening) (s .trees) (s .lengths)
 
 module _ (j : ℕ) (h k : Held) (s : SaveLane j h k) (t : List ℕ) where
   lane-kept : (x : Held) (i : ℕ) → laneOf (recording x (onText x t)) i ≡ laneOf x i
@@ -138,6 +132,25 @@ module _ (j : ℕ) (h k : Held) (s : SaveLane j h k) (t : List ℕ) where
     },
   )
 
+module _ (j : ℕ) (h k : Held) (s : SaveLane j h k) (n : ℕ) where
+  lane-stays : (x : Held) (i : ℕ) → laneOf (withdrawing x n .after) i ≡ laneOf x i
+  unfolding laneOf
+  lane-stays x i = ap (λ (xs : List Lane). getD xs i (holding [])) (withdrawing-texts x n)
+
+  unseen-withdrawn : Unseen j h k (withdraw n)
+  unfolding answer next
+  unseen-withdrawn =
+      let w = withdrawing-alike h k (save-alike j h k s) n in (
+        ap withdrew (w .answer),
+        record {
+          opening = withdrawing-opening h n ∙ s .opening ∙ sym (withdrawing-opening k n);
+          trees = w .after .trees;
+          lengths = w .after .lengths;
+          lanes = ap length (withdrawing-texts h n) ∙ s .lanes ∙ sym (ap length (withdrawing-texts k n));
+          others = λ i g. lane-stays h i ∙ s .others i g ∙ sym (lane-stays k i);
+        },
+      )
+
 -- ---- a run
 
 unseen : (j : ℕ) (h k : Held) → SaveLane j h k → (c : Call) → Leaves j h c → Leaves j k c → Unseen j h k c
@@ -149,6 +162,7 @@ unseen j h k s (feed l p) q r =
     (λ f. unseen-fed j h k s l f p)
 unseen j h k s (hand t) q r = unseen-handed j h k s t
 unseen j h k s (close l) q r = unseen-closed j h k s l q
+unseen j h k s (withdraw n) q r = unseen-withdrawn j h k s n
 
 pub quiet-run : (j : ℕ) (cs : List Call) (h k : Held) → SaveLane j h k → Quiet j h cs → Quiet j k cs → (answers h cs ≡ answers k cs) × SaveLane j (ending h cs) (ending k cs)
 unfolding answers ending Quiet
@@ -164,8 +178,7 @@ pub save-questions : (j : ℕ) (h k : Held) → SaveLane j h k → SameAnswers h
 save-questions j h k s = questions-alike h k (save-alike j h k s)
 
 pub save-collisions : (j : ℕ) (h k : Held) → SaveLane j h k → collisionsOf h ≡ collisionsOf k
-unfolding collisionsOf
-save-collisions j h k s = λ i. collisionsOf (record { opening = s .opening i; trees = s .trees i; lengths = []; texts = [] })
+save-collisions j h k s = same-collisions h k (s .opening) (s .trees)
 
 module _ (j : ℕ) (cs : List Call) (h k : Held) (s : SaveLane j h k) (q : Quiet j h cs) (r : Quiet j k cs) where
   pub quiet-questions : SameAnswers (ending h cs) (ending k cs)

@@ -1,9 +1,11 @@
--- How many splits are recorded behind one more tree.
+-- How many splits are recorded: behind one more tree, and of fewer trees.
 --
 --   fresh l t           the masks of t that are not in l
 --   recorded-append     behind one more tree, its splits are put in
 --   recorded-more       so its new splits are recorded besides
-use Prim.Native.Nat.{ℕ, suc, _+_}
+--   recorded-within     of trees that are all among others, no more are recorded than of those
+--   recorded-same       of the same trees, in whatever order, the same are recorded
+use Prim.Native.Nat.{ℕ, suc, _+_, _≤_}
 use native.Mathlib.Omega.{arith}
 use mathlib.Core.Path.{_≡_, refl, ap, sym, _∙_, subst}
 use mathlib.Core.Logic.{_⊎_, inl, inr, ⊎-elim}
@@ -16,7 +18,7 @@ use Rattle.trees.specs.Plain.{if_then_else_, keep, member}
 use Rattle.trees.specs.Splits.{insert}
 use Rattle.trees.specs.Consensus.{insertAll, recorded}
 use Rattle.theorems.specs.ListLaws.{by-test, Mem, mem-left, mem-right, mem-cases, member-mem, not-member}
-use Rattle.theorems.specs.RisingLaws.{Rising, rising-same, insert-mem, mem-insert, insert-rising, insertAll-rising, insertAll-mem, mem-insertAll, recorded-rising, recorded-mem, mem-recorded}
+use Rattle.theorems.specs.RisingLaws.{Rising, rising-same, rising-within, insert-mem, mem-insert, insert-rising, insertAll-rising, insertAll-mem, mem-insertAll, recorded-rising, recorded-mem, mem-recorded}
 
 -- ---- one mask
 
@@ -67,3 +69,14 @@ recorded-append ts t =
 
 pub recorded-more : (ts : List (List ℕ)) (t : List ℕ) → Rising t → length (recorded (ts ++ t ∷ [])) ≡ length (recorded ts) + length (fresh (recorded ts) t)
 recorded-more ts t r = ap length (recorded-append ts t) ∙ insertAll-length t (recorded ts) r (recorded-rising ts)
+
+-- ---- fewer trees
+
+more-recorded : (ts us : List (List ℕ)) → ((t : List ℕ) → Mem t ts → Mem t us) → (y : ℕ) → Mem y (recorded ts) → Mem y (recorded us)
+more-recorded ts us f y h = let r = recorded-mem ts y h in mem-recorded us (r .0) y (f (r .0) (r .1)) (r .2)
+
+pub recorded-within : (ts us : List (List ℕ)) → ((t : List ℕ) → Mem t ts → Mem t us) → length (recorded ts) ≤ length (recorded us)
+recorded-within ts us f = rising-within (recorded ts) (recorded us) (recorded-rising ts) (recorded-rising us) (more-recorded ts us f)
+
+pub recorded-same : (ts us : List (List ℕ)) → ((t : List ℕ) → Mem t ts → Mem t us) → ((t : List ℕ) → Mem t us → Mem t ts) → recorded ts ≡ recorded us
+recorded-same ts us f g = rising-same (recorded ts) (recorded us) (recorded-rising ts) (recorded-rising us) (more-recorded ts us f) (more-recorded us ts g)

@@ -21,12 +21,14 @@ use Rattle.trees.specs.Opening.{Numbers, Opening, opening}
 use Rattle.trees.specs.Verdict.{Branches}
 use Rattle.trees.specs.Held.{Held, Lane, holding, opened, laneOf, longer, verdict, Progress, moreWanted, accepted, Fed, finished, recording, finishing, feeding, closing}
 use Rattle.trees.specs.NexusCall.{onText}
+use Rattle.trees.specs.Withdrawing.{withdrawing}
 use Rattle.theorems.specs.WholeHeld.{whole}
-use Rattle.theorems.specs.HeldLaws.{opened-whole, feeding-whole, handed-whole, closing-whole}
+use Rattle.theorems.specs.HeldLaws.{opened-whole, feeding-whole, handed-whole, closing-whole, withdrawing-whole}
+use Rattle.theorems.specs.WithdrawLaws.{withdrawing-opening, withdrawing-texts}
 use Rattle.theorems.specs.FeedingLaws.{endsAt, lastPart, feedingBy, feeding-by}
 use Rattle.theorems.specs.OwnLaneLaws.{laneAfter, lanesAfter, recording-opening, recording-texts, feeding-opening, feeding-texts, closing-opening, closing-texts}
 use Rattle.theorems.specs.PieceLaws.{longer-longer, text, open-text, map-set, map-replicate}
-use Rattle.trees.specs.Runs.{Call, feed, hand, close, Heard, answer, next, answers, ending, endsIn, pendingAfter}
+use Rattle.trees.specs.Runs.{Call, feed, hand, close, withdraw, Heard, answer, next, answers, ending, endsIn, pendingAfter}
 
 -- ---- which answers are verdicts
 
@@ -73,6 +75,7 @@ ending-opening h [] = refl
 ending-opening h (feed l p ∷ cs) = ending-opening (feeding h l p .after) cs ∙ feeding-opening h l p
 ending-opening h (hand t ∷ cs) = ending-opening (recording h (onText h t)) cs ∙ recording-opening h (onText h t)
 ending-opening h (close l ∷ cs) = ending-opening (closing h l .after) cs ∙ closing-opening h l
+ending-opening h (withdraw k ∷ cs) = ending-opening (withdrawing h k .after) cs ∙ withdrawing-opening h k
 
 pub ending-whole : (h : Held) (cs : List Call) → whole h ≡ true → whole (ending h cs) ≡ true
 unfolding ending next
@@ -80,6 +83,7 @@ ending-whole h [] w = w
 ending-whole h (feed l p ∷ cs) w = ending-whole (feeding h l p .after) cs (feeding-whole h l p w)
 ending-whole h (hand t ∷ cs) w = ending-whole (recording h (onText h t)) cs (handed-whole h t w)
 ending-whole h (close l ∷ cs) w = ending-whole (closing h l .after) cs (closing-whole h l w)
+ending-whole h (withdraw k ∷ cs) w = ending-whole (withdrawing h k .after) cs (withdrawing-whole h k w)
 
 pub run-whole : (x : Numbers) (nameList first second : List ℕ) (lent : ℕ) (o : Opening) → opening x nameList first second lent ≡ gives o → (cs : List Call) → whole (ending (opened o) cs) ≡ true
 run-whole x nameList first second lent o e cs = ending-whole (opened o) cs (opened-whole x nameList first second lent o e)
@@ -132,12 +136,16 @@ holds-handed h us d t =
       lanes = recording-texts h (onText h t) ∙ d .lanes;
     }
 
+holds-withdrawn : (h : Held) (us : List (List ℕ)) → Holds h us → (k : ℕ) → Holds (withdrawing h k .after) us
+holds-withdrawn h us d k = record { many = d .many ∙ λ i. sym (withdrawing-opening h k) i .numbers .lanes; lanes = withdrawing-texts h k ∙ d .lanes }
+
 holds-after : (h : Held) (us : List (List ℕ)) → Holds h us → (cs : List Call) → Holds (ending h cs) (pendingAfter us cs)
 unfolding ending next pendingAfter
 holds-after h us d [] = d
 holds-after h us d (feed l p ∷ cs) = holds-after (feeding h l p .after) (set us l (if endsIn us l p then [] else getD us l [] ++ p)) (holds-fed h us d l p) cs
 holds-after h us d (hand t ∷ cs) = holds-after (recording h (onText h t)) us (holds-handed h us d t) cs
 holds-after h us d (close l ∷ cs) = holds-after (closing h l .after) (set us l []) (holds-closed h us d l) cs
+holds-after h us d (withdraw k ∷ cs) = holds-after (withdrawing h k .after) us (holds-withdrawn h us d k) cs
 
 pub lanes-hold-pending : (o : Opening) (cs : List Call) → ending (opened o) cs .texts ≡ map (longer (holding [])) (pendingAfter (replicate (o .numbers .lanes) []) cs)
 unfolding opened longer

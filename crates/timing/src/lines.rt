@@ -31,7 +31,19 @@ pub(crate) fn times_in(line: &[u8]) -> u64 {
     n
 }
 
-// The first byte of a line, which names a part; 0 where there is none.
+// The byte that names the part of a line: the first, but x for `withdraw`, which begins as `whole` does.
+pub(crate) fn part_of(line: &[u8]) -> u8 {
+    if 1 < line.len() {
+        if line[0] == b'w' {
+            if line[1] == b'i' {
+                return b'x';
+            }
+        }
+    }
+    first_byte(line)
+}
+
+// The first byte of a line; 0 where there is none.
 pub(crate) fn first_byte(line: &[u8]) -> u8 {
     if line.len() == 0 {
         return 0;

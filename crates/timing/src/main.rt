@@ -60,7 +60,7 @@ fn take_kept(wanted: &[u8], names: &[u8], texts: &[u8]) {
 fn make_calls(wanted: &[u8], kept: bool, names: &[u8], texts: &[u8]) {
     let mut store = [0u8; 778760];
     let mut matrix = [0u16; 1048576];
-    let part = lines::first_byte(wanted);
+    let part = lines::part_of(wanted);
     if part == b'a' {
         answered::write_answers(kept, names, texts, &mut store, &mut matrix);
         return;

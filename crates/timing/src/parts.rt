@@ -1,8 +1,9 @@
-// The parts that are timed, each named by its first letter.
+// The parts that are timed, each named by its first letter, or x for `withdraw`.
 use crate::clock;
 use crate::measured;
 use crate::opened;
 use answers::Lane;
+use answers::Tree;
 
 // Fills the collection, makes a part n times, and answers the nanoseconds of one time.
 pub(crate) fn time_part(
@@ -47,7 +48,8 @@ fn make_part(
 }
 
 // Both consensus trees; the weighted distance between the first tree and tree i; the lengths of split i; a text that a full collection
-// refuses with 11; the test that every call makes first; or a plain pass over the store.
+// refuses with 11; withdrawing the first tree, which leaves one fewer each time; the test that every call makes first; or a
+// plain pass over the store.
 fn ask(part: u8, i: usize, texts: &[u8], s: &mut [u8; 778760]) {
     match part {
         b'c' => write_both(s),
@@ -55,6 +57,9 @@ fn ask(part: u8, i: usize, texts: &[u8], s: &mut [u8; 778760]) {
         b'l' => keep(measured::lengths_word(part, s, i), s),
         b'f' => {
             feeding::feed(s, Lane(0), opened::first_text(texts));
+        }
+        b'x' => {
+            withdrawing::withdraw(s, Tree(0));
         }
         b'w' => test(s),
         _ => pass(s),

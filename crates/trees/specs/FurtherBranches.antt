@@ -20,29 +20,10 @@ use Rattle.trees.specs.Held.{Held, holding, opened, verdict}
 use Rattle.trees.specs.Questions.{weightedOf, sumsOf}
 use Rattle.trees.specs.Whole.{goodLengths}
 use Rattle.trees.specs.Samples.{fedWith, collection}
-
--- the doubles 1/2, 1, 2, 3 and 5
-abbrev half : Float
-half = fin false 1 (negsuc 0)
-
-abbrev one : Float
-one = fin false 1 (pos 0)
-
-abbrev two : Float
-two = fin false 1 (pos 1)
-
-abbrev three : Float
-three = fin false 3 (pos 0)
+use Rattle.trees.specs.FurtherSums.{half, one, two, three, large, larger}
 
 abbrev five : Float
 five = fin false 5 (pos 0)
-
--- 2^53, and the next double
-abbrev large : Float
-large = fin false 1 (pos 53)
-
-abbrev larger : Float
-larger = fin false 4503599627370497 (pos 1)
 
 abbrev names : List (List ℕ)
 names = namesIn (bytes "A B C D E")

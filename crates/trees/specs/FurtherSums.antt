@@ -10,30 +10,30 @@ use lib.Ieee.{Float, fin}
 use Rattle.trees.specs.Sums.{plusZero, Sums, sums}
 use Rattle.trees.specs.Weighted.{weighted}
 
-abbrev half : Float
+abbrev pub half : Float
 half = fin false 1 (negsuc 0)
 
 abbrev minusHalf : Float
 minusHalf = fin true 1 (negsuc 0)
 
-abbrev one : Float
+abbrev pub one : Float
 one = fin false 1 (pos 0)
 
-abbrev two : Float
+abbrev pub two : Float
 two = fin false 1 (pos 1)
 
-abbrev three : Float
+abbrev pub three : Float
 three = fin false 3 (pos 0)
 
 -- 2^53: one more is no double
-abbrev large : Float
+abbrev pub large : Float
 large = fin false 1 (pos 53)
 
 abbrev minusLarge : Float
 minusLarge = fin true 1 (pos 53)
 
 -- 2^53 + 2
-abbrev larger : Float
+abbrev pub larger : Float
 larger = fin false 4503599627370497 (pos 1)
 
 -- ---- the weighted distance

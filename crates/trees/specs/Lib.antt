@@ -24,6 +24,7 @@ pub mod Batch
 pub mod Nexus
 pub mod NexusReading
 pub mod NexusCall
+pub mod Withdrawing
 pub mod Runs
 pub mod Samples
 pub mod FurtherTexts
@@ -34,3 +35,4 @@ pub mod FurtherFiles
 pub mod FurtherQuestions
 pub mod FurtherSums
 pub mod FurtherBranches
+pub mod FurtherWithdrawals

@@ -1,0 +1,26 @@
+-- What withdrawing a tree promises, what it makes of a store's parts, and the laws of both.
+pub mod Withdrawn
+pub mod Left
+pub mod WithoutLaws
+pub mod UnlistLaws
+pub mod LeftLaws
+pub mod KeepLaws
+pub mod WithoutRowsLaws
+pub mod LeavingLaws
+pub mod AllStayLaws
+pub mod WithdrawLaws
+pub mod Unlisted
+pub mod CountedLaws
+pub mod MovedTreesLaws
+pub mod UnlistedLaws
+pub mod Moved
+pub mod MovedLaws
+pub mod Dropping
+pub mod LeftInLaws
+pub mod NamingLaws
+pub mod NamedLaws
+pub mod ClosingLaws
+pub mod ColumnLaws
+pub mod PartsAtLaws
+pub mod RowsNamedLaws
+pub mod DroppingLaws
