@@ -31,7 +31,8 @@ use Rattle.answers.specs.declared.Progress.{Progress}
 use Rattle.answers.specs.declared.Progress.the-variants as progress
 
 -- "Refusal numbers"; "15 block malformed, 16 key listed twice"; "17 any length in the text outside the exact range",
--- "18 a length needed is absent or none are kept"
+-- "18 a length needed is absent or none are kept"; "19 length no multiple of 16, 20 record improper or out of order", "21 merge with an empty
+-- file, 22 a sum past 32 bits, 23 two chosen splits disagree"
 unfoldable pub refusalNumber : Refusal → ℕ
 refusalNumber why.NotWhole = 1
 refusalNumber why.OutOfRange = 2
@@ -51,6 +52,11 @@ refusalNumber why.BadBlock = 15
 refusalNumber why.RepeatedKey = 16
 refusalNumber why.InexactLength = 17
 refusalNumber why.NoLength = 18
+refusalNumber why.BadLength = 19
+refusalNumber why.BadRecord = 20
+refusalNumber why.EmptyFile = 21
+refusalNumber why.SumTooLarge = 22
+refusalNumber why.Disagreeing = 23
 
 abbrev pub refusing : {A : Type 0} → Refusal → Answer A
 refusing r = refused (refusalNumber r)

@@ -37,6 +37,11 @@ pub enum Refusal {
     RepeatedKey,
     InexactLength,
     NoLength,
+    BadLength,
+    BadRecord,
+    EmptyFile,
+    SumTooLarge,
+    Disagreeing,
 }
 
 // The answer of a call that gives nothing but that it was done.
@@ -119,6 +124,11 @@ pub fn refusal_number(r: Refusal) -> u32
         Refusal::RepeatedKey => 16,
         Refusal::InexactLength => 17,
         Refusal::NoLength => 18,
+        Refusal::BadLength => 19,
+        Refusal::BadRecord => 20,
+        Refusal::EmptyFile => 21,
+        Refusal::SumTooLarge => 22,
+        Refusal::Disagreeing => 23,
     }
 }
 

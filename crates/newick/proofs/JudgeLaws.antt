@@ -87,6 +87,11 @@ some-number why.BadBlock = omega arith
 some-number why.RepeatedKey = omega arith
 some-number why.InexactLength = omega arith
 some-number why.NoLength = omega arith
+some-number why.BadLength = omega arith
+some-number why.BadRecord = omega arith
+some-number why.EmptyFile = omega arith
+some-number why.SumTooLarge = omega arith
+some-number why.Disagreeing = omega arith
 
 -- leaves without a fault: their taxa are all taxa
 all-seen : (ns : List (List ℕ)) (t : Nodes) → leafFault ns 0 (leaves t) ≡ 0 → taxa ns t ≡ everyTaxon (length ns)

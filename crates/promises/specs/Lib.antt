@@ -29,3 +29,4 @@ pub mod SummaryOutcomes
 pub mod SummarySteps
 pub mod PrintedLaws
 pub mod SummaryLaws
+pub mod SplitFileOutcomes

@@ -66,7 +66,12 @@ refusalOf n =
     else if eqb n 15 then why.BadBlock
     else if eqb n 16 then why.RepeatedKey
     else if eqb n 17 then why.InexactLength
-    else why.NoLength
+    else if eqb n 18 then why.NoLength
+    else if eqb n 19 then why.BadLength
+    else if eqb n 20 then why.BadRecord
+    else if eqb n 21 then why.EmptyFile
+    else if eqb n 22 then why.SumTooLarge
+    else why.Disagreeing
 
 numbered : (r : Refusal) → refusalOf (refusalNumber r) ≡ r
 unfolding refusalOf refusalNumber
@@ -88,6 +93,11 @@ numbered why.BadBlock = refl
 numbered why.RepeatedKey = refl
 numbered why.InexactLength = refl
 numbered why.NoLength = refl
+numbered why.BadLength = refl
+numbered why.BadRecord = refl
+numbered why.EmptyFile = refl
+numbered why.SumTooLarge = refl
+numbered why.Disagreeing = refl
 
 pub refusal-one : (a b : Refusal) → refusalNumber a ≡ refusalNumber b → a ≡ b
 refusal-one a b e = sym (numbered a) ∙ ap refusalOf e ∙ numbered b

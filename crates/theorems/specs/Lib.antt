@@ -35,6 +35,12 @@ pub mod WholeHeld
 pub mod HeldLaws
 pub mod MetricLaws
 pub mod ReadBackLaws
+pub mod SplitFileLaws
+pub mod WrittenFileLaws
+pub mod MergeLaws
+pub mod MergeCallLaws
+pub mod FileConsensusLaws
+pub mod FileRefusalLaws
 pub mod Alike
 pub mod AlikeLaws
 pub mod OwnLaneLaws

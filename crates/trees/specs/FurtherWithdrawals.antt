@@ -24,7 +24,7 @@ abbrev lanes : List Lane
 lanes = holding (bytes "((A,B),C") ∷ overrun true ∷ []
 
 -- full rooms, for three trees and three splits; lengths are kept
-abbrev holdingTrees : List (List ℕ) → List (List Length) → Held
+abbrev pub holdingTrees : List (List ℕ) → List (List Length) → Held
 holdingTrees ts xs = record {
   opening = record {
     numbers = record { taxa = 5; lanes = 2; treeRoom = 3; splitRoom = 3; places = 1; kept = 1 };

@@ -25,6 +25,8 @@ pub mod Nexus
 pub mod NexusReading
 pub mod NexusCall
 pub mod Withdrawing
+pub mod SplitFile
+pub mod SplitFileCall
 pub mod Runs
 pub mod Samples
 pub mod FurtherTexts
@@ -36,3 +38,4 @@ pub mod FurtherQuestions
 pub mod FurtherSums
 pub mod FurtherBranches
 pub mod FurtherWithdrawals
+pub mod FurtherSplitFiles

@@ -76,10 +76,35 @@ returns-18 : tie.Need-returns-18
 unfolding refusalNumber
 returns-18 c = rw (c .enum-told18 .given .1)
 
+returns-19 : tie.Need-returns-19
+unfolding refusalNumber
+returns-19 c = rw (c .enum-told19 .given .1)
+
+returns-20 : tie.Need-returns-20
+unfolding refusalNumber
+returns-20 c = rw (c .enum-told20 .given .1)
+
+returns-21 : tie.Need-returns-21
+unfolding refusalNumber
+returns-21 c = rw (c .enum-told21 .given .1)
+
+returns-22 : tie.Need-returns-22
+unfolding refusalNumber
+returns-22 c = rw (c .enum-told22 .given .1)
+
+returns-23 : tie.Need-returns-23
+unfolding refusalNumber
+returns-23 c = rw (c .enum-told23 .given .1)
+
 pub refusal-number-spec : {M : Type 1} → statement M
 refusal-number-spec =
     tie.close
     (tie.spec
+    (λ c. search needs)
+    (λ c. search needs)
+    (λ c. search needs)
+    (λ c. search needs)
+    (λ c. search needs)
     (λ c. search needs)
     (λ c. search needs)
     (λ c. search needs)
@@ -115,4 +140,9 @@ refusal-number-spec =
     returns-15
     returns-16
     returns-17
-    returns-18)
+    returns-18
+    returns-19
+    returns-20
+    returns-21
+    returns-22
+    returns-23)
