@@ -550,6 +550,89 @@ static u32 consensus(u32 least, char *to)
     return write_tree(list, n, to);
 }
 
+/* ---- split files */
+
+struct record {
+    u64 mask;
+    u32 count, trees;
+};
+
+static struct record file[SPLITS], parts[2][SPLITS], merged[2 * SPLITS];
+static u32 part_sizes[2];
+static u64 masks_read[SPLITS];
+static u32 counts_read[SPLITS];
+
+/* The collection's splits in order of their masks, numbered before. */
+static void write_file(void)
+{
+    for (u32 k = 0; k < splits; k++)
+        file[k] = (struct record){masks[order[k]], counts[order[k]], trees};
+}
+
+/* Two files of its records: some in both, some in one alone, as crate timing makes them. */
+static void make_parts(void)
+{
+    u64 x = 3;
+    part_sizes[0] = part_sizes[1] = 0;
+    for (u32 k = 0; k < splits; k++) {
+        x = x % 2147483647 * 48271 % 2147483647;
+        for (u32 i = 0; i < 2; i++)
+            if (x % 3 != i + 1)
+                parts[i][part_sizes[i]++] = file[k];
+    }
+}
+
+/* The plain pass that reading is held against. */
+static void read_file(void)
+{
+    for (u32 k = 0; k < splits; k++) {
+        masks_read[k] = file[k].mask;
+        counts_read[k] = file[k].count;
+    }
+}
+
+/* The plain pass that merging is held against: the records of both files, one behind the other. */
+static void copy_parts(void)
+{
+    struct record *to = merged;
+    for (u32 i = 0; i < 2; i++)
+        for (u32 k = 0; k < part_sizes[i]; k++)
+            *to++ = parts[i][k];
+}
+
+/* The two files merged, neither of them tested. */
+static void merge_parts(void)
+{
+    const struct record *a = parts[0], *b = parts[1], *a_end = a + part_sizes[0], *b_end = b + part_sizes[1];
+    struct record *to = merged;
+    while (a < a_end || b < b_end) {
+        int first = b == b_end || (a < a_end && a->mask <= b->mask), second = a == a_end || (b < b_end && b->mask <= a->mask);
+        to->mask = first ? a->mask : b->mask;
+        to->count = (first ? a->count : 0) + (second ? b->count : 0);
+        to++->trees = 2 * trees;
+        a += first;
+        b += second;
+    }
+}
+
+static u64 byte_sum(const void *from, u64 bytes)
+{
+    u64 sum = 0, sums = 0;
+    for (const u8 *p = from; p < (const u8 *)from + bytes; p++)
+        sums += sum += *p;
+    return sums;
+}
+
+static u64 read_sum(void)
+{
+    u64 mask_sum = 0, count_sum = 0, sums = 0;
+    for (u32 k = 0; k < SPLITS; k++) {
+        sums += mask_sum += masks_read[k];
+        sums += count_sum += counts_read[k];
+    }
+    return sums;
+}
+
 /* ---- the program */
 
 static char strict_text[4352], majority_text[4352];
@@ -588,12 +671,19 @@ static void answers(u32 n)
     put_text("\nmajority ");
     put_bytes(majority_text, majority_size);
     put_char('\n');
-    if (!kept)
-        return;
-    put_text("weighted ");
-    put_number(weight_sums);
-    put_text("\nlengths ");
-    put_number(length_sums);
+    if (kept) {
+        put_text("weighted ");
+        put_number(weight_sums);
+        put_text("\nlengths ");
+        put_number(length_sums);
+        put_char('\n');
+    }
+    put_text("file ");
+    put_number(byte_sum(file, sizeof file));
+    put_text("\nread ");
+    put_number(read_sum());
+    put_text("\nmerged ");
+    put_number(byte_sum(merged, sizeof merged));
     put_char('\n');
 }
 
@@ -622,10 +712,19 @@ static u32 fill(const u8 *p, const u8 *end)
     return n;
 }
 
+/* The split files of the collection. */
+static void make_files(void)
+{
+    number_splits();
+    write_file();
+    make_parts();
+}
+
 static volatile u64 asked; /* written, so that the compiler leaves nothing out */
 
 /* Makes a part for the i-th time. It is named by its first letter: opening; opening and a batch; all pairs of trees; the weighted distance
- * between the first tree and tree i; the lengths of split i; or both consensus trees. */
+ * between the first tree and tree i; the lengths of split i; the collection's split file, exported or read; two such files united by
+ * copying them, or joined into one; or both consensus trees. */
 static void make_part(u8 part, u32 i, const u8 *p, const u8 *end)
 {
     if (part == 'o')
@@ -638,7 +737,19 @@ static void make_part(u8 part, u32 i, const u8 *p, const u8 *end)
         asked = weight_word(weighted(0, i));
     else if (part == 'l')
         asked = lengths_word(split_lengths(i));
-    else
+    else if (part == 'e') {
+        write_file();
+        asked = file[i % SPLITS].mask;
+    } else if (part == 'r') {
+        read_file();
+        asked = masks_read[i % SPLITS] + counts_read[i % SPLITS];
+    } else if (part == 'u') {
+        copy_parts();
+        asked = merged[i % SPLITS].mask;
+    } else if (part == 'j') {
+        merge_parts();
+        asked = merged[i % SPLITS].mask;
+    } else
         both_trees();
 }
 
@@ -646,6 +757,8 @@ static void make_part(u8 part, u32 i, const u8 *p, const u8 *end)
 static void time_part(u8 part, u64 n, const u8 *p, const u8 *end)
 {
     fill(p, end);
+    if (memchr("eruj", part, 4))
+        make_files();
     long from = clock();
     for (u64 i = 0; i < n; i++)
         make_part(part, (u32)i, p, end);
@@ -729,10 +842,14 @@ int main(void)
         u32 n = fill(p, end);
         write_matrix();
         both_trees();
-        if (*wanted == 'a')
+        if (*wanted == 'a') {
+            make_files();
+            read_file();
+            merge_parts();
             answers(n);
-        else
+        } else {
             text();
+        }
     }
     flush_output();
     return 0;

@@ -6,6 +6,7 @@ use crate::hash::{identifier, place};
 use crate::labels::{first_outside, is_odd, split_outside};
 use crate::nexus::plain_texts;
 use crate::opening::Opening;
+use crate::splitfile::{self, Splits};
 use crate::text::is_blank;
 use crate::verdict::{judge, judge_with_lengths, Lengths, Masks, Tree, MOST_BYTES};
 use crate::weights::{summed, weighted, Summed};
@@ -305,6 +306,50 @@ impl Collection {
 
     pub fn tree_text(&self, number: u64, room: usize) -> Result<Vec<u8>, u32> {
         fitting(written(&self.opening.names, self.masks(number)?), room)
+    }
+
+    // Split files
+
+    fn taxa(&self) -> u32 {
+        self.opening.names.len() as u32
+    }
+
+    /// What the accepted trees have.
+    fn split_file(&self) -> Splits {
+        Splits { trees: Some(self.trees.len() as u64), counts: self.counts.clone() }
+    }
+
+    pub fn file(&self, room: usize) -> Result<Vec<u8>, u32> {
+        fitting(splitfile::write(&self.split_file()), room)
+    }
+
+    /// In buffers for so many splits.
+    pub fn records(&self, file: &[u8], room: usize) -> Result<Splits, u32> {
+        let splits = splitfile::read(file, self.taxa())?;
+        if splits.counts.len() > room {
+            return Err(4);
+        }
+        Ok(splits)
+    }
+
+    /// 19 and 20 "for the first file, then for the second".
+    pub fn merge(&self, first: &[u8], second: &[u8], room: usize) -> Result<Vec<u8>, u32> {
+        let first = splitfile::read(first, self.taxa())?;
+        let second = splitfile::read(second, self.taxa())?;
+        fitting(splitfile::write(&splitfile::merge(&first, &second)?), room)
+    }
+
+    pub fn file_strict(&self, file: &[u8], room: usize) -> Result<Vec<u8>, u32> {
+        self.file_text(file, strict, room)
+    }
+
+    pub fn file_majority(&self, file: &[u8], room: usize) -> Result<Vec<u8>, u32> {
+        self.file_text(file, majority, room)
+    }
+
+    fn file_text(&self, file: &[u8], rule: fn(&Counts, u64) -> Masks, room: usize) -> Result<Vec<u8>, u32> {
+        let splits = splitfile::read(file, self.taxa())?;
+        fitting(written(&self.opening.names, &splitfile::chosen(&splits, rule)?), room)
     }
 
     /// "Consensus of no trees" is 14.

@@ -162,6 +162,8 @@ fn longest_written(mut random: Random) -> Vec<u8> {
         for line in ["write 0", "strict", "majority", "both"] {
             maker.ask(line);
         }
+        let file = maker.file();
+        maker.calls_on_file(&file);
     }
     maker.questions();
     maker.peek();
@@ -327,6 +329,8 @@ fn largest_tree_room(random: Random) -> Vec<u8> {
     {
         maker.ask(line);
     }
+    let file = maker.file();
+    maker.calls_on_file(&file);
     maker.script()
 }
 

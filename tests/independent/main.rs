@@ -1,5 +1,5 @@
 //! An independent calculation of every answer, to compare the proved programs with. It is written from document 01,
-//! entries 2026-01 to 2026-03 and 2026-05 of document 02 and the settled points, and shares nothing with the code that it is compared with.
+//! entries 2026-01 to 2026-03, 2026-05 and 2026-06 of document 02 and the settled points, and shares nothing with the code that it is compared with.
 
 mod big;
 mod branches;
@@ -34,6 +34,7 @@ mod maker;
 mod memory;
 mod mixed;
 mod nexus;
+mod nightjob;
 mod oddities;
 mod opening;
 mod parts;
@@ -47,6 +48,11 @@ mod refusals;
 mod script;
 mod selfcheck;
 mod sets;
+mod splitfile;
+mod splitfilecheck;
+mod splitfilerefusals;
+mod splitfiles;
+mod splitfilescript;
 mod storecheck;
 mod stores;
 mod summary;
@@ -60,6 +66,7 @@ mod withdrawrefusals;
 mod words;
 
 use compare::Run;
+use nightjob::{Done, Given};
 use std::io::{Read, Write};
 
 fn main() {
@@ -73,6 +80,18 @@ fn main() {
         ["nexus-texts"] => print_lines(&givenfiles::texts_of(&input())),
         ["nexus-calls", names, nexus] => print(&givenfiles::calls_of(names, &file(nexus))),
         ["nexus-damages", seed, count, names, nexus] => nexus_damages(seed, count, names, &file(nexus)),
+        ["nightjob", "write", out, names, trees] => {
+            let [a, b] = [names, trees].map(file);
+            night_job(out, &nightjob::written_trees(&given(names, &a), &given(trees, &b)));
+        }
+        ["nightjob", "merge", out, names, first, second] => {
+            let [a, b, c] = [names, first, second].map(file);
+            night_job(out, &nightjob::merged(&given(names, &a), &given(first, &b), &given(second, &c)));
+        }
+        ["nightjob", "show", names, splits] => {
+            let [a, b] = [names, splits].map(file);
+            night_job("", &nightjob::shown(&given(names, &a), &given(splits, &b)));
+        }
         ["selfcheck"] => finish(selfcheck::selfcheck()),
         ["check", script, answers] => finish(check::check(&file(script), &file(answers))),
         ["same-verdicts", a, b, c, d] => finish(beside(compare::same_verdicts, [a, b, c, d])),
@@ -98,6 +117,7 @@ fn maker(word: &str) -> Option<Make> {
         "quotes" => quotes::quotes,
         "lengths" => lengthscript::lengths,
         "withdrawals" => withdrawals::withdrawals,
+        "splitfiles" => splitfilescript::splitfiles,
         "limits" => limits::limits,
         "largest" => limits::largest,
         "oddities" => oddities::oddities,
@@ -137,6 +157,20 @@ fn beside(same: fn(&Run, &Run) -> bool, names: [&str; 4]) -> bool {
     same(&Run { script: a, answers: b }, &Run { script: c, answers: d })
 }
 
+fn given<'a>(name: &'a str, bytes: &'a [u8]) -> Given<'a> {
+    Given { name, bytes }
+}
+
+/// Does what a run of `splitfiles` does.
+fn night_job(out: &str, done: &Done) {
+    print(&done.printed);
+    eprint!("{}", done.told);
+    if let Some(bytes) = &done.file {
+        std::fs::write(out, bytes).unwrap_or_else(|fault| panic!("{out}: {fault}"));
+    }
+    std::process::exit(done.status);
+}
+
 /// What fails is an exit status of 1.
 fn finish(all_ok: bool) {
     if !all_ok {
@@ -148,9 +182,10 @@ fn usage() {
     eprintln!("edges | read | treesum | treecalls | selfcheck | check SCRIPT ANSWERS");
     eprintln!("same-verdicts SCRIPT ANSWERS SCRIPT ANSWERS | same-answers SCRIPT ANSWERS SCRIPT ANSWERS");
     eprintln!("nexus-texts | nexus-calls NAMES FILE | nexus-damages SEED COUNT NAMES FILE");
+    eprintln!("nightjob write OUT NAMES TREES | nightjob merge OUT NAMES A B | nightjob show NAMES FILE");
     eprintln!("GENERATOR SEED COUNT | damaged SEED COUNT SCRIPT ANSWERS, a generator being");
     eprintln!("texts | sheet | calls | mixed | whole | batched | filed | zeros | refusals | stores | made | nexus");
-    eprintln!("quotes | lengths | withdrawals | limits | largest | oddities");
+    eprintln!("quotes | lengths | withdrawals | splitfiles | limits | largest | oddities");
     std::process::exit(2);
 }
 

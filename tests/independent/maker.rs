@@ -14,6 +14,10 @@ pub struct Maker {
     /// What the calls so far come to.
     pub held: Collection,
     pub lent: u64,
+    /// Split files of the collection as it was before.
+    pub kept: Vec<Vec<u8>>,
+    /// The one of the last questions.
+    pub asked: Vec<u8>,
     lines: Vec<String>,
 }
 
@@ -41,7 +45,16 @@ impl Maker {
         };
         let line = open_line(&numbers, &list, first, second);
         let lines = vec![size_line(&numbers), format!("lend {lent}"), line];
-        Maker { random, names, numbers, held: Collection::new(opening), lent, lines }
+        Maker {
+            random,
+            names,
+            numbers,
+            held: Collection::new(opening),
+            lent,
+            kept: Vec::new(),
+            asked: Vec::new(),
+            lines,
+        }
     }
 
     /// A script from the lines.
@@ -102,6 +115,7 @@ impl Maker {
         for line in ["room -", "trees", "count", "splits", "matrix", "strict", "majority", "both", "collisions"] {
             self.ask(line);
         }
+        self.file_questions();
         for tree in 0..=self.held.number_of_trees() {
             self.ask(format!("tree {tree}"));
             self.ask(format!("write {tree}"));
@@ -125,7 +139,8 @@ pub fn every_call(piece: &[u8]) -> Vec<String> {
     calls
 }
 
-pub const QUESTIONS: [&str; 18] = [
+/// The files have one split, of the taxa 1 and 2, in one or both of two trees, or the taxa 1 and 3 in all of three.
+pub const QUESTIONS: [&str; 25] = [
     "trees",
     "count",
     "splits",
@@ -144,6 +159,13 @@ pub const QUESTIONS: [&str; 18] = [
     "both",
     "write 0",
     "collisions",
+    "file",
+    "file",
+    "records 06000000000000000100000002000000",
+    "merge 06000000000000000100000002000000 0a000000000000000300000003000000",
+    "file-strict 06000000000000000200000002000000",
+    "file-majority 06000000000000000100000002000000",
+    "file-strict -",
 ];
 
 pub fn size_line(numbers: &Numbers) -> String {

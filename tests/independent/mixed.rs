@@ -22,6 +22,8 @@ enum Step {
     Withdraw(usize),
     /// A question on the way, for the ways that cut alike.
     Ask(String),
+    /// Calls on split files, for the same ways.
+    Files,
     Peek,
 }
 
@@ -88,6 +90,7 @@ fn some_steps(random: &mut Random, count: usize, text: impl Fn(&mut Random) -> V
             3..=14 => Step::Ask(some_question(random)),
             15..=19 => Step::Withdraw(some_tree(random)),
             20 if random.one_in(4) => Step::Peek,
+            21 => Step::Files,
             _ => Step::Piece(lane, waiting[lane].some_piece(random, &text)),
         });
     }
@@ -174,6 +177,7 @@ fn cut(plan: &Plan, zeros: bool) -> Vec<u8> {
             Step::Close(lane) => maker.close(*lane as u64),
             Step::Withdraw(tree) => maker.withdraw(*tree),
             Step::Ask(line) => maker.ask(line),
+            Step::Files => maker.file_calls(),
             Step::Peek => maker.peek(),
         }
     }
@@ -200,7 +204,7 @@ fn whole_texts(plan: &Plan) -> Vec<Whole> {
             }
             Step::Close(lane) => out.push(Whole::Closing(*lane, std::mem::take(&mut held[*lane]))),
             Step::Withdraw(tree) => out.push(Whole::Withdrawal(*tree)),
-            Step::Ask(_) | Step::Peek => (),
+            Step::Ask(_) | Step::Files | Step::Peek => (),
         }
     }
     out

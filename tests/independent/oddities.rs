@@ -5,7 +5,7 @@ use crate::random::Random;
 use crate::words::hex;
 
 /// A line of every call that is one once something is opened.
-const GOOD: [&str; 30] = [
+const GOOD: [&str; 37] = [
     "size 4 1 1 1 1",
     "size 4 1 1 1 1 lengths",
     "open 4 1 1 1 1 41204220432044 0,0,0,0 0,0,0,0 lengths",
@@ -32,13 +32,20 @@ const GOOD: [&str; 30] = [
     "both",
     "write 0",
     "collisions",
+    "file",
+    "records -",
+    "records 06000000000000000100000002000000",
+    "merge 06000000000000000100000002000000 0a000000000000000300000003000000",
+    "merge - -",
+    "file-strict 06000000000000000200000002000000",
+    "file-majority 06000000000000000100000002000000",
     "agree 6 12",
     "room 7",
     "peek 0 1",
     "poke 8866 00",
 ];
 
-const OTHERS: [&str; 60] = [
+const OTHERS: [&str; 76] = [
     "",
     " ",
     "  ",
@@ -99,6 +106,22 @@ const OTHERS: [&str; 60] = [
     "nexus - -",
     "nexus 0",
     "nexus 0 234e45585553",
+    "records 0",
+    "records 00",
+    "records 0g",
+    "records --",
+    "merge",
+    "merge -",
+    "merge - 0",
+    "merge 0 -",
+    "merge - 06",
+    "merge 06 -",
+    "merge 0x -",
+    "merge - AA",
+    "merge  - -",
+    "merge - - -",
+    "merge 2020 2020",
+    "file strict",
 ];
 
 /// A script of so many rounds; its last line has no end.

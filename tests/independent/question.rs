@@ -2,8 +2,9 @@
 
 use crate::collection::{Batch, Collection, Fed, Verdict};
 use crate::double::Double;
+use crate::splitfile::Splits;
 use crate::weights::Summed;
-use crate::words::{bytes, number};
+use crate::words::{bytes, hex, number};
 
 pub enum Question {
     Close(u64),
@@ -25,6 +26,11 @@ pub enum Question {
     Both,
     Write(u64),
     Collisions,
+    File,
+    Records(Vec<u8>),
+    Merge(Vec<u8>, Vec<u8>),
+    FileStrict(Vec<u8>),
+    FileMajority(Vec<u8>),
 }
 
 impl Question {
@@ -49,6 +55,11 @@ impl Question {
             [b"both"] => Question::Both,
             [b"write", t] => Question::Write(number(t)?),
             [b"collisions"] => Question::Collisions,
+            [b"file"] => Question::File,
+            [b"records", file] => Question::Records(bytes(file)?),
+            [b"merge", first, second] => Question::Merge(bytes(first)?, bytes(second)?),
+            [b"file-strict", file] => Question::FileStrict(bytes(file)?),
+            [b"file-majority", file] => Question::FileMajority(bytes(file)?),
             _ => return None,
         })
     }
@@ -75,6 +86,11 @@ impl Question {
             Question::Both => both_line(&collection.both_texts(room)?),
             Question::Write(t) => text_line(&collection.tree_text(*t, room)?),
             Question::Collisions => number_line(collection.collisions()),
+            Question::File => bytes_line(&collection.file(room)?),
+            Question::Records(file) => records_line(&collection.records(file, room)?),
+            Question::Merge(first, second) => bytes_line(&collection.merge(first, second, room)?),
+            Question::FileStrict(file) => text_line(&collection.file_strict(file, room)?),
+            Question::FileMajority(file) => text_line(&collection.file_majority(file, room)?),
         })
     }
 
@@ -138,6 +154,12 @@ fn splits_line(splits: &[(u64, u64)]) -> Vec<u8> {
     listed("splits", &words)
 }
 
+fn records_line(splits: &Splits) -> Vec<u8> {
+    let trees = splits.trees.map_or("-".to_string(), |trees| trees.to_string());
+    let words = splits.counts.iter().map(|(mask, count)| format!("{mask}:{count}"));
+    listed("records", &[trees].into_iter().chain(words).collect::<Vec<String>>())
+}
+
 fn matrix_line(trees: usize, distances: &[u64]) -> Vec<u8> {
     listed(&format!("matrix {trees}:"), distances)
 }
@@ -158,6 +180,10 @@ fn verdict_word(verdict: &Verdict) -> String {
         Ok(tree) => tree.to_string(),
         Err(refusal) => format!("-{refusal}"),
     }
+}
+
+fn bytes_line(bytes: &[u8]) -> Vec<u8> {
+    format!("bytes {}", hex(bytes)).into_bytes()
 }
 
 fn text_line(text: &[u8]) -> Vec<u8> {

@@ -11,6 +11,7 @@ use crate::limits::bare_text;
 use crate::maker::{every_call, open_line, size_line, Maker};
 use crate::opening::Numbers;
 use crate::random::Random;
+use crate::splitfilerefusals::{file_answers_with_lengths, refused_split_files};
 use crate::verdict::MOST_BYTES;
 use crate::withdrawrefusals::{withdrawals, withdrawals_at_full_rooms};
 use crate::words::hex;
@@ -74,7 +75,7 @@ fn no_trees(maker: &mut Maker) {
         for line in ["strict", "majority", "both", "tree 0", "write 0", "split 0", "one 0 0", "two 0 0"] {
             maker.watched(line);
         }
-        for line in ["weighted 0 0", "lengths 0", "matrix", "splits", "withdraw 0", "withdraw 1"] {
+        for line in ["weighted 0 0", "lengths 0", "matrix", "splits", "withdraw 0", "withdraw 1", "file", "records -"] {
             maker.watched(line);
         }
         maker.watched("batch 0 -");
@@ -185,15 +186,17 @@ fn closings(maker: &mut Maker) {
     }
 }
 
-/// 13 in each place, before 18 and 4; 18; 4 in buffers of one element too few; the answers in buffers of just enough.
+/// 13 in each place, before 18 and 4; 18; 19 to 23 of split files; 4 in buffers of one element too few; the answers in buffers of just enough.
 fn numbers_and_rooms(maker: &mut Maker) {
     trees_with_and_without_lengths(maker);
     for room in ["room 0", "room -"] {
         maker.ask(room);
         wrong_numbers(maker);
         absent_lengths(maker);
+        refused_split_files().into_iter().for_each(|line| maker.watched(line));
     }
-    for (line, long) in answers_with_lengths(&maker.held) {
+    let answers = [answers_with_lengths(&maker.held), file_answers_with_lengths(&maker.held)].concat();
+    for (line, long) in answers {
         for room in [long.saturating_sub(1), long, long + 1] {
             maker.ask(format!("room {room}"));
             maker.watched(&line);
@@ -432,7 +435,8 @@ fn not_whole(maker: &mut Maker) {
             let text = [maker.any_text(), b";".to_vec()].concat();
             let wrong = ["feed 8 28", "close 8", "batch 9 3b", "split 9", "tree 9", "one 9 9", "two 9 9", "write 9"];
             let wrong = wrong.into_iter().chain(["weighted 9 9", "lengths 9", "withdraw 9"]).map(str::to_string);
-            for line in every_call(&text).into_iter().chain(wrong).chain(refused_files(maker)) {
+            let files = refused_files(maker).into_iter().chain(refused_split_files());
+            for line in every_call(&text).into_iter().chain(wrong).chain(files) {
                 maker.watched(line);
             }
         }

@@ -1,5 +1,6 @@
 //! Generated lines for `treecalls`.
 
+use crate::calls::Program;
 use crate::files::any_file;
 use crate::generator::{
     any_name_list, damage_names, first_constants, second_constants, some_names, some_places, some_shapes, some_texts,
@@ -10,14 +11,18 @@ use crate::labels::{first_outside, is_odd};
 use crate::maker::{joined, open_line, size_line};
 use crate::opening::Numbers;
 use crate::random::Random;
-use crate::words::hex;
+use crate::splitfiles::{keep, some_file_line};
+use crate::words::{bytes, hex};
 
 /// So many lines for `treecalls`, after a first opening.
 pub fn calls(seed: u64, count: usize) -> Vec<u8> {
     let mut script = Script::new(seed);
     let mut lines = script.opening();
+    lines.iter().for_each(|line| script.made(line));
     while lines.len() < count {
-        lines.push(script.line());
+        let line = script.line();
+        script.made(&line);
+        lines.push(line);
     }
     joined(&lines)
 }
@@ -35,10 +40,13 @@ struct Script {
     odd: Vec<bool>,
     /// Lines that come next, the last one first.
     planned: Vec<String>,
+    /// What the lines so far come to, and the split files that were answered.
+    program: Program,
+    kept: Vec<Vec<u8>>,
 }
 
 /// Lines that are no calls.
-const BAD_LINES: [&str; 44] = [
+const BAD_LINES: [&str; 58] = [
     "",
     " ",
     "trees ",
@@ -83,6 +91,20 @@ const BAD_LINES: [&str; 44] = [
     "size 4 1 1 1 lengths",
     "size lengths",
     "open lengths",
+    "file -",
+    "file 0",
+    "File",
+    "records",
+    "records 0",
+    "records - -",
+    "records  -",
+    "merge",
+    "merge -",
+    "merge - 0",
+    "merge 0 -",
+    "merge - - -",
+    "file-strict",
+    "file-majority - -",
 ];
 
 /// The longest piece of one feeding or batch.
@@ -96,7 +118,18 @@ impl Script {
         let texts = some_texts(&mut random);
         let numbers = some_numbers(&mut random, names.len());
         let waiting = vec![Vec::new(); 9];
-        Script { random, names, pool, texts, numbers, lent: 0, waiting, odd: vec![false; 9], planned: Vec::new() }
+        let (odd, planned, program, kept) = (vec![false; 9], Vec::new(), Program::new(), Vec::new());
+        Script { random, names, pool, texts, numbers, lent: 0, waiting, odd, planned, program, kept }
+    }
+
+    /// Makes a call, and keeps the split file that it answers.
+    fn made(&mut self, line: &str) {
+        let answer = self.program.answer(line.as_bytes());
+        if line == "file" {
+            if let Some(file) = answer.strip_prefix(b"bytes ").and_then(bytes) {
+                keep(&mut self.kept, file);
+            }
+        }
     }
 
     /// Memory of about the right size, and the opening.
@@ -197,7 +230,7 @@ impl Script {
     fn question_line(&mut self) -> String {
         let (a, b) = (self.small(), self.small());
         let masks = (self.random.next() % 64, self.random.next() % 64);
-        match self.random.below(18) {
+        match self.random.below(22) {
             0 => "trees".to_string(),
             1 => "count".to_string(),
             2 => "splits".to_string(),
@@ -214,6 +247,8 @@ impl Script {
             13 => format!("agree {} {}", masks.0, masks.1),
             14 | 15 => format!("weighted {a} {b}"),
             16 => format!("lengths {a}"),
+            17 => "file".to_string(),
+            18..=20 => some_file_line(&mut self.random, self.names.len(), &self.kept),
             _ => format!("agree {} {}", self.random.next(), self.random.next()),
         }
     }

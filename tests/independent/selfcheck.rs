@@ -1,5 +1,5 @@
 //! `selfcheck`: the samples of document 01, the sheet of the summary program, the limits, and the settled points; then
-//! the checks of quotes, of lengths, of stores, of NEXUS files and of withdrawals.
+//! the checks of quotes, of lengths, of stores, of NEXUS files, of withdrawals and of split files.
 
 use crate::calls::treecalls;
 use crate::collection::Collection;
@@ -11,6 +11,7 @@ use crate::opening::{open, Numbers};
 use crate::quotecheck::quote_checks;
 use crate::random::Random;
 use crate::sets::{agree, taxa_of};
+use crate::splitfilecheck::split_file_checks;
 use crate::storecheck::store_checks;
 use crate::summary::treesum;
 use crate::text::is_length;
@@ -38,6 +39,7 @@ pub fn selfcheck() -> bool {
         store_checks(),
         file_checks(),
         withdrawal_checks(),
+        split_file_checks(),
     ]
     .concat();
     for (name, right) in &checks {

@@ -5,7 +5,7 @@ use std::collections::BTreeSet;
 pub type Taxa = BTreeSet<u32>;
 
 pub fn taxa_of(mask: u64) -> Taxa {
-    (0..64).filter(|i| u128::from(mask) / 2u128.pow(*i) % 2 == 1).collect()
+    (0..64).filter(|i| mask >> i & 1 == 1).collect()
 }
 
 pub fn mask_of(taxa: &Taxa) -> u64 {
@@ -28,9 +28,8 @@ pub fn side(cluster: &Taxa, n: u32) -> Taxa {
 
 /// A side without taxon 0 whose split counts: both sides have two taxa or more.
 pub fn is_proper(side: &Taxa, n: u32) -> bool {
-    let all = every_taxon(n);
-    let other: Taxa = all.difference(side).copied().collect();
-    !side.contains(&0) && side.is_subset(&all) && side.len() >= 2 && other.len() >= 2
+    let inside = side.iter().all(|taxon| *taxon < n);
+    inside && !side.contains(&0) && side.len() >= 2 && n as usize - side.len() >= 2
 }
 
 /// "No common bit or one mask lies within the other."

@@ -205,6 +205,9 @@ impl Row {
             let question = some_question(&mut self.maker.random);
             self.maker.ask(question);
         }
+        if self.maker.random.one_in(30) {
+            self.maker.file_calls();
+        }
         if self.maker.random.one_in(20 + self.maker.lent as usize / 1000) {
             self.maker.peek();
         }

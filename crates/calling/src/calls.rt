@@ -1,4 +1,4 @@
-// A line is parsed, its call is made, and the reply is put.
+// A line is parsed, its call is made, and the answer is put.
 use crate::State;
 use crate::changes;
 use crate::kinds;
@@ -20,33 +20,63 @@ pub(crate) fn answer(
     masks: &mut [u64],
     counts: &mut [u32],
     distances: &mut [u16],
+    file: &mut [u8],
     state: State,
 ) -> State {
     let call = parse::parsed(line);
-    let reply = make(line, memory, masks, counts, distances, call, state);
-    let next = kept(state, call, reply);
-    put(out, memory, masks, counts, distances, call, reply, next)
+    answer_call(
+        line,
+        memory,
+        out,
+        masks,
+        counts,
+        distances,
+        file,
+        call,
+        state,
+    )
 }
 
-// The answer of a call. Calls that give bytes have no reply, and are made here.
-fn put(
+// Answers the call that a line is.
+fn answer_call(
+    line: &[u8],
+    memory: &mut [u8],
     out: &mut [u8],
-    memory: &[u8],
-    masks: &[u64],
-    counts: &[u32],
-    distances: &[u16],
+    masks: &mut [u64],
+    counts: &mut [u32],
+    distances: &mut [u16],
+    file: &mut [u8],
     call: Call,
-    reply: Reply,
+    state: State,
+) -> State {
+    if kinds::gives_bytes(call.kind) {
+        return give_bytes(line, memory, out, file, call, state);
+    }
+    let reply = make(line, memory, masks, counts, distances, call, state);
+    let next = kept(state, call, reply);
+    replies::put(out, masks, counts, distances, reply, next)
+}
+
+// Answers a call that gives bytes, which no reply has.
+fn give_bytes(
+    line: &[u8],
+    memory: &[u8],
+    out: &mut [u8],
+    file: &mut [u8],
+    call: Call,
     state: State,
 ) -> State {
     let lent = parts::least(state.lent, memory.len());
     if call.kind == kinds::PEEK {
         return texts::peek(&memory[..lent], call.a, call.b, out, state);
     }
-    if kinds::writes(call.kind) == kinds::A_TEXT {
-        return texts::trees(&memory[..lent], call, out, state);
+    if kinds::writes(call.kind) == kinds::A_FILE {
+        return texts::file(line, &memory[..lent], call, file, out, state);
     }
-    replies::put(out, masks, counts, distances, reply, state)
+    let bytes = parse::bytes_of(line, call);
+    let from = bytes.from;
+    let to = bytes.to;
+    texts::trees(&line[from..to], &memory[..lent], call, out, state)
 }
 
 // Makes a call. Only `lend` sees the memory that is not lent.
@@ -64,7 +94,18 @@ fn make(
     }
     let lent = parts::least(state.lent, memory.len());
     if kinds::writes(call.kind) == kinds::A_LIST {
-        return lists::make(&memory[..lent], masks, counts, distances, call, state.room);
+        let bytes = parse::bytes_of(line, call);
+        let from = bytes.from;
+        let to = bytes.to;
+        return lists::make(
+            &line[from..to],
+            &memory[..lent],
+            masks,
+            counts,
+            distances,
+            call,
+            state.room,
+        );
     }
     make_other(line, &mut memory[..lent], counts, call, state.room)
 }

@@ -123,7 +123,5 @@ pub(crate) fn line_of(input: &[u8], state: State) -> Part
     if state.is_long {
         return NO_PART;
     }
-    let to = parts::least(state.end, input.len());
-    let from = parts::least(state.from, to);
-    Part { from, to }
+    parts::inside(input, state.from, state.end)
 }

@@ -56,13 +56,14 @@ pub fn answer_all(
     masks: &mut [u64],
     counts: &mut [u32],
     distances: &mut [u16],
+    file: &mut [u8],
 ) -> u32
     ensures { λ r. ⌜ r ≤ 1 ⌝ }
 {
     let mut state = START;
     let mut turns = u64::MAX;
     while turns > 0 {
-        state = turn(input, memory, out, masks, counts, distances, state);
+        state = turn(input, memory, out, masks, counts, distances, file, state);
         turns = left(turns, state);
     }
     output::status(out, state)
@@ -84,6 +85,7 @@ fn turn(
     masks: &mut [u64],
     counts: &mut [u32],
     distances: &mut [u16],
+    file: &mut [u8],
     before: State,
 ) -> State {
     let state = input::next_line(input, out, before);
@@ -100,6 +102,7 @@ fn turn(
         masks,
         counts,
         distances,
+        file,
         state,
     )
 }

@@ -1,13 +1,15 @@
-// Calls that write a list of numbers into a buffer: `splits`, `tree` and `matrix`.
+// Calls that write a list of numbers into a buffer: `splits`, `records`, `tree` and `matrix`.
 use crate::kinds;
 use crate::parse::Call;
 use crate::parts;
 use crate::replies;
 use crate::replies::Reply;
+use answers::Both;
 use answers::Tree;
 
-// The call, with buffers of at most `room` elements.
+// The call on these bytes, with buffers of at most `room` elements.
 pub(crate) fn make(
+    bytes: &[u8],
     lent: &[u8],
     masks: &mut [u64],
     counts: &mut [u32],
@@ -18,6 +20,7 @@ pub(crate) fn make(
     let kind = call.kind;
     match kind {
         kinds::SPLITS => splits(lent, masks, counts, room),
+        kinds::RECORDS => records(lent, bytes, masks, counts, room),
         kinds::TREE => tree(lent, call.a, masks, room),
         _ => matrix(lent, distances, room),
     }
@@ -29,6 +32,17 @@ fn splits(lent: &[u8], masks: &mut [u64], counts: &mut [u32], room: usize) -> Re
     let b = parts::least(room, counts.len());
     let answer = table::split_list(lent, &mut masks[..a], &mut counts[..b]);
     replies::number(replies::SPLITS, answer)
+}
+
+// `records HEX`. Its reply has the trees too.
+fn records(lent: &[u8], file: &[u8], masks: &mut [u64], counts: &mut [u32], room: usize) -> Reply {
+    let a = parts::least(room, masks.len());
+    let b = parts::least(room, counts.len());
+    let answer = splitfile::read_splits(lent, file, &mut masks[..a], &mut counts[..b]);
+    match answer {
+        Both::Refused(r) => replies::refused(r),
+        Both::Gives(trees, n) => replies::with_two(replies::RECORDS, n as u64, trees as u64),
+    }
 }
 
 // `tree T`.

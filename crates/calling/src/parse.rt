@@ -7,7 +7,8 @@ use words::Number;
 ghost use Prim.Native.Nat.{_≤_};
 ghost use lib.ListN.{length};
 
-// A line: its call, the numbers that follow, where the bytes stand that do, where their word ended, and whether lengths are to be kept.
+// A line: its call, the numbers that follow, where the bytes stand that do, where their word ended, where the second bytes stand, and
+// whether lengths are to be kept.
 pub(crate) struct Call {
     pub kind: usize,
     pub a: usize,
@@ -18,6 +19,8 @@ pub(crate) struct Call {
     pub from: usize,
     pub to: usize,
     pub rest: usize,
+    pub second_from: usize,
+    pub second_to: usize,
     pub kept: bool,
 }
 
@@ -29,7 +32,8 @@ pub(crate) fn parsed(line: &mut [u8]) -> Call {
     let begun = with_numbers(line, kind_of(line));
     let call = to_its_end(line, begun);
     if kinds::takes_bytes(call.kind) {
-        return with_bytes(line, call);
+        let second = with_second(line, call);
+        return with_bytes(line, second, kinds::numbers_of(call.kind) + 1);
     }
     call
 }
@@ -61,6 +65,8 @@ fn with_numbers(line: &[u8], kind: usize) -> Call {
         from: 0,
         to: 0,
         rest: 0,
+        second_from: 0,
+        second_to: 0,
         kept: false,
     };
     let n = kinds::numbers_of(kind);
@@ -118,9 +124,21 @@ fn to_its_end(line: &[u8], call: Call) -> Call {
     next
 }
 
-// The call with the bytes that it takes, `-` for none.
-fn with_bytes(line: &mut [u8], call: Call) -> Call {
-    let part = word(line, kinds::numbers_of(call.kind) + 1);
+// The call with its second bytes, if it takes such. They are put down before the first: the words before them can be counted as long as
+// these stand in hex.
+fn with_second(line: &mut [u8], call: Call) -> Call {
+    if call.kind != kinds::MERGE {
+        return call;
+    }
+    let mut next = with_bytes(line, call, 2);
+    next.second_from = next.from;
+    next.second_to = next.to;
+    next
+}
+
+// The call with the bytes that word i is, `-` for none.
+fn with_bytes(line: &mut [u8], call: Call, i: usize) -> Call {
+    let part = word(line, i);
     let mut next = call;
     next.from = part.from;
     next.to = part.from;
@@ -182,9 +200,14 @@ fn digit(b: u8) -> u8 {
 pub(crate) fn bytes_of(line: &[u8], call: Call) -> Part
     ensures { λ r. ⌜ (r .from ≤ r .to) × (r .to ≤ length (now (line .entry))) ⌝ }
 {
-    let to = parts::least(call.to, line.len());
-    let from = parts::least(call.from, to);
-    Part { from, to }
+    parts::inside(line, call.from, call.to)
+}
+
+// Where the second bytes of a call stand in its line.
+pub(crate) fn second_of(line: &[u8], call: Call) -> Part
+    ensures { λ r. ⌜ (r .from ≤ r .to) × (r .to ≤ length (now (line .entry))) ⌝ }
+{
+    parts::inside(line, call.second_from, call.second_to)
 }
 
 // Puts down the numbers of list i behind the bytes of a call, from 1, and answers how many there are; what there is no place for is left

@@ -18,6 +18,15 @@ pub(crate) fn least(a: usize, b: usize) -> usize
     if a < b { a } else { b }
 }
 
+// What there is of the part from `from` up to `to`.
+pub(crate) fn inside(s: &[u8], from: usize, to: usize) -> Part
+    ensures { λ r. ⌜ (r .from ≤ r .to) × (r .to ≤ length (now (s .entry))) ⌝ }
+{
+    let to = least(to, s.len());
+    let from = least(from, to);
+    Part { from, to }
+}
+
 // The place of the first byte b from `from` on and before `to`, or `to`.
 pub(crate) fn find(s: &[u8], from: usize, to: usize, b: u8) -> usize
     requires { ⌜ from ≤ to ⌝ }

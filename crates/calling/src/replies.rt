@@ -44,16 +44,18 @@ pub(crate) const SPLITS: usize = 12;
 pub(crate) const TREE: usize = 13;
 
 pub(crate) const MATRIX: usize = 14;
+// The number b, and a list of a elements.
+pub(crate) const RECORDS: usize = 15;
 // A list of a verdicts.
-pub(crate) const NEXUS: usize = 15;
+pub(crate) const NEXUS: usize = 16;
 // A list of a verdicts, and the number b.
-pub(crate) const BATCH: usize = 16;
+pub(crate) const BATCH: usize = 17;
 
 // The word of a form.
 fn word(out: &mut [u8], form: usize, state: State) -> State {
     nth_word(
         out,
-        b"bad line,done,refused,number,bytes,agree,more,split,accepted,refused,double,lengths,splits,tree,matrix,nexus,batch",
+        b"bad line,done,refused,number,bytes,agree,more,split,accepted,refused,double,lengths,splits,tree,matrix,records,nexus,batch",
         form,
         state,
     )
@@ -135,7 +137,7 @@ fn list(
     state: State,
 ) -> State {
     let begun = word(out, reply.form, state);
-    let headed = rows(out, reply, begun);
+    let headed = heading(out, reply, begun);
     items(out, masks, counts, distances, reply, headed)
 }
 
@@ -171,11 +173,26 @@ fn doubles(out: &mut [u8], reply: Reply, state: State) -> State {
     output::double(out, reply.c, second)
 }
 
+// What stands before the elements of a list: the rows of a matrix, or the trees of a split file.
+fn heading(out: &mut [u8], reply: Reply, state: State) -> State {
+    let form = reply.form;
+    match form {
+        MATRIX => rows(out, reply, state),
+        RECORDS => trees(out, reply, state),
+        _ => state,
+    }
+}
+
+// The number of trees of a split file. One without records has none that is known.
+fn trees(out: &mut [u8], reply: Reply, state: State) -> State {
+    if reply.a == 0 {
+        return output::bytes(out, b" -", state);
+    }
+    output::number(out, reply.b, state)
+}
+
 // The number of rows of a matrix, which has as many columns.
 fn rows(out: &mut [u8], reply: Reply, state: State) -> State {
-    if reply.form != MATRIX {
-        return state;
-    }
     let counted = output::number(out, root(reply.a), state);
     output::byte(out, 58, counted)
 }

@@ -1,7 +1,7 @@
 -- Every kind of call on a collection, what the definitions answer, and their run of many calls. No proof stands here.
 --
---   Question             what may be asked of a collection; a list is a lent buffer, as it is before the call
---   Reply                how it is answered: by a number, a split, a double or three, and by the lent buffers as they are left
+--   Question             what may be asked of a collection; a list is a lent buffer, as it is before the call, or a split file
+--   Reply                how it is answered: by a number or two, a split, a double or three, and by the lent buffers as they are left
 --   reply h q            what the collection h answers to q
 --   Made                 a call: `one`, a feeding, a closing or a withdrawal; `many`, a batch, with its lane, its piece and the lent buffer for its verdicts;
 --                        `file`, a NEXUS file, with the lent buffer for its verdicts; `ask`, a question; `reopen`, an opening that is refused, with its numbers, its name list and its constants
@@ -39,9 +39,11 @@ use Rattle.trees.specs.NexusReading.{readFile}
 use Rattle.trees.specs.NexusCall.{keysOf, plainTexts, nexus}
 use Rattle.trees.specs.Sums.{Sums}
 use Rattle.trees.specs.Questions.{treesHeld, splitsHeld, splitList, splitNumber, treeNumber, oneSidedOf, doubledOf, matrixOf, collisionsOf, strictOf, majorityOf, bothOf, writtenOf, weightedOf, sumsOf}
+use Rattle.trees.specs.SplitFileCall.{Splits, fileOf, readingOf, mergingOf, strictFileOf, majorityFileOf}
 use Rattle.trees.specs.Runs.{Call, feed, hand, Heard, answer, next, Final, acceptedAs, refusedWith, finals}
 use Rattle.theorems.specs.Quiet.{Leaves}
 use Rattle.answers.specs.Filled.{lengthGiven, front, firstOf, secondOf, lengthsGiven}
+use Rattle.splitfile.specs.Files.{readGiven, masksRead, countsRead}
 
 -- ---- questions
 
@@ -61,6 +63,11 @@ pub data Question : Type 0 where
   write-accepted : ℕ → List ℕ → Question
   weighted : ℕ → ℕ → Question
   split-lengths : ℕ → Question
+  write-splits : List ℕ → Question
+  read-splits : List ℕ → List ℕ → List ℕ → Question
+  merge : List ℕ → List ℕ → List ℕ → Question
+  strict-tree : List ℕ → List ℕ → Question
+  majority-tree : List ℕ → List ℕ → Question
 
 pub data Reply : Type 0 where
   number : Answer ℕ → Reply
@@ -85,8 +92,13 @@ unfoldable pub fillEach : Answer (List ℕ × List ℕ) → List ℕ → List �
 unfolding lengthsGiven front firstOf secondOf
 fillEach x xs ys = eachFilled (lengthsGiven x) (front (firstOf x) xs) (front (secondOf x) ys)
 
+-- a file that is read: how many trees, how many records, and their masks and counts
+unfoldable pub fillRead : Answer Splits → List ℕ → List ℕ → Reply
+unfolding readGiven masksRead countsRead front
+fillRead x masks counts = eachFilled (readGiven x) (front (masksRead x) masks) (front (countsRead x) counts)
+
 unfoldable pub reply : Held → Question → Reply
-unfolding fill fillBoth fillEach treesHeld splitsHeld splitList splitNumber treeNumber oneSidedOf doubledOf matrixOf collisionsOf strictOf majorityOf bothOf writtenOf weightedOf sumsOf
+unfolding fill fillBoth fillEach fillRead treesHeld splitsHeld splitList splitNumber treeNumber oneSidedOf doubledOf matrixOf collisionsOf strictOf majorityOf bothOf writtenOf weightedOf sumsOf fileOf readingOf mergingOf strictFileOf majorityFileOf
 reply h tree-count = number (treesHeld h)
 reply h split-count = number (splitsHeld h)
 reply h (one-split k) = split (splitNumber h k)
@@ -103,6 +115,12 @@ reply h (write-accepted i out) = fill (writtenOf h i (length out)) out
 -- doubles, bit for bit
 reply h (weighted i j) = weight (weightedOf h i j)
 reply h (split-lengths k) = sums (sumsOf h k)
+-- a split file comes first, and stays
+reply h (write-splits out) = fill (fileOf h (length out)) out
+reply h (read-splits f masks counts) = fillRead (readingOf h f (length masks) (length counts)) masks counts
+reply h (merge f g out) = fill (mergingOf h f g (length out)) out
+reply h (strict-tree f out) = fill (strictFileOf h f (length out)) out
+reply h (majority-tree f out) = fill (majorityFileOf h f (length out)) out
 
 -- ---- calls
 
@@ -247,6 +265,11 @@ isCollisions (ask (both xs ys)) = false
 isCollisions (ask (write-accepted i out)) = false
 isCollisions (ask (weighted i j)) = false
 isCollisions (ask (split-lengths k)) = false
+isCollisions (ask (write-splits out)) = false
+isCollisions (ask (read-splits f masks counts)) = false
+isCollisions (ask (merge f g out)) = false
+isCollisions (ask (strict-tree f out)) = false
+isCollisions (ask (majority-tree f out)) = false
 isCollisions (reopen x names first second) = false
 
 -- an answer to no call is none

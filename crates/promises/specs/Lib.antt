@@ -30,3 +30,4 @@ pub mod SummarySteps
 pub mod PrintedLaws
 pub mod SummaryLaws
 pub mod SplitFileOutcomes
+pub mod SplitFileCallLaws

@@ -1,8 +1,10 @@
 -- What the calls write reads back by the calls: the bytes that `strict`, `majority`, `both` or `write_accepted` gives of a whole store, fed
 -- whole to an empty lane of a whole store over the same names, the same or another. Assumes nothing.
 --
+--   given-is                 the bytes that a call gives are the first of the buffer that it leaves
 --   ReadBackAs u s n a t     feeding n bytes of a tree with the splits s to the lent bytes u answers a and leaves t: the tree is accepted,
 --                            and is then the last, without lengths, or is refused with 11 or 12, each exactly when there is no such room
+--   text-reads-back          so is a tree's own text
 --   strict-reads-back, majority-reads-back, both-read-back, accepted-reads-back     so is what the calls write
 use Prim.Native.Nat.{ℕ, _<_}
 use native.Mathlib.Omega.{arith}
@@ -83,14 +85,22 @@ module _ (ys : List ℕ) where
       go true = g
       go false = tt
 
-given-front : (x : Answer (List ℕ)) (ys : List ℕ) → Only ys x → (out : List ℕ) (n : ℕ) (left : List ℕ) → filled (gives n) left ≡ fill x out
-    → (take n left ≡ ys) × (n ≡ length ys)
+-- a call that answers n gives the first n bytes of what it leaves
+pub given-is : (x : Answer (List ℕ)) (out : List ℕ) (n : ℕ) (left : List ℕ) → filled (gives n) left ≡ fill x out → (x ≡ gives (take n left)) × (n ≡ length (take n left))
 unfolding fill lengthGiven front numberIn bufferIn valueOr
-given-front (refused k) ys g out n left e = absurd (gives≢refused n k (ap numberIn e))
-given-front (gives xs) ys g out n left e =
+given-is (refused k) out n left e = absurd (gives≢refused n k (ap numberIn e))
+given-is (gives xs) out n left e =
     let m : n ≡ length xs = ap (λ (r : Reply). valueOr 0 (numberIn r)) e in
     let b : left ≡ xs ++ drop (length xs) out = ap bufferIn e in
-    (rw (m, b) (take-append-seam xs (drop (length xs) out)) ∙ g, m ∙ ap length g)
+    let f : take n left ≡ xs = rw (m, b) (take-append-seam xs (drop (length xs) out)) in
+    (ap gives (sym f), m ∙ ap length (sym f))
+
+given-front : (x : Answer (List ℕ)) (ys : List ℕ) → Only ys x → (out : List ℕ) (n : ℕ) (left : List ℕ) → filled (gives n) left ≡ fill x out
+    → (take n left ≡ ys) × (n ≡ length ys)
+given-front x ys g out n left e =
+    let y = given-is x out n left e in
+    let f : take n left ≡ ys = subst (Only ys) (y .0) g in
+    (f, y .1 ∙ ap length f)
 
 -- what both calls give together is what each gives
 each-filled : (x y : Answer (List ℕ)) (xs ys : List ℕ) (n m : ℕ) (left right : List ℕ) → eachFilled (gives (n, m)) left right ≡ fillEach (together x y) xs ys
@@ -135,7 +145,7 @@ module _ (s u : List ℕ) (w : wholeAt s ≡ true) (v : wholeAt u ≡ true) (nam
     abbrev text : List ℕ
     text = textOf c
 
-    text-reads-back : Step u (one (feed l text)) a t → ReadBackAs u c (length text) a t
+    pub text-reads-back : Step u (one (feed l text)) a t → ReadBackAs u c (length text) a t
     text-reads-back q = record {
       whole = f .0 .whole;
       no-other = either (r .no-other);

@@ -20,6 +20,7 @@ use Rattle.trees.specs.Plain.{if_then_else_, Answer, refused, gives}
 use Rattle.trees.specs.Opening.{Numbers, Opening}
 use Rattle.trees.specs.Held.{Held, Lane, holding, moreWanted, accepted, opened, laneOf}
 use Rattle.trees.specs.Questions.{collisionsOf}
+use Rattle.trees.specs.SplitFileCall.{Splits}
 use Rattle.trees.specs.Runs.{Call, Heard, fed, closedLane, withdrew, answers, ending, Final, acceptedAs, refusedWith, closedWith, withdrawnWith, finals, wholeTexts}
 use Rattle.theorems.specs.Alike.{Alike, withPlaces, SameAnswers}
 use Rattle.theorems.specs.AlikeLaws.{questions-alike}
@@ -31,7 +32,7 @@ use Rattle.layout.specs.Store.{heldAt}
 use Rattle.layout.specs.WholeStore.{wholeAt}
 use Rattle.store.specs.Lent.{Holds}
 use Rattle.summary.specs.PartLaws.{holds-then}
-use Rattle.promises.specs.Calls.{Question, tree-count, split-count, one-split, split-list, tree-splits, one-sided, doubled, matrix, collisions, strict, majority, both, write-accepted, weighted, split-lengths, number, split, weight, sums, fill, fillBoth, fillEach, reply, Made, one, many, file, ask, reopen, Told, replied, told, after, toldAll, afterAll, handed, handedAll, verdictsTold, isCollisions, otherTold}
+use Rattle.promises.specs.Calls.{Question, tree-count, split-count, one-split, split-list, tree-splits, one-sided, doubled, matrix, collisions, strict, majority, both, write-accepted, weighted, split-lengths, write-splits, read-splits, merge, strict-tree, majority-tree, number, split, weight, sums, fill, fillBoth, fillEach, fillRead, reply, Made, one, many, file, ask, reopen, Told, replied, told, after, toldAll, afterAll, handed, handedAll, verdictsTold, isCollisions, otherTold}
 use Rattle.promises.specs.Steps.{Opens, Steps}
 use Rattle.promises.specs.BatchLaws.{after-handed, verdicts-handed, SameTexts, same-texts, handed-same, told-same}
 use Rattle.promises.specs.StepLaws.{opening-follows, step-follows, all-opening, steps-follow, told-lent}
@@ -96,6 +97,11 @@ module _ (h k : Held) (s : SameAnswers h k) where
   reply-same (write-accepted i out) c = ap (λ (x : Answer (List ℕ)). fill x out) (s .written i (length out))
   reply-same (weighted i j) c = ap weight (s .weighted i j)
   reply-same (split-lengths i) c = ap sums (s .sums i)
+  reply-same (write-splits out) c = ap (λ (x : Answer (List ℕ)). fill x out) (s .split-file (length out))
+  reply-same (read-splits f masks counts) c = ap (λ (x : Answer Splits). fillRead x masks counts) (s .file-read f (length masks) (length counts))
+  reply-same (merge f g out) c = ap (λ (x : Answer (List ℕ)). fill x out) (s .files-merged f g (length out))
+  reply-same (strict-tree f out) c = ap (λ (x : Answer (List ℕ)). fill x out) (s .file-strict f (length out))
+  reply-same (majority-tree f out) c = ap (λ (x : Answer (List ℕ)). fill x out) (s .file-majority f (length out))
 
 -- ---- from one accepted opening on
 
@@ -146,7 +152,8 @@ module _ (x : Numbers) (names first second before s : List ℕ) (o : Opens x nam
       ∙ ap verdictsTold (told-first (length before) cs ds begun)
       ∙ verdicts-whole cs
 
-  -- every distance, count and consensus tree, and the collision number, at any point of a run
+  -- every distance, count and consensus tree, the collision number, and what is written, read, merged or summed up of split files, at any
+  -- point of a run
   pub same-questions : (cs ds : List Made) (q : Question) (as′ : List Told) (t : List ℕ) → Steps s (cs ++ ask q ∷ ds) as′ t
       → (d : Told) → getD as′ (length cs) d ≡ replied (reply (ending begun (texts cs)) q)
   unfolding told
@@ -176,6 +183,7 @@ module _ (h k : Held) (s : Twins h k) where
       let r = alike-run h k (s .alike) (s .unfinished) cs in
       record {
         alike = record {
+          taxa = part-stays (λ y. y .numbers .taxa) h k cs (s .alike .taxa);
           names = part-stays (λ y. y .names) h k cs (s .alike .names);
           lanes = part-stays (λ y. y .numbers .lanes) h k cs (s .alike .lanes);
           treeRoom = part-stays (λ y. y .numbers .treeRoom) h k cs (s .alike .treeRoom);
@@ -233,7 +241,7 @@ module _ (x : Numbers) (m : ℕ) (names first second first′ second′ before b
   twins-begun : Twins (opened (openingOf x names first second)) (opened (openingOf (withPlaces x m) names first′ second′))
   unfolding opened withPlaces
   twins-begun = record {
-    alike = record { names = refl; lanes = refl; treeRoom = refl; splitRoom = refl; kept = refl; trees = refl; lengths = refl };
+    alike = record { taxa = refl; names = refl; lanes = refl; treeRoom = refl; splitRoom = refl; kept = refl; trees = refl; lengths = refl };
     unfinished = refl;
   }
 

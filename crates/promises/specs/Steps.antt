@@ -45,7 +45,12 @@ use Rattle.feeding.proofs.close.Reads as closes
 use Rattle.feeding.proofs.batch.Reads as batches
 use Rattle.nexus.proofs.feed_file.Reads as files
 use Rattle.withdrawing.proofs.withdraw.Reads as withdraws
-use Rattle.promises.specs.Calls.{Question, tree-count, split-count, one-split, split-list, tree-splits, one-sided, doubled, matrix, collisions, strict, majority, both, write-accepted, weighted, split-lengths, Reply, number, split, filled, bothFilled, eachFilled, weight, sums, Made, one, many, file, ask, reopen, Told, heard, batched, replied, notOpened}
+use Rattle.splitfile.proofs.write_splits.Reads as writesSplits
+use Rattle.splitfile.proofs.read_splits.Reads as readsSplits
+use Rattle.splitfile.proofs.merge.Reads as merges
+use Rattle.splitfile.proofs.strict_tree.Reads as strictTrees
+use Rattle.splitfile.proofs.majority_tree.Reads as majorityTrees
+use Rattle.promises.specs.Calls.{Question, tree-count, split-count, one-split, split-list, tree-splits, one-sided, doubled, matrix, collisions, strict, majority, both, write-accepted, weighted, split-lengths, write-splits, read-splits, merge, strict-tree, majority-tree, Reply, number, split, filled, bothFilled, eachFilled, weight, sums, Made, one, many, file, ask, reopen, Told, heard, batched, replied, notOpened}
 
 abbrev pub lent : List ℕ → RefT (List ℕ)
 lent s = record { ptr = (0, 0); name = 0; now = s }
@@ -59,7 +64,7 @@ Counts post a = (r : Number) × post r × (a ≡ number (numberGiven r))
 abbrev Fills : (Number → List ℕ → Type 0) → Reply → Type 0
 Fills post a = (r : Number) × (out : List ℕ) × post r out × (a ≡ filled (numberGiven r) out)
 
--- the store is lent to be read, the buffers to be written
+-- the store and split files are lent to be read, the buffers to be written
 unfoldable pub Asked : List ℕ → Question → Reply → Type 0
 unfolding numberGiven bothGiven splitGiven weightGiven splitLengthsGiven
 Asked s tree-count = Counts (λ r. treeCount.Post ([], tt) (lent s, tt) r (lent s, tt))
@@ -91,6 +96,17 @@ Asked s (weighted i j) = λ a.
     × (a ≡ weight (weightGiven r))
 Asked s (split-lengths k) = λ a.
     (r : SplitLengths) × splitLengths.Post ([], tt) (lent s, (record { 0 = k }, tt)) r (lent s, (record { 0 = k }, tt)) × (a ≡ sums (splitLengthsGiven r))
+Asked s (write-splits o) = Fills (λ r o′. writesSplits.Post ([], ([], tt)) (lent s, (lent o, tt)) r (lent s, (lent o′, tt)))
+Asked s (read-splits f m c) = λ a.
+    (r : Both) × (m′ : List ℕ) × (c′ : List ℕ)
+    × readsSplits.Post ([], ([], ([], ([], tt)))) (lent s, (lent f, (lent m, (lent c, tt)))) r (lent s, (lent f, (lent m′, (lent c′, tt))))
+    × (a ≡ eachFilled (bothGiven r) m′ c′)
+Asked s (merge f g o) =
+    Fills (λ r o′. merges.Post ([], ([], ([], ([], tt)))) (lent s, (lent f, (lent g, (lent o, tt)))) r (lent s, (lent f, (lent g, (lent o′, tt)))))
+Asked s (strict-tree f o) =
+    Fills (λ r o′. strictTrees.Post ([], ([], ([], tt))) (lent s, (lent f, (lent o, tt))) r (lent s, (lent f, (lent o′, tt))))
+Asked s (majority-tree f o) =
+    Fills (λ r o′. majorityTrees.Post ([], ([], ([], tt))) (lent s, (lent f, (lent o, tt))) r (lent s, (lent f, (lent o′, tt))))
 
 -- ---- openings
 

@@ -12,5 +12,6 @@ pub mod ChoosingLaws
 pub mod ChosenTreeLaws
 pub mod MergeStep
 pub mod MergeStepLaws
+pub mod MergeWalk
 pub mod MergeWalkLaws
 pub mod MergingLaws

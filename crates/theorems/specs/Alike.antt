@@ -1,6 +1,6 @@
 -- Collections that are alike in what the answers come from.
 --
---   Alike h k          the same names, number of lanes, rooms, trees and lengths, kept or not; constants, places and unfinished texts may differ
+--   Alike h k          the same taxa, names, number of lanes, rooms, trees and lengths, kept or not; constants, places and unfinished texts may differ
 --   withPlaces x m     the numbers x, with m hash places
 --   SaveOthers l h k   the same but for the texts of lanes other than l
 --   SameFed f g        two feedings that answer the same and leave the collections alike
@@ -16,11 +16,13 @@ use Rattle.trees.specs.Opening.{Numbers}
 use Rattle.trees.specs.Held.{Held, laneOf, Fed, Closed}
 use Rattle.trees.specs.Withdrawing.{Withdrawn}
 use Rattle.trees.specs.Questions.{treesHeld, splitsHeld, splitList, splitNumber, treeNumber, oneSidedOf, doubledOf, matrixOf, strictOf, majorityOf, bothOf, writtenOf, weightedOf, sumsOf}
+use Rattle.trees.specs.SplitFileCall.{fileOf, readingOf, mergingOf, strictFileOf, majorityFileOf}
 use Rattle.trees.specs.Runs.{Call, answers, ending}
 
 -- ---- collections
 
 pub record Alike (h k : Held) : Type 0 where
+  pub taxa : h .opening .numbers .taxa ≡ k .opening .numbers .taxa
   pub names : h .opening .names ≡ k .opening .names
   pub lanes : h .opening .numbers .lanes ≡ k .opening .numbers .lanes
   pub treeRoom : h .opening .numbers .treeRoom ≡ k .opening .numbers .treeRoom
@@ -73,6 +75,11 @@ pub record SameAnswers (h k : Held) : Type 0 where
   pub written : (i room : ℕ) → writtenOf h i room ≡ writtenOf k i room
   pub weighted : (i j : ℕ) → weightedOf h i j ≡ weightedOf k i j
   pub sums : (s : ℕ) → sumsOf h s ≡ sumsOf k s
+  pub split-file : (room : ℕ) → fileOf h room ≡ fileOf k room
+  pub file-read : (f : List ℕ) (maskRoom countRoom : ℕ) → readingOf h f maskRoom countRoom ≡ readingOf k f maskRoom countRoom
+  pub files-merged : (f g : List ℕ) (room : ℕ) → mergingOf h f g room ≡ mergingOf k f g room
+  pub file-strict : (f : List ℕ) (room : ℕ) → strictFileOf h f room ≡ strictFileOf k f room
+  pub file-majority : (f : List ℕ) (room : ℕ) → majorityFileOf h f room ≡ majorityFileOf k f room
 
 -- two runs of the calls cs that nobody can tell apart, save by the collision number
 pub record SameRun (h k : Held) (cs : List Call) : Type 0 where

@@ -21,6 +21,7 @@ use Rattle.trees.specs.Held.{Held, Lane, holding, overrun, laneOf, withLane, wi
 use Rattle.trees.specs.NexusCall.{onText}
 use Rattle.trees.specs.Withdrawing.{withoutAt, withoutTree, withdrawing}
 use Rattle.trees.specs.Questions.{treesHeld, splitsHeld, splitList, splitNumber, treeNumber, oneSidedOf, doubledOf, matrixOf, collisionsOf, strictOf, majorityOf, bothOf, writtenOf, weightedOf, sumsOf}
+use Rattle.trees.specs.SplitFileCall.{fileOf, readingOf, mergingOf, strictFileOf, majorityFileOf}
 use Rattle.theorems.specs.FeedingLaws.{endsAt, feedingBy, feeding-by, closingBy, closing-by}
 use Rattle.theorems.specs.WithdrawLaws.{withdrawingBy, withdrawing-by}
 use Rattle.theorems.specs.Alike.{Alike, SameFed, SameClosed, SameWithdrawn, SameAnswers}
@@ -30,6 +31,7 @@ use Rattle.theorems.specs.Alike.{Alike, SameFed, SameClosed, SameWithdra
 module _ (h k : Held) (o : h .opening ≡ k .opening) (t : h .trees ≡ k .trees) where
   pub same-alike : h .lengths ≡ k .lengths → Alike h k
   same-alike l = record {
+    taxa = λ i. o i .numbers .taxa;
     names = λ i. o i .names;
     lanes = λ i. o i .numbers .lanes;
     treeRoom = λ i. o i .numbers .treeRoom;
@@ -79,6 +81,7 @@ module _ (h k : Held) (a : Alike h k) where
       → Alike (record { opening = h .opening; trees = ts; lengths = xss; texts = xs }) (record { opening = k .opening; trees = us; lengths = yss; texts = ys })
   parts-alike ts us xss yss xs ys t l =
       record {
+        taxa = a .taxa;
         names = a .names;
         lanes = a .lanes;
         treeRoom = a .treeRoom;
@@ -175,32 +178,43 @@ module _ (h k : Held) (a : Alike h k) where
 
 -- ---- questions
 
--- a collection with these names, trees and lengths, kept or not, and nothing else: what the questions come from
-abbrev bare : ℕ → List (List ℕ) → List (List ℕ) → List (List Length) → Held
-bare kept ns ts xss =
+-- a collection with so many taxa, these names, trees and lengths, kept or not, and nothing else: what the questions come from
+abbrev bare : ℕ → ℕ → List (List ℕ) → List (List ℕ) → List (List Length) → Held
+bare taxa kept ns ts xss =
     record {
-      opening = record { numbers = record { taxa = 0; lanes = 0; treeRoom = 0; splitRoom = 0; places = 0; kept = kept }; names = ns; first = []; second = [] };
+      opening = record { numbers = record { taxa = taxa; lanes = 0; treeRoom = 0; splitRoom = 0; places = 0; kept = kept }; names = ns; first = []; second = [] };
       trees = ts;
       lengths = xss;
       texts = [];
     }
 
+abbrev bareOf : Held → Held
+bareOf h = bare (h .opening .numbers .taxa) (h .opening .numbers .kept) (h .opening .names) (h .trees) (h .lengths)
+
 pub questions-alike : (h k : Held) → Alike h k → SameAnswers h k
-unfolding treesHeld splitsHeld splitList splitNumber treeNumber oneSidedOf doubledOf matrixOf strictOf majorityOf bothOf writtenOf weightedOf sumsOf
+unfolding treesHeld splitsHeld splitList splitNumber treeNumber oneSidedOf doubledOf matrixOf strictOf majorityOf bothOf writtenOf weightedOf sumsOf fileOf readingOf mergingOf strictFileOf majorityFileOf
 questions-alike h k a =
     record {
-      number-of-trees = λ z. treesHeld (bare (a .kept z) (a .names z) (a .trees z) (a .lengths z));
-      number-of-splits = λ z. splitsHeld (bare (a .kept z) (a .names z) (a .trees z) (a .lengths z));
-      splits-and-counts = λ m c z. splitList (bare (a .kept z) (a .names z) (a .trees z) (a .lengths z)) m c;
-      split-and-count = λ s z. splitNumber (bare (a .kept z) (a .names z) (a .trees z) (a .lengths z)) s;
-      splits-of-tree = λ i r z. treeNumber (bare (a .kept z) (a .names z) (a .trees z) (a .lengths z)) i r;
-      one-sided = λ i j z. oneSidedOf (bare (a .kept z) (a .names z) (a .trees z) (a .lengths z)) i j;
-      doubled = λ i j z. doubledOf (bare (a .kept z) (a .names z) (a .trees z) (a .lengths z)) i j;
-      matrix = λ r z. matrixOf (bare (a .kept z) (a .names z) (a .trees z) (a .lengths z)) r;
-      strict = λ r z. strictOf (bare (a .kept z) (a .names z) (a .trees z) (a .lengths z)) r;
-      majority = λ r z. majorityOf (bare (a .kept z) (a .names z) (a .trees z) (a .lengths z)) r;
-      both = λ r q z. bothOf (bare (a .kept z) (a .names z) (a .trees z) (a .lengths z)) r q;
-      written = λ i r z. writtenOf (bare (a .kept z) (a .names z) (a .trees z) (a .lengths z)) i r;
-      weighted = λ i j z. weightedOf (bare (a .kept z) (a .names z) (a .trees z) (a .lengths z)) i j;
-      sums = λ s z. sumsOf (bare (a .kept z) (a .names z) (a .trees z) (a .lengths z)) s;
+      number-of-trees = λ z. treesHeld (same z);
+      number-of-splits = λ z. splitsHeld (same z);
+      splits-and-counts = λ m c z. splitList (same z) m c;
+      split-and-count = λ s z. splitNumber (same z) s;
+      splits-of-tree = λ i r z. treeNumber (same z) i r;
+      one-sided = λ i j z. oneSidedOf (same z) i j;
+      doubled = λ i j z. doubledOf (same z) i j;
+      matrix = λ r z. matrixOf (same z) r;
+      strict = λ r z. strictOf (same z) r;
+      majority = λ r z. majorityOf (same z) r;
+      both = λ r q z. bothOf (same z) r q;
+      written = λ i r z. writtenOf (same z) i r;
+      weighted = λ i j z. weightedOf (same z) i j;
+      sums = λ s z. sumsOf (same z) s;
+      split-file = λ r z. fileOf (same z) r;
+      file-read = λ f m c z. readingOf (same z) f m c;
+      files-merged = λ f g r z. mergingOf (same z) f g r;
+      file-strict = λ f r z. strictFileOf (same z) f r;
+      file-majority = λ f r z. majorityFileOf (same z) f r;
     }
+  where
+    same : bareOf h ≡ bareOf k
+    same = λ z. bare (a .taxa z) (a .kept z) (a .names z) (a .trees z) (a .lengths z)

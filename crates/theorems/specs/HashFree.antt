@@ -112,6 +112,7 @@ module _ (x : Numbers) (m : ℕ) (nameList first second first′ second′ : Lis
       let e : (f : Numbers → ℕ) → f (o .numbers) ≡ f x = λ f. ap f (a .numbers-as-given) in
       let d : (f : Numbers → ℕ) → f (withPlaces x m) ≡ f (q .numbers) = λ f. sym (ap f (b .numbers-as-given)) in
       record {
+        taxa = e (λ y. y .taxa) ∙ d (λ y. y .taxa);
         names = a .names-as-given ∙ sym (b .names-as-given);
         lanes = e (λ y. y .lanes) ∙ d (λ y. y .lanes);
         treeRoom = e (λ y. y .treeRoom) ∙ d (λ y. y .treeRoom);

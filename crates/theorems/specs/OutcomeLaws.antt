@@ -124,7 +124,7 @@ module _ (o : Opening) where
   -- ---- one call
 
   state-alike : (ts : Trees) (us vs : List (List ℕ)) → Alike (state ts us) (state ts vs)
-  state-alike ts us vs = record { names = refl; lanes = refl; treeRoom = refl; splitRoom = refl; kept = refl; trees = refl; lengths = refl }
+  state-alike ts us vs = record { taxa = refl; names = refl; lanes = refl; treeRoom = refl; splitRoom = refl; kept = refl; trees = refl; lengths = refl }
 
   state-verdict : (ts : Trees) (us : List (List ℕ)) (l : ℕ) (q : List ℕ) → verdict (state ts us) (longer (laneOf (state ts us) l) q) ≡ judgement ts (getD us l [] ++ q)
   unfolding judgement

@@ -1,4 +1,5 @@
 // What the calls answer, in a few numbers and the two consensus trees.
+use crate::files;
 use crate::measured;
 use crate::opened;
 use answers::Both;
@@ -20,6 +21,15 @@ pub(crate) fn write_answers(
     if kept {
         write_lengths(s);
     }
+    write_files(kept, names, texts, s);
+}
+
+// The collection's split file, what it reads as, and two files of its records merged.
+fn write_files(kept: bool, names: &[u8], texts: &[u8], s: &mut [u8; 778760]) {
+    write_number(b"file ", files::make_files(b'e', 1, names, s).sum);
+    write_number(b"read ", files::make_files(b'r', 1, names, s).sum);
+    opened::fill(s, kept, names, texts);
+    write_number(b"merged ", files::make_files(b'u', 1, names, s).sum);
 }
 
 // How many texts, trees and splits there are, and the verdicts.
@@ -88,7 +98,7 @@ fn write_text(name: &[u8], text: &[u8], n: usize) {
 }
 
 // The sum of the sums of the first 1, 2, .. n verdicts, which tells their order too.
-fn verdict_sum(verdicts: &[u32], n: usize) -> u64 {
+pub(crate) fn verdict_sum(verdicts: &[u32], n: usize) -> u64 {
     let mut sum = 0u64;
     let mut sums = 0u64;
     let mut i = 0;

@@ -43,6 +43,16 @@ pub(crate) fn part_of(line: &[u8]) -> u8 {
     first_byte(line)
 }
 
+// Whether a part is one of split files: `export`, `read` or `unite`.
+pub(crate) fn is_of_files(part: u8) -> bool {
+    match part {
+        b'e' => true,
+        b'r' => true,
+        b'u' => true,
+        _ => false,
+    }
+}
+
 // The first byte of a line; 0 where there is none.
 pub(crate) fn first_byte(line: &[u8]) -> u8 {
     if line.len() == 0 {

@@ -4,6 +4,7 @@
 // is made N times, and the nanoseconds of one time are written. Behind the word `kept` lengths are kept. docs/BENCH.md says what the parts are.
 mod answered;
 mod clock;
+mod files;
 mod lines;
 mod measured;
 mod opened;
@@ -66,5 +67,9 @@ fn make_calls(wanted: &[u8], kept: bool, names: &[u8], texts: &[u8]) {
         return;
     }
     let n = lines::times_in(wanted);
+    if lines::is_of_files(part) {
+        clock::write_time(parts::time_files(part, n, kept, names, texts, &mut store));
+        return;
+    }
     clock::write_time(parts::time_part(part, n, kept, names, texts, &mut store, &mut matrix));
 }

@@ -66,6 +66,22 @@ fn open_with(s: &mut [u8], kept: bool, names: &[u8], first: &[u64], second: &[u6
     );
 }
 
+// Opens an empty collection of the same names in the store, with as little room as can be.
+pub(crate) fn open_empty(s: &mut [u8], names: &[u8]) {
+    let zeros = [0u64; 64];
+    open_smallest(s, names, &zeros);
+}
+
+// Opens it with as many constants, all 0, as there are names.
+fn open_smallest(s: &mut [u8], names: &[u8], zeros: &[u64]) {
+    let n = lines::count_names(names);
+    let k = n as usize;
+    if zeros.len() < k {
+        return;
+    }
+    table::open(s, n, 1, 1, 1, 1, false, names, &zeros[..k], &zeros[..k]);
+}
+
 // Fills a list of constants with numbers below the 8,192 places.
 fn spread(list: &mut [u64], from: u64) {
     let mut x = from;
@@ -78,7 +94,7 @@ fn spread(list: &mut [u64], from: u64) {
 }
 
 // The number behind x, in the sequence of the minimal standard generator.
-fn next(x: u64) -> u64 {
+pub(crate) fn next(x: u64) -> u64 {
     x % 2147483647 * 48271 % 2147483647
 }
 

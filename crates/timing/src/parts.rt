@@ -1,5 +1,7 @@
 // The parts that are timed, each named by its first letter, or x for `withdraw`.
 use crate::clock;
+use crate::files;
+use crate::files::Made;
 use crate::measured;
 use crate::opened;
 use answers::Lane;
@@ -23,6 +25,21 @@ pub(crate) fn time_part(
         i += 1;
     }
     clock::nanoseconds(from, n)
+}
+
+// Fills the collection, makes a part of split files n times, and answers the nanoseconds of one time.
+pub(crate) fn time_files(
+    part: u8,
+    n: u64,
+    kept: bool,
+    names: &[u8],
+    texts: &[u8],
+    s: &mut [u8; 778760],
+) -> u64 {
+    opened::fill(s, kept, names, texts);
+    let made: Made = files::make_files(part, n, names, s);
+    keep(made.sum, s);
+    made.time
 }
 
 // Makes a part for the i-th time: opening; opening and a batch; opening and each text by a call of its own; all pairs of trees; or a part

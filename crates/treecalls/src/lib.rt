@@ -10,8 +10,9 @@ pub extern "C" fn treecalls_main(
     masks: &mut [u64],
     counts: &mut [u32],
     distances: &mut [u16],
+    file: &mut [u8],
 ) -> u32
     ensures { λ r. ⌜ r ≤ 1 ⌝ }
 {
-    calling::answer_all(input, memory, out, masks, counts, distances)
+    calling::answer_all(input, memory, out, masks, counts, distances, file)
 }

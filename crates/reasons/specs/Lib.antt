@@ -1,0 +1,3 @@
+-- The refusals in words.
+pub mod Reasons
+pub mod ReasonLaws
