@@ -6,7 +6,7 @@
 #include "small.h"
 
 enum { TAXA = 64, TREES = 1024, SPLITS = 4096, SLOTS = 8192, NAME_SLOTS = 256, TEXT = 4608, NESTING = 63, NAME = 32 };
-enum { INPUT = 4194304 };
+enum { INPUT = 4206592, PHYLIP = 5 + TREES * (4 * TREES + 11) };
 
 static u8 input[INPUT];
 static u32 verdicts[2 * TREES];
@@ -399,6 +399,41 @@ static void write_matrix(void)
     }
 }
 
+static u8 phylip[PHYLIP];
+static u64 phylip_size;
+
+static u8 *write_decimal(u8 *to, u32 n)
+{
+    u8 digits[10];
+    u32 k = 0;
+    do
+        digits[k++] = (u8)('0' + n % 10);
+    while (n /= 10);
+    while (k)
+        *to++ = digits[--k];
+    return to;
+}
+
+/* The matrix, made before, as text in PHYLIP's layout. */
+static void write_phylip(void)
+{
+    u8 *to = write_decimal(phylip, trees);
+    *to++ = '\n';
+    for (u32 i = 0; i < trees; i++) {
+        const u8 *values = to + 10;
+        *to++ = 't';
+        to = write_decimal(to, i);
+        while (to < values)
+            *to++ = ' ';
+        for (u32 j = 0; j < trees; j++) {
+            *to++ = ' ';
+            to = write_decimal(to, matrix[i * trees + j]);
+        }
+        *to++ = '\n';
+    }
+    phylip_size = (u64)(to - phylip);
+}
+
 /* ---- lengths, where they are kept */
 
 static int compare_rows(const void *a, const void *b)
@@ -684,6 +719,10 @@ static void answers(u32 n)
     put_number(read_sum());
     put_text("\nmerged ");
     put_number(byte_sum(merged, sizeof merged));
+    put_text("\nphylip ");
+    put_number(phylip_size);
+    put_text("\nbytes ");
+    put_number(byte_sum(phylip, phylip_size));
     put_char('\n');
 }
 
@@ -722,9 +761,9 @@ static void make_files(void)
 
 static volatile u64 asked; /* written, so that the compiler leaves nothing out */
 
-/* Makes a part for the i-th time. It is named by its first letter: opening; opening and a batch; all pairs of trees; the weighted distance
- * between the first tree and tree i; the lengths of split i; the collection's split file, exported or read; two such files united by
- * copying them, or joined into one; or both consensus trees. */
+/* Makes a part for the i-th time. It is named by its first letter: opening; opening and a batch; all pairs of trees; these in PHYLIP's
+ * layout; the weighted distance between the first tree and tree i; the lengths of split i; the collection's split file, exported or
+ * read; two such files united by copying them, or joined into one; or both consensus trees. */
 static void make_part(u8 part, u32 i, const u8 *p, const u8 *end)
 {
     if (part == 'o')
@@ -733,7 +772,10 @@ static void make_part(u8 part, u32 i, const u8 *p, const u8 *end)
         fill(p, end);
     else if (part == 'm')
         write_matrix();
-    else if (part == 'd')
+    else if (part == 'p') {
+        write_phylip();
+        asked = phylip[i % PHYLIP];
+    } else if (part == 'd')
         asked = weight_word(weighted(0, i));
     else if (part == 'l')
         asked = lengths_word(split_lengths(i));
@@ -759,6 +801,8 @@ static void time_part(u8 part, u64 n, const u8 *p, const u8 *end)
     fill(p, end);
     if (memchr("eruj", part, 4))
         make_files();
+    if (part == 'p')
+        write_matrix();
     long from = clock();
     for (u64 i = 0; i < n; i++)
         make_part(part, (u32)i, p, end);
@@ -843,6 +887,7 @@ int main(void)
         write_matrix();
         both_trees();
         if (*wanted == 'a') {
+            write_phylip();
             make_files();
             read_file();
             merge_parts();

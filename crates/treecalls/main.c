@@ -9,7 +9,7 @@ typedef unsigned long u64, size;
 #define LENT 8388608
 #define LINE 16777224
 /* The answers that wait, the splits of a split file, of which a collection has fewer, and the entries of a matrix. A batch or a NEXUS file has
- * no more verdicts than bytes, and a split file that is written no more bytes than a line can hand in. */
+ * no more verdicts than bytes, and a split file or a PHYLIP matrix that is written no more bytes than a line can hand in. */
 #define WAITING 65536
 #define SPLITS 524288
 #define ENTRIES 1048576

@@ -3,11 +3,11 @@
 //! Bytes of a store are known where document 01 settles them: those that were poked, and those that no call has
 //! written since they were peeked. An answer that depends on others is `unmodelled`.
 
-use crate::collection::{Collection, Fed};
+use crate::collection::{read_phylip, Collection, Fed};
 use crate::layout::{head_number, SPLITS_HELD, TREES_HELD};
 use crate::memory::{Memory, MOST_LENT};
 use crate::opening::{open, Numbers};
-use crate::question::{refused, Question, Writes};
+use crate::question::{matrix_line, refused, Question, Writes};
 use crate::sets::{agree, taxa_of};
 use crate::whole::held_in;
 use crate::words::{bytes, hex, lines, list, number};
@@ -59,6 +59,7 @@ impl Program {
             [b"open", opening @ .., b"lengths"] => self.open_line(opening, true),
             [b"open", opening @ ..] => self.open_line(opening, false),
             [b"agree", a, b] => Some(agreement(number(a)?, number(b)?)),
+            [b"read-phylip", file] => Some(self.read_phylip(&bytes(file)?)),
             [b"feed", lane, piece] => Some(self.feed(number(lane)?, &bytes(piece)?)),
             _ => self.question(words),
         }
@@ -104,6 +105,11 @@ impl Program {
     fn set_room(&mut self, k: usize) -> Vec<u8> {
         self.room = k;
         b"done".to_vec()
+    }
+
+    /// Whatever the lent bytes are.
+    fn read_phylip(&self, file: &[u8]) -> Vec<u8> {
+        read_phylip(file, self.room).map_or_else(refused, |(trees, values)| matrix_line(trees, &values))
     }
 
     // Learning from answers

@@ -6,6 +6,7 @@ use crate::hash::{identifier, place};
 use crate::labels::{first_outside, is_odd, split_outside};
 use crate::nexus::plain_texts;
 use crate::opening::Opening;
+use crate::phylip;
 use crate::splitfile::{self, Splits};
 use crate::text::is_blank;
 use crate::verdict::{judge, judge_with_lengths, Lengths, Masks, Tree, MOST_BYTES};
@@ -272,6 +273,13 @@ impl Collection {
         fitting(distances?, room)
     }
 
+    /// The same in PHYLIP's layout.
+    pub fn phylip(&self, room: usize) -> Result<Vec<u8>, u32> {
+        let t = self.trees.len();
+        let rows = self.matrix(usize::MAX)?.chunks(t.max(1)).map(<[u64]>::to_vec).collect();
+        fitting(phylip::write(&rows), room)
+    }
+
     /// "The count of unordered pairs of different recorded splits equal in place and identifier."
     pub fn collisions(&self) -> u64 {
         let mut alike: BTreeMap<(u64, u64), u64> = BTreeMap::new();
@@ -367,6 +375,12 @@ impl Collection {
     fn tree_numbered(&self, tree: u64) -> Result<&Tree, u32> {
         usize::try_from(tree).ok().and_then(|at| self.trees.get(at)).ok_or(13)
     }
+}
+
+/// The entries of a matrix in PHYLIP's layout, row by row, and how many trees it has; it needs no collection.
+pub fn read_phylip(file: &[u8], room: usize) -> Result<(usize, Vec<u64>), u32> {
+    let rows = phylip::read(file)?;
+    Ok((rows.len(), fitting(rows.concat(), room)?))
 }
 
 /// 4 if "a lent buffer is too short for the whole answer".

@@ -159,7 +159,7 @@ fn longest_written(mut random: Random) -> Vec<u8> {
     maker.text(&text);
     for room in ["room 4347", "room 4348", "room 4349", "room 4350"] {
         maker.ask(room);
-        for line in ["write 0", "strict", "majority", "both"] {
+        for line in ["write 0", "strict", "majority", "both", "phylip"] {
             maker.ask(line);
         }
         let file = maker.file();
@@ -198,7 +198,7 @@ fn taxa(random: &mut Random) -> Vec<u8> {
         lines.push(open_line(&numbers, &name_list(&names), &zeros, &zeros));
         let text = bare_text(random, &names, 2);
         lines.push(format!("feed 0 {}3b", hex(&text)));
-        lines.extend(["splits", "majority", "both", "collisions", "matrix"].map(str::to_string));
+        lines.extend(["splits", "majority", "both", "collisions", "matrix", "phylip"].map(str::to_string));
     }
     joined(&lines)
 }
@@ -215,6 +215,7 @@ fn small_tree_rooms(mut random: Random) -> Vec<u8> {
             let text = bare_text(&mut maker.random, &maker.names, 3);
             maker.text(&text);
             maker.ask("matrix");
+            maker.ask("phylip");
             maker.peek();
         }
     }
@@ -331,6 +332,8 @@ fn largest_tree_room(random: Random) -> Vec<u8> {
     }
     let file = maker.file();
     maker.calls_on_file(&file);
+    let file = maker.phylip();
+    maker.read_phylip(&file);
     maker.script()
 }
 

@@ -1,5 +1,5 @@
 //! An independent calculation of every answer, to compare the proved programs with. It is written from document 01,
-//! entries 2026-01 to 2026-03, 2026-05 and 2026-06 of document 02 and the settled points, and shares nothing with the code that it is compared with.
+//! entries 2026-01 to 2026-03 and 2026-05 to 2026-07 of document 02 and the settled points, and shares nothing with the code that it is compared with.
 
 mod big;
 mod branches;
@@ -38,6 +38,11 @@ mod nightjob;
 mod oddities;
 mod opening;
 mod parts;
+mod phylip;
+mod phylipcheck;
+mod phyliprefusals;
+mod phylips;
+mod phylipscript;
 mod question;
 mod quotecheck;
 mod quotes;
@@ -118,6 +123,7 @@ fn maker(word: &str) -> Option<Make> {
         "lengths" => lengthscript::lengths,
         "withdrawals" => withdrawals::withdrawals,
         "splitfiles" => splitfilescript::splitfiles,
+        "phylips" => phylipscript::phylips,
         "limits" => limits::limits,
         "largest" => limits::largest,
         "oddities" => oddities::oddities,
@@ -185,7 +191,7 @@ fn usage() {
     eprintln!("nightjob write OUT NAMES TREES | nightjob merge OUT NAMES A B | nightjob show NAMES FILE");
     eprintln!("GENERATOR SEED COUNT | damaged SEED COUNT SCRIPT ANSWERS, a generator being");
     eprintln!("texts | sheet | calls | mixed | whole | batched | filed | zeros | refusals | stores | made | nexus");
-    eprintln!("quotes | lengths | withdrawals | splitfiles | limits | largest | oddities");
+    eprintln!("quotes | lengths | withdrawals | splitfiles | phylips | limits | largest | oddities");
     std::process::exit(2);
 }
 

@@ -18,6 +18,8 @@ pub struct Maker {
     pub kept: Vec<Vec<u8>>,
     /// The one of the last questions.
     pub asked: Vec<u8>,
+    /// Its matrices in PHYLIP's layout.
+    pub phylips: Vec<Vec<u8>>,
     lines: Vec<String>,
 }
 
@@ -53,6 +55,7 @@ impl Maker {
             lent,
             kept: Vec::new(),
             asked: Vec::new(),
+            phylips: Vec::new(),
             lines,
         }
     }
@@ -116,6 +119,7 @@ impl Maker {
             self.ask(line);
         }
         self.file_questions();
+        self.phylip_questions();
         for tree in 0..=self.held.number_of_trees() {
             self.ask(format!("tree {tree}"));
             self.ask(format!("write {tree}"));
@@ -139,8 +143,9 @@ pub fn every_call(piece: &[u8]) -> Vec<String> {
     calls
 }
 
-/// The files have one split, of the taxa 1 and 2, in one or both of two trees, or the taxa 1 and 3 in all of three.
-pub const QUESTIONS: [&str; 25] = [
+/// The split files have one split, of the taxa 1 and 2, in one or both of two trees, or the taxa 1 and 3 in all of three; the
+/// matrices are one of two trees, one that is not symmetric, and none.
+pub const QUESTIONS: [&str; 30] = [
     "trees",
     "count",
     "splits",
@@ -166,6 +171,11 @@ pub const QUESTIONS: [&str; 25] = [
     "file-strict 06000000000000000200000002000000",
     "file-majority 06000000000000000100000002000000",
     "file-strict -",
+    "phylip",
+    "phylip",
+    "read-phylip 320a74302020202020202020203020370a74312020202020202020203720300a",
+    "read-phylip 320a74302020202020202020203020370a74312020202020202020203620300a",
+    "read-phylip -",
 ];
 
 pub fn size_line(numbers: &Numbers) -> String {

@@ -22,7 +22,7 @@ enum Step {
     Withdraw(usize),
     /// A question on the way, for the ways that cut alike.
     Ask(String),
-    /// Calls on split files, for the same ways.
+    /// Calls on split files and on matrices in PHYLIP's layout, for the same ways.
     Files,
     Peek,
 }
@@ -177,7 +177,10 @@ fn cut(plan: &Plan, zeros: bool) -> Vec<u8> {
             Step::Close(lane) => maker.close(*lane as u64),
             Step::Withdraw(tree) => maker.withdraw(*tree),
             Step::Ask(line) => maker.ask(line),
-            Step::Files => maker.file_calls(),
+            Step::Files => {
+                maker.file_calls();
+                maker.phylip_calls();
+            }
             Step::Peek => maker.peek(),
         }
     }

@@ -5,7 +5,7 @@ use crate::random::Random;
 use crate::words::hex;
 
 /// A line of every call that is one once something is opened.
-const GOOD: [&str; 37] = [
+const GOOD: [&str; 40] = [
     "size 4 1 1 1 1",
     "size 4 1 1 1 1 lengths",
     "open 4 1 1 1 1 41204220432044 0,0,0,0 0,0,0,0 lengths",
@@ -39,13 +39,16 @@ const GOOD: [&str; 37] = [
     "merge - -",
     "file-strict 06000000000000000200000002000000",
     "file-majority 06000000000000000100000002000000",
+    "phylip",
+    "read-phylip 300a",
+    "read-phylip 320a74302020202020202020203020370a74312020202020202020203720300a",
     "agree 6 12",
     "room 7",
     "peek 0 1",
     "poke 8866 00",
 ];
 
-const OTHERS: [&str; 76] = [
+const OTHERS: [&str; 84] = [
     "",
     " ",
     "  ",
@@ -122,6 +125,14 @@ const OTHERS: [&str; 76] = [
     "merge - - -",
     "merge 2020 2020",
     "file strict",
+    "read-phylip",
+    "read-phylip 0",
+    "read-phylip 30",
+    "read-phylip 30 0a",
+    "read-phylip 300A",
+    "read-phylip --",
+    "read phylip 300a",
+    "phylip 300a",
 ];
 
 /// A script of so many rounds; its last line has no end.

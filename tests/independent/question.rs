@@ -26,6 +26,7 @@ pub enum Question {
     Both,
     Write(u64),
     Collisions,
+    Phylip,
     File,
     Records(Vec<u8>),
     Merge(Vec<u8>, Vec<u8>),
@@ -55,6 +56,7 @@ impl Question {
             [b"both"] => Question::Both,
             [b"write", t] => Question::Write(number(t)?),
             [b"collisions"] => Question::Collisions,
+            [b"phylip"] => Question::Phylip,
             [b"file"] => Question::File,
             [b"records", file] => Question::Records(bytes(file)?),
             [b"merge", first, second] => Question::Merge(bytes(first)?, bytes(second)?),
@@ -86,6 +88,7 @@ impl Question {
             Question::Both => both_line(&collection.both_texts(room)?),
             Question::Write(t) => text_line(&collection.tree_text(*t, room)?),
             Question::Collisions => number_line(collection.collisions()),
+            Question::Phylip => bytes_line(&collection.phylip(room)?),
             Question::File => bytes_line(&collection.file(room)?),
             Question::Records(file) => records_line(&collection.records(file, room)?),
             Question::Merge(first, second) => bytes_line(&collection.merge(first, second, room)?),
@@ -160,7 +163,7 @@ fn records_line(splits: &Splits) -> Vec<u8> {
     listed("records", &[trees].into_iter().chain(words).collect::<Vec<String>>())
 }
 
-fn matrix_line(trees: usize, distances: &[u64]) -> Vec<u8> {
+pub fn matrix_line(trees: usize, distances: &[u64]) -> Vec<u8> {
     listed(&format!("matrix {trees}:"), distances)
 }
 

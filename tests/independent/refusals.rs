@@ -10,6 +10,7 @@ use crate::lengthscript::with_lengths;
 use crate::limits::bare_text;
 use crate::maker::{every_call, open_line, size_line, Maker};
 use crate::opening::Numbers;
+use crate::phyliprefusals::{phylip_answers_with_lengths, refused_phylips};
 use crate::random::Random;
 use crate::splitfilerefusals::{file_answers_with_lengths, refused_split_files};
 use crate::verdict::MOST_BYTES;
@@ -78,7 +79,9 @@ fn no_trees(maker: &mut Maker) {
         for line in ["weighted 0 0", "lengths 0", "matrix", "splits", "withdraw 0", "withdraw 1", "file", "records -"] {
             maker.watched(line);
         }
-        maker.watched("batch 0 -");
+        for line in ["batch 0 -", "phylip", "read-phylip 300a"] {
+            maker.watched(line);
+        }
     }
 }
 
@@ -186,17 +189,18 @@ fn closings(maker: &mut Maker) {
     }
 }
 
-/// 13 in each place, before 18 and 4; 18; 19 to 23 of split files; 4 in buffers of one element too few; the answers in buffers of just enough.
+/// 13 in each place, before 18 and 4; 18; 19 to 23 of split files; 24 and 25 of matrices; 4 in buffers of one element too few; the answers in buffers of just enough.
 fn numbers_and_rooms(maker: &mut Maker) {
     trees_with_and_without_lengths(maker);
     for room in ["room 0", "room -"] {
         maker.ask(room);
         wrong_numbers(maker);
         absent_lengths(maker);
-        refused_split_files().into_iter().for_each(|line| maker.watched(line));
+        refused_split_files().into_iter().chain(refused_phylips()).for_each(|line| maker.watched(line));
     }
-    let answers = [answers_with_lengths(&maker.held), file_answers_with_lengths(&maker.held)].concat();
-    for (line, long) in answers {
+    let held = &maker.held;
+    let files = [file_answers_with_lengths(held), phylip_answers_with_lengths(held)].concat();
+    for (line, long) in [answers_with_lengths(held), files].concat() {
         for room in [long.saturating_sub(1), long, long + 1] {
             maker.ask(format!("room {room}"));
             maker.watched(&line);
@@ -423,7 +427,8 @@ fn too_little_memory(maker: &mut Maker, first: &[u64], second: &[u64]) {
     }
 }
 
-/// 1 in each place, before 5, 13, 14 and 4: in no memory, in too little, in enough that was never opened.
+/// 1 in each place, before 5, 13, 14 and 4: in no memory, in too little, in enough that was never opened. A matrix is read all
+/// the same.
 fn not_whole(maker: &mut Maker) {
     let size = maker.numbers.size().expect("numbers in range");
     for lent in [0, 1, 100, size - 1, size + 100] {
@@ -435,7 +440,7 @@ fn not_whole(maker: &mut Maker) {
             let text = [maker.any_text(), b";".to_vec()].concat();
             let wrong = ["feed 8 28", "close 8", "batch 9 3b", "split 9", "tree 9", "one 9 9", "two 9 9", "write 9"];
             let wrong = wrong.into_iter().chain(["weighted 9 9", "lengths 9", "withdraw 9"]).map(str::to_string);
-            let files = refused_files(maker).into_iter().chain(refused_split_files());
+            let files = refused_files(maker).into_iter().chain(refused_split_files()).chain(refused_phylips());
             for line in every_call(&text).into_iter().chain(wrong).chain(files) {
                 maker.watched(line);
             }

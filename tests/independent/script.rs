@@ -10,6 +10,7 @@ use crate::grow::{Name, Shape};
 use crate::labels::{first_outside, is_odd};
 use crate::maker::{joined, open_line, size_line};
 use crate::opening::Numbers;
+use crate::phylips::{keep_phylip, some_phylip_line};
 use crate::random::Random;
 use crate::splitfiles::{keep, some_file_line};
 use crate::words::{bytes, hex};
@@ -40,13 +41,14 @@ struct Script {
     odd: Vec<bool>,
     /// Lines that come next, the last one first.
     planned: Vec<String>,
-    /// What the lines so far come to, and the split files that were answered.
+    /// What the lines so far come to, and the split files and the matrices in PHYLIP's layout that were answered.
     program: Program,
     kept: Vec<Vec<u8>>,
+    phylips: Vec<Vec<u8>>,
 }
 
 /// Lines that are no calls.
-const BAD_LINES: [&str; 58] = [
+const BAD_LINES: [&str; 64] = [
     "",
     " ",
     "trees ",
@@ -105,6 +107,12 @@ const BAD_LINES: [&str; 58] = [
     "merge - - -",
     "file-strict",
     "file-majority - -",
+    "phylip -",
+    "phylip 0",
+    "read-phylip",
+    "read-phylip 0",
+    "read-phylip - -",
+    "readphylip -",
 ];
 
 /// The longest piece of one feeding or batch.
@@ -118,17 +126,19 @@ impl Script {
         let texts = some_texts(&mut random);
         let numbers = some_numbers(&mut random, names.len());
         let waiting = vec![Vec::new(); 9];
-        let (odd, planned, program, kept) = (vec![false; 9], Vec::new(), Program::new(), Vec::new());
-        Script { random, names, pool, texts, numbers, lent: 0, waiting, odd, planned, program, kept }
+        let (odd, planned, program) = (vec![false; 9], Vec::new(), Program::new());
+        let (kept, phylips) = (Vec::new(), Vec::new());
+        Script { random, names, pool, texts, numbers, lent: 0, waiting, odd, planned, program, kept, phylips }
     }
 
-    /// Makes a call, and keeps the split file that it answers.
+    /// Makes a call, and keeps the split file or the matrix that it answers.
     fn made(&mut self, line: &str) {
         let answer = self.program.answer(line.as_bytes());
-        if line == "file" {
-            if let Some(file) = answer.strip_prefix(b"bytes ").and_then(bytes) {
-                keep(&mut self.kept, file);
-            }
+        let file = answer.strip_prefix(b"bytes ").and_then(bytes);
+        match (line, file) {
+            ("file", Some(file)) => keep(&mut self.kept, file),
+            ("phylip", Some(file)) => keep_phylip(&mut self.phylips, file),
+            _ => (),
         }
     }
 
@@ -230,7 +240,7 @@ impl Script {
     fn question_line(&mut self) -> String {
         let (a, b) = (self.small(), self.small());
         let masks = (self.random.next() % 64, self.random.next() % 64);
-        match self.random.below(22) {
+        match self.random.below(26) {
             0 => "trees".to_string(),
             1 => "count".to_string(),
             2 => "splits".to_string(),
@@ -249,6 +259,8 @@ impl Script {
             16 => format!("lengths {a}"),
             17 => "file".to_string(),
             18..=20 => some_file_line(&mut self.random, self.names.len(), &self.kept),
+            21 => "phylip".to_string(),
+            22..=24 => some_phylip_line(&mut self.random, &self.phylips),
             _ => format!("agree {} {}", self.random.next(), self.random.next()),
         }
     }

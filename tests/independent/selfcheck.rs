@@ -1,5 +1,5 @@
 //! `selfcheck`: the samples of document 01, the sheet of the summary program, the limits, and the settled points; then
-//! the checks of quotes, of lengths, of stores, of NEXUS files, of withdrawals and of split files.
+//! the checks of quotes, of lengths, of stores, of NEXUS files, of withdrawals, of split files and of matrices.
 
 use crate::calls::treecalls;
 use crate::collection::Collection;
@@ -8,6 +8,7 @@ use crate::filecheck::file_checks;
 use crate::grow;
 use crate::lengthcheck::length_checks;
 use crate::opening::{open, Numbers};
+use crate::phylipcheck::phylip_checks;
 use crate::quotecheck::quote_checks;
 use crate::random::Random;
 use crate::sets::{agree, taxa_of};
@@ -40,6 +41,7 @@ pub fn selfcheck() -> bool {
         file_checks(),
         withdrawal_checks(),
         split_file_checks(),
+        phylip_checks(),
     ]
     .concat();
     for (name, right) in &checks {

@@ -105,7 +105,8 @@ fn calls_on(random: &mut Random, maker: &Maker) -> Vec<String> {
     let mut lines = every_call(&text);
     lines.extend(["close 0".to_string(), format!("feed 0 {}", hex(&text))]);
     lines.extend((0..random.below(3)).map(|_| format!("withdraw {}", random.below(3))));
-    let behind = ["splits", "matrix", "majority", "strict", "both", "collisions", "weighted 0 2", "lengths 2"];
+    let behind =
+        ["splits", "matrix", "majority", "strict", "both", "collisions", "weighted 0 2", "lengths 2", "phylip"];
     lines.extend(behind.map(str::to_string));
     lines
 }

@@ -32,7 +32,7 @@ use Rattle.answers.specs.declared.Progress.the-variants as progress
 
 -- "Refusal numbers"; "15 block malformed, 16 key listed twice"; "17 any length in the text outside the exact range",
 -- "18 a length needed is absent or none are kept"; "19 length no multiple of 16, 20 record improper or out of order", "21 merge with an empty
--- file, 22 a sum past 32 bits, 23 two chosen splits disagree"
+-- file, 22 a sum past 32 bits, 23 two chosen splits disagree"; "24 malformed, 25 not symmetric or diagonal not zero"
 unfoldable pub refusalNumber : Refusal → ℕ
 refusalNumber why.NotWhole = 1
 refusalNumber why.OutOfRange = 2
@@ -57,6 +57,8 @@ refusalNumber why.BadRecord = 20
 refusalNumber why.EmptyFile = 21
 refusalNumber why.SumTooLarge = 22
 refusalNumber why.Disagreeing = 23
+refusalNumber why.BadMatrix = 24
+refusalNumber why.NotSymmetric = 25
 
 abbrev pub refusing : {A : Type 0} → Refusal → Answer A
 refusing r = refused (refusalNumber r)

@@ -42,6 +42,8 @@ pub enum Refusal {
     EmptyFile,
     SumTooLarge,
     Disagreeing,
+    BadMatrix,
+    NotSymmetric,
 }
 
 // The answer of a call that gives nothing but that it was done.
@@ -129,6 +131,8 @@ pub fn refusal_number(r: Refusal) -> u32
         Refusal::EmptyFile => 21,
         Refusal::SumTooLarge => 22,
         Refusal::Disagreeing => 23,
+        Refusal::BadMatrix => 24,
+        Refusal::NotSymmetric => 25,
     }
 }
 

@@ -20,67 +20,71 @@ pub(crate) const MAJORITY: usize = 6;
 pub(crate) const BOTH: usize = 7;
 
 pub(crate) const FILE: usize = 8;
+
+pub(crate) const PHYLIP: usize = 9;
 // A number behind it.
-pub(crate) const CLOSE: usize = 9;
+pub(crate) const CLOSE: usize = 10;
 
-pub(crate) const WITHDRAW: usize = 10;
+pub(crate) const WITHDRAW: usize = 11;
 
-pub(crate) const SPLIT: usize = 11;
+pub(crate) const SPLIT: usize = 12;
 
-pub(crate) const LENGTHS: usize = 12;
+pub(crate) const LENGTHS: usize = 13;
 
-pub(crate) const TREE: usize = 13;
+pub(crate) const TREE: usize = 14;
 
-pub(crate) const WRITE: usize = 14;
+pub(crate) const WRITE: usize = 15;
 
-pub(crate) const LEND: usize = 15;
+pub(crate) const LEND: usize = 16;
 
-pub(crate) const ROOM: usize = 16;
+pub(crate) const ROOM: usize = 17;
 // Two numbers.
-pub(crate) const ONE: usize = 17;
+pub(crate) const ONE: usize = 18;
 
-pub(crate) const TWO: usize = 18;
+pub(crate) const TWO: usize = 19;
 
-pub(crate) const WEIGHTED: usize = 19;
+pub(crate) const WEIGHTED: usize = 20;
 
-pub(crate) const AGREE: usize = 20;
+pub(crate) const AGREE: usize = 21;
 
-pub(crate) const PEEK: usize = 21;
+pub(crate) const PEEK: usize = 22;
 // A number and bytes.
-pub(crate) const POKE: usize = 22;
+pub(crate) const POKE: usize = 23;
 
-pub(crate) const FEED: usize = 23;
+pub(crate) const FEED: usize = 24;
 
-pub(crate) const BATCH: usize = 24;
+pub(crate) const BATCH: usize = 25;
 // Bytes.
-pub(crate) const NEXUS: usize = 25;
+pub(crate) const NEXUS: usize = 26;
 
-pub(crate) const RECORDS: usize = 26;
+pub(crate) const RECORDS: usize = 27;
 
-pub(crate) const FILE_STRICT: usize = 27;
+pub(crate) const READ_PHYLIP: usize = 28;
 
-pub(crate) const FILE_MAJORITY: usize = 28;
+pub(crate) const FILE_STRICT: usize = 29;
+
+pub(crate) const FILE_MAJORITY: usize = 30;
 // Bytes twice.
-pub(crate) const MERGE: usize = 29;
+pub(crate) const MERGE: usize = 31;
 // Five numbers, and a last word or not.
-pub(crate) const SIZE: usize = 30;
+pub(crate) const SIZE: usize = 32;
 // Five numbers, bytes and two lists, and a last word or not.
-pub(crate) const OPEN: usize = 31;
+pub(crate) const OPEN: usize = 33;
 // A line that is no call.
-pub(crate) const NO_CALL: usize = 32;
+pub(crate) const NO_CALL: usize = 34;
 
 // The call of a word.
 pub(crate) fn of_word(word: &[u8]) -> usize {
     parts::place(
         word,
-        b"trees count collisions splits matrix strict majority both file close withdraw split lengths tree write lend room one two weighted agree peek poke feed batch nexus records file-strict file-majority merge size open ",
+        b"trees count collisions splits matrix strict majority both file phylip close withdraw split lengths tree write lend room one two weighted agree peek poke feed batch nexus records read-phylip file-strict file-majority merge size open ",
     )
 }
 
 // The number of the last word that a line with this call must have, from 0; for a line that is no call, one that no line has.
 pub(crate) fn last_word(kind: usize) -> usize {
     match kind {
-        TREES..=FILE => 0,
+        TREES..=PHYLIP => 0,
         CLOSE..=ROOM | NEXUS..=FILE_MAJORITY => 1,
         ONE..=BATCH | MERGE => 2,
         SIZE => 5,
@@ -112,7 +116,7 @@ pub(crate) fn takes_bytes(kind: usize) -> bool {
 // Whether the answer is bytes.
 pub(crate) fn gives_bytes(kind: usize) -> bool {
     match kind {
-        STRICT..=FILE | WRITE | PEEK | FILE_STRICT..=MERGE => true,
+        STRICT..=PHYLIP | WRITE | PEEK | FILE_STRICT..=MERGE => true,
         _ => false,
     }
 }
@@ -131,7 +135,7 @@ pub(crate) const NOTHING: usize = 0;
 pub(crate) const A_LIST: usize = 1;
 // A buffer for a tree's text, or two.
 pub(crate) const A_TEXT: usize = 2;
-// A buffer for a split file.
+// A buffer for a split file, or for a matrix in PHYLIP's layout.
 pub(crate) const A_FILE: usize = 3;
 // The collection.
 pub(crate) const MEMORY: usize = 4;
@@ -139,9 +143,9 @@ pub(crate) const MEMORY: usize = 4;
 // What the library is lent to write in this call.
 pub(crate) fn writes(kind: usize) -> usize {
     match kind {
-        SPLITS | TREE | MATRIX | RECORDS => A_LIST,
+        SPLITS | TREE | MATRIX | RECORDS | READ_PHYLIP => A_LIST,
         STRICT | MAJORITY | BOTH | WRITE | FILE_STRICT | FILE_MAJORITY => A_TEXT,
-        FILE | MERGE => A_FILE,
+        FILE | PHYLIP | MERGE => A_FILE,
         CLOSE | WITHDRAW | POKE..=NEXUS => MEMORY,
         _ => NOTHING,
     }

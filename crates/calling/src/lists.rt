@@ -1,10 +1,11 @@
-// Calls that write a list of numbers into a buffer: `splits`, `records`, `tree` and `matrix`.
+// Calls that write a list of numbers into a buffer: `splits`, `records`, `tree`, `matrix` and `read-phylip`.
 use crate::kinds;
 use crate::parse::Call;
 use crate::parts;
 use crate::replies;
 use crate::replies::Reply;
 use answers::Both;
+use answers::Number;
 use answers::Tree;
 
 // The call on these bytes, with buffers of at most `room` elements.
@@ -22,6 +23,7 @@ pub(crate) fn make(
         kinds::SPLITS => splits(lent, masks, counts, room),
         kinds::RECORDS => records(lent, bytes, masks, counts, room),
         kinds::TREE => tree(lent, call.a, masks, room),
+        kinds::READ_PHYLIP => read_phylip(bytes, distances, room),
         _ => matrix(lent, distances, room),
     }
 }
@@ -57,4 +59,20 @@ fn matrix(lent: &[u8], distances: &mut [u16], room: usize) -> Reply {
     let n = parts::least(room, distances.len());
     let answer = comparing::matrix(lent, &mut distances[..n]);
     replies::number(replies::MATRIX, answer)
+}
+
+// `read-phylip HEX`, which no collection is needed for.
+fn read_phylip(file: &[u8], distances: &mut [u16], room: usize) -> Reply {
+    let n = parts::least(room, distances.len());
+    let answer = phylip::read_matrix(file, &mut distances[..n]);
+    match answer {
+        Number::Refused(r) => replies::refused(r),
+        Number::Gives(trees) => replies::with(replies::MATRIX, entries(trees)),
+    }
+}
+
+// How many entries the matrix of so many trees has. No matrix has more than 1,024.
+fn entries(trees: usize) -> u64 {
+    let n = parts::least(trees, 1024);
+    (n * n) as u64
 }

@@ -1,4 +1,5 @@
-// Calls whose answer is bytes: `strict`, `majority`, `both`, `write`, `file-strict`, `file-majority`, `file`, `merge` and `peek`.
+// Calls whose answer is bytes: `strict`, `majority`, `both`, `write`, `file-strict`, `file-majority`, `file`, `phylip`,
+// `merge` and `peek`.
 use crate::State;
 use crate::kinds;
 use crate::output;
@@ -37,7 +38,7 @@ pub(crate) fn peek(lent: &[u8], at: usize, n: usize, out: &mut [u8], state: Stat
     shown(&lent[at..end], out, state)
 }
 
-// Answers `file` and `merge`, with a buffer for the file.
+// Answers `file`, `phylip` and `merge`, with a buffer for the file.
 pub(crate) fn file(
     line: &[u8],
     lent: &[u8],
@@ -53,10 +54,12 @@ pub(crate) fn file(
 // Makes a file in this buffer, of which `room` bytes are lent.
 fn made(line: &[u8], lent: &[u8], call: Call, room: usize, file: &mut [u8]) -> Number {
     let n = parts::least(room, file.len());
-    if call.kind == kinds::FILE {
-        return splitfile::write_splits(lent, &mut file[..n]);
+    let kind = call.kind;
+    match kind {
+        kinds::FILE => splitfile::write_splits(lent, &mut file[..n]),
+        kinds::PHYLIP => phylip::write_matrix(lent, &mut file[..n]),
+        _ => merged(line, lent, call, &mut file[..n]),
     }
-    merged(line, lent, call, &mut file[..n])
 }
 
 // `merge HEX HEX`.

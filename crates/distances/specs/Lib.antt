@@ -8,3 +8,5 @@ pub mod MarkLaws
 pub mod EntryLaws
 pub mod ShortLaws
 pub mod RowLaws
+pub mod Eight
+pub mod EightLaws

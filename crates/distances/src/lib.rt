@@ -1,8 +1,8 @@
 // The distances between the trees of a whole store, and their matrix.
 //
 // Its contracts cite, of crate trees, `specs/Distance.antt` (`oneSided`, `doubled`, `matrix`) and, of crate
-// layout, `specs/Store.antt` (`treeAt`, `heldAt`); `specs/Marks.antt` and `specs/Entries.antt` say what the
-// functions between do.
+// layout, `specs/Store.antt` (`treeAt`, `heldAt`); `specs/Marks.antt`, `specs/Short.antt`, `specs/Entries.antt` and
+// `specs/Eight.antt` say what the functions between do.
 ghost use mathlib.Core.Path.{_≡_};
 ghost use mathlib.Core.Bool.{true};
 ghost use mathlib.Core.List.{map, _++_};
@@ -11,14 +11,19 @@ ghost use lib.ListN.{length, drop};
 ghost use Rattle.trees.specs.Distance.{oneSided, doubled, matrix};
 ghost use Rattle.layout.specs.Store.{treesHeldAt, treeAt, heldAt};
 ghost use Rattle.layout.specs.WholeStore.{wholeAt};
-use crate::short::MOST_TREES;
-use crate::short::PLACES;
 use answers::Tree;
 use layout::MOST_ROOM;
 
+mod eight;
 mod entries;
 mod marks;
 mod short;
+
+pub use eight::EIGHT_ROWS;
+pub use eight::write_eight;
+pub use short::MOST_TREES;
+pub use short::PLACES;
+pub use short::shorten;
 
 // The number of splits of tree a that tree b lacks.
 pub fn one_sided(s: &[u8], a: Tree, b: Tree) -> u16

@@ -17,13 +17,13 @@ use answers::Tree;
 use layout::MOST_ROOM;
 
 // How many trees the table has room for.
-pub(crate) const MOST_TREES: usize = 1024;
+pub const MOST_TREES: usize = 1024;
 
 // How many places the table has.
-pub(crate) const PLACES: usize = 65536;
+pub const PLACES: usize = 65536;
 
 // Puts the short lists of the first n trees into the table.
-pub(crate) fn shorten(s: &[u8], n: usize, short: &mut [u16; PLACES], sizes: &mut [u16; MOST_TREES])
+pub fn shorten(s: &[u8], n: usize, short: &mut [u16; PLACES], sizes: &mut [u16; MOST_TREES])
     requires { ⌜ wholeAt (now s) ≡ true ⌝ }
     requires { ⌜ n ≤ treesHeldAt (now s) ⌝ }
     requires { ⌜ length (now short) ≡ 65536 ⌝ }
@@ -124,7 +124,7 @@ fn sum_rows(rows: &[u16], marks: &[u8; MOST_ROOM]) -> usize
 }
 
 // A row, or how many there are, as a number to index with.
-fn wide(x: u16) -> usize
+pub(crate) fn wide(x: u16) -> usize
     ensures { λ r. ⌜ (r ≡ x) × (r < 65536) ⌝ }
 {
     x as usize

@@ -92,6 +92,8 @@ some-number why.BadRecord = omega arith
 some-number why.EmptyFile = omega arith
 some-number why.SumTooLarge = omega arith
 some-number why.Disagreeing = omega arith
+some-number why.BadMatrix = omega arith
+some-number why.NotSymmetric = omega arith
 
 -- leaves without a fault: their taxa are all taxa
 all-seen : (ns : List (List ℕ)) (t : Nodes) → leafFault ns 0 (leaves t) ≡ 0 → taxa ns t ≡ everyTaxon (length ns)

@@ -40,6 +40,7 @@ use Rattle.trees.specs.NexusCall.{keysOf, plainTexts, nexus}
 use Rattle.trees.specs.Sums.{Sums}
 use Rattle.trees.specs.Questions.{treesHeld, splitsHeld, splitList, splitNumber, treeNumber, oneSidedOf, doubledOf, matrixOf, collisionsOf, strictOf, majorityOf, bothOf, writtenOf, weightedOf, sumsOf}
 use Rattle.trees.specs.SplitFileCall.{Splits, fileOf, readingOf, mergingOf, strictFileOf, majorityFileOf}
+use Rattle.trees.specs.PhylipCall.{phylipOf}
 use Rattle.trees.specs.Runs.{Call, feed, hand, Heard, answer, next, Final, acceptedAs, refusedWith, finals}
 use Rattle.theorems.specs.Quiet.{Leaves}
 use Rattle.answers.specs.Filled.{lengthGiven, front, firstOf, secondOf, lengthsGiven}
@@ -68,6 +69,7 @@ pub data Question : Type 0 where
   merge : List ℕ → List ℕ → List ℕ → Question
   strict-tree : List ℕ → List ℕ → Question
   majority-tree : List ℕ → List ℕ → Question
+  write-matrix : List ℕ → Question
 
 pub data Reply : Type 0 where
   number : Answer ℕ → Reply
@@ -98,7 +100,7 @@ unfolding readGiven masksRead countsRead front
 fillRead x masks counts = eachFilled (readGiven x) (front (masksRead x) masks) (front (countsRead x) counts)
 
 unfoldable pub reply : Held → Question → Reply
-unfolding fill fillBoth fillEach fillRead treesHeld splitsHeld splitList splitNumber treeNumber oneSidedOf doubledOf matrixOf collisionsOf strictOf majorityOf bothOf writtenOf weightedOf sumsOf fileOf readingOf mergingOf strictFileOf majorityFileOf
+unfolding fill fillBoth fillEach fillRead treesHeld splitsHeld splitList splitNumber treeNumber oneSidedOf doubledOf matrixOf collisionsOf strictOf majorityOf bothOf writtenOf weightedOf sumsOf fileOf readingOf mergingOf strictFileOf majorityFileOf phylipOf
 reply h tree-count = number (treesHeld h)
 reply h split-count = number (splitsHeld h)
 reply h (one-split k) = split (splitNumber h k)
@@ -121,6 +123,8 @@ reply h (read-splits f masks counts) = fillRead (readingOf h f (length masks) (l
 reply h (merge f g out) = fill (mergingOf h f g (length out)) out
 reply h (strict-tree f out) = fill (strictFileOf h f (length out)) out
 reply h (majority-tree f out) = fill (majorityFileOf h f (length out)) out
+-- in PHYLIP's layout
+reply h (write-matrix out) = fill (phylipOf h (length out)) out
 
 -- ---- calls
 
@@ -270,6 +274,7 @@ isCollisions (ask (read-splits f masks counts)) = false
 isCollisions (ask (merge f g out)) = false
 isCollisions (ask (strict-tree f out)) = false
 isCollisions (ask (majority-tree f out)) = false
+isCollisions (ask (write-matrix out)) = false
 isCollisions (reopen x names first second) = false
 
 -- an answer to no call is none

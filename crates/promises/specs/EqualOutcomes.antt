@@ -18,7 +18,7 @@
 --   rows        row-of-once, mask-at-once, identifier-at-once, count-at-once, link-at-once, start-at-once, rows-tree-from-once,
 --               splits-in-once, row-in-once, copy-tree-once
 --   lanes       lane-length-once, text-of-once, quotes-open-once, closing-answer-once
---   distances   distances-one-sided-once, distances-doubled-once, write-row-once, write-matrix-once
+--   distances   distances-one-sided-once, distances-doubled-once, write-row-once, distances-write-matrix-once
 --   colliding   collision-number-once
 --   consensus   write-strict-once, write-majority-once
 use mathlib.Core.Path.{_≡_}
@@ -111,7 +111,7 @@ use Rattle.lanes.proofs.closing_answer.Reads as closing-answer
 use Rattle.distances.proofs.one_sided.Reads as distances-one-sided
 use Rattle.distances.proofs.doubled.Reads as distances-doubled
 use Rattle.distances.proofs.write_row.Reads as write-row
-use Rattle.distances.proofs.write_matrix.Reads as write-matrix
+use Rattle.distances.proofs.write_matrix.Reads as distances-write-matrix
 use Rattle.colliding.proofs.collision_number.Reads as collision-number
 use Rattle.consensus.proofs.write_strict.Reads as write-strict
 use Rattle.consensus.proofs.write_majority.Reads as write-majority
@@ -395,8 +395,8 @@ distances-doubled-once k x q r y z a b = both a b
 pub write-row-once : Once write-row.Post (λ x q r y z. now (arg3 y) ≡ now (arg3 z))
 write-row-once k x q r y z a b = both a b
 
-pub write-matrix-once : Once write-matrix.Post (λ x q r y z. now (arg2 y) ≡ now (arg2 z))
-write-matrix-once k x q r y z a b = both a b
+pub distances-write-matrix-once : Once distances-write-matrix.Post (λ x q r y z. now (arg2 y) ≡ now (arg2 z))
+distances-write-matrix-once k x q r y z a b = both a b
 
 pub collision-number-once : AnswerOnce collision-number.Post
 collision-number-once k x q r y z a b = both a b

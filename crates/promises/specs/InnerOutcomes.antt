@@ -3,10 +3,12 @@
 --
 --   find-slot-once                            where a mask goes in a rising list
 --   build-index-once                          the index of the names, in every entry that is used
+--   shorten-once                              the short lists of the trees, in every place that is used
+--   write-eight-once                          eight rows of distances
 --   judge-once                                the verdict on a text, and the list of records
 --   judge-lengths-once, judge-text-once       the verdict where lengths are kept, and where they may be; both lists
 --   write-tree-once                           a tree written
-use Prim.Native.Nat.{ℕ, _≤_, _<_}
+use Prim.Native.Nat.{ℕ, _+_, _*_, _/_, _%_, _≤_, _<_}
 use native.Mathlib.Omega.{arith}
 use mathlib.Core.Path.{_≡_, refl, sym, ap, subst, _∙_}
 use mathlib.Core.Logic.{⊎-elim}
@@ -29,6 +31,8 @@ use Rattle.records.specs.declared.Slot.{Slot}
 use Rattle.records.specs.declared.Slot.the-variants.{Free, Taken}
 use Rattle.head.specs.Index.{keys}
 use Rattle.head.specs.Head.{namesAt}
+use Rattle.layout.specs.Store.{treesHeldAt}
+use Rattle.distances.specs.Short.{rowsIn}
 use Rattle.newick.specs.Words.{withWords}
 use Rattle.newick.specs.Judge.{JudgedAs, JudgedWith}
 use Rattle.newick.specs.declared.Judged.{Judged}
@@ -39,6 +43,8 @@ use Rattle.writer.specs.declared.Text.{Text}
 use Rattle.writer.specs.declared.Text.the-variants.{Bytes, TooShort}
 use Rattle.records.proofs.find_slot.Reads as find-slot
 use Rattle.head.proofs.build_index.Reads as build-index
+use Rattle.distances.proofs.shorten.Reads as shorten
+use Rattle.distances.proofs.write_eight.Reads as write-eight
 use Rattle.newick.proofs.judge.Reads as judge
 use Rattle.newick.proofs.judge_lengths.Reads as judge-lengths
 use Rattle.feeding.proofs.judge_text.Reads as judge-text
@@ -94,6 +100,18 @@ pub build-index-once : Once build-index.Post
     (λ x q r y z. ((i : ℕ) → i < keys → getD (now (arg2 y)) i 0 ≡ getD (now (arg2 z)) i 0)
     × ((i : ℕ) → i < length (namesAt (now (arg1 x))) → getD (now (arg3 y)) i 0 ≡ getD (now (arg3 z)) i 0))
 build-index-once k x q r y z a b = (λ i h. both (a .firsts i h) (b .firsts i h), λ i h. both (a .nexts i h) (b .nexts i h))
+
+-- ---- the trees' short lists
+
+pub shorten-once : Once shorten.Post
+    (λ x q r y z. (i : ℕ) → i < arg2 x → (getD (now (arg4 y)) i 0 ≡ getD (now (arg4 z)) i 0)
+    × (rowsIn (now (arg3 y)) (now (arg4 y)) i ≡ rowsIn (now (arg3 z)) (now (arg4 z)) i))
+shorten-once k x q r y z a b i h = (both (a .sized i h) (b .sized i h), both (a .listed i h) (b .listed i h))
+
+pub write-eight-once : Once write-eight.Post
+    (λ x q r y z. (a j : ℕ) → a / 8 ≡ arg2 x .0 / 8 → a < treesHeldAt (now (arg1 x)) → j < treesHeldAt (now (arg1 x))
+    → getD (now (arg5 y)) (1024 * (a % 8) + j) 0 ≡ getD (now (arg5 z)) (1024 * (a % 8) + j) 0)
+write-eight-once k x q r y z u v a j e h l = both (u .rows a j e h l) (v .rows a j e h l)
 
 -- ---- a text read
 

@@ -31,3 +31,5 @@ pub mod PrintedLaws
 pub mod SummaryLaws
 pub mod SplitFileOutcomes
 pub mod SplitFileCallLaws
+pub mod PhylipOutcomes
+pub mod PhylipCallLaws

@@ -71,7 +71,9 @@ refusalOf n =
     else if eqb n 20 then why.BadRecord
     else if eqb n 21 then why.EmptyFile
     else if eqb n 22 then why.SumTooLarge
-    else why.Disagreeing
+    else if eqb n 23 then why.Disagreeing
+    else if eqb n 24 then why.BadMatrix
+    else why.NotSymmetric
 
 numbered : (r : Refusal) → refusalOf (refusalNumber r) ≡ r
 unfolding refusalOf refusalNumber
@@ -98,6 +100,8 @@ numbered why.BadRecord = refl
 numbered why.EmptyFile = refl
 numbered why.SumTooLarge = refl
 numbered why.Disagreeing = refl
+numbered why.BadMatrix = refl
+numbered why.NotSymmetric = refl
 
 pub refusal-one : (a b : Refusal) → refusalNumber a ≡ refusalNumber b → a ≡ b
 refusal-one a b e = sym (numbered a) ∙ ap refusalOf e ∙ numbered b

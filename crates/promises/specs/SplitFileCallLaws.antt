@@ -12,6 +12,8 @@
 --   merge-of-written         the files of two collections merge as the file of a collection with the trees of both
 --   read-splits-refused, merge-refused, majority-tree-refused, strict-tree-refused     each refusal is answered exactly where its fault is the
 --                            first, and leaves the buffers
+--   filled-refusal           a filled buffer is that of a refusal exactly where the answer is
+--   answered                 what is answered y is z exactly where y is
 use Prim.Native.Nat.{ℕ, _*_, _<_}
 use native.Mathlib.Omega.{arith}
 use mathlib.Core.Path.{_≡_, refl, sym, ap, subst, _∙_}
@@ -207,7 +209,7 @@ module _ (s u v : List ℕ) (sw : wholeAt s ≡ true) (uw : wholeAt u ≡ true) 
 -- ---- refusals
 
 -- a buffer that is filled with the answer x, and two that are filled with what a file reads as
-filled-refusal : (x : Answer (List ℕ)) (out : List ℕ) (k : ℕ) → (fill x out ≡ filled (refused k) out) ↔ (x ≡ refused k)
+pub filled-refusal : (x : Answer (List ℕ)) (out : List ℕ) (k : ℕ) → (fill x out ≡ filled (refused k) out) ↔ (x ≡ refused k)
 unfolding fill lengthGiven front
 filled-refusal (refused j) out k = (λ e. cc, λ e. ap (λ y. fill y out) e)
 filled-refusal (gives xs) out k = (λ e. absurd (gives≢refused (length xs) k cc), λ e. absurd (gives≢refused xs k e))
@@ -218,7 +220,7 @@ read-refusal (refused j) masks counts k = (λ e. cc, λ e. ap (λ y. fillRead y 
 read-refusal (gives x) masks counts k = (λ e. absurd (gives≢refused {A = ℕ × ℕ} (x .trees, length (x .masks)) k cc), λ e. absurd (gives≢refused x k e))
 
 -- an answer that is y
-answered : {a y z : Reply} → a ≡ y → (a ≡ z) ↔ (y ≡ z)
+pub answered : {a y z : Reply} → a ≡ y → (a ≡ z) ↔ (y ≡ z)
 answered e = (λ d. sym e ∙ d, λ d. e ∙ d)
 
 module _ (s : List ℕ) (w : wholeAt s ≡ true) (f : List ℕ) (a : Reply) (k : ℕ) where

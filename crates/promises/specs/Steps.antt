@@ -50,7 +50,8 @@ use Rattle.splitfile.proofs.read_splits.Reads as readsSplits
 use Rattle.splitfile.proofs.merge.Reads as merges
 use Rattle.splitfile.proofs.strict_tree.Reads as strictTrees
 use Rattle.splitfile.proofs.majority_tree.Reads as majorityTrees
-use Rattle.promises.specs.Calls.{Question, tree-count, split-count, one-split, split-list, tree-splits, one-sided, doubled, matrix, collisions, strict, majority, both, write-accepted, weighted, split-lengths, write-splits, read-splits, merge, strict-tree, majority-tree, Reply, number, split, filled, bothFilled, eachFilled, weight, sums, Made, one, many, file, ask, reopen, Told, heard, batched, replied, notOpened}
+use Rattle.phylip.proofs.write_matrix.Reads as writesMatrix
+use Rattle.promises.specs.Calls.{Question, tree-count, split-count, one-split, split-list, tree-splits, one-sided, doubled, matrix, collisions, strict, majority, both, write-accepted, weighted, split-lengths, write-splits, read-splits, merge, strict-tree, majority-tree, write-matrix, Reply, number, split, filled, bothFilled, eachFilled, weight, sums, Made, one, many, file, ask, reopen, Told, heard, batched, replied, notOpened}
 
 abbrev pub lent : List ℕ → RefT (List ℕ)
 lent s = record { ptr = (0, 0); name = 0; now = s }
@@ -107,6 +108,7 @@ Asked s (strict-tree f o) =
     Fills (λ r o′. strictTrees.Post ([], ([], ([], tt))) (lent s, (lent f, (lent o, tt))) r (lent s, (lent f, (lent o′, tt))))
 Asked s (majority-tree f o) =
     Fills (λ r o′. majorityTrees.Post ([], ([], ([], tt))) (lent s, (lent f, (lent o, tt))) r (lent s, (lent f, (lent o′, tt))))
+Asked s (write-matrix o) = Fills (λ r o′. writesMatrix.Post ([], ([], tt)) (lent s, (lent o, tt)) r (lent s, (lent o′, tt)))
 
 -- ---- openings
 

@@ -28,19 +28,19 @@ module _ (k room : ℕ) where
   unfolding reasonAsked
   asked-none h = rw (eq-eqb k 0 h)
 
-  pub asked-above : 23 < k → reasonAsked k room ≡ refused 13
+  pub asked-above : 25 < k → reasonAsked k room ≡ refused 13
   unfolding reasonAsked
-  asked-above h = rw (ne-eqb k 0 (λ e. omega arith), lt-ltb 23 k h)
+  asked-above h = rw (ne-eqb k 0 (λ e. omega arith), lt-ltb 25 k h)
 
-  pub asked-some : 1 ≤ k → k ≤ 23 → reasonAsked k room ≡ ifRoom room (reasonOf k)
+  pub asked-some : 1 ≤ k → k ≤ 25 → reasonAsked k room ≡ ifRoom room (reasonOf k)
   unfolding reasonAsked
-  asked-some h l = rw (ne-eqb k 0 (λ e. omega arith), le-ltb 23 k l)
+  asked-some h l = rw (ne-eqb k 0 (λ e. omega arith), le-ltb 25 k l)
 
 module _ (k : ℕ) (old m : List ℕ) (r : Number) where
   pub says : (j : ℕ) (xs : List ℕ) → k ≡ j → reasonOf j ≡ xs → FilledAs (ifRoom (length old) xs) r old m → SaysAs k r old m
   says j xs e f p = filled-as _ old _ (ap (ifRoom (length old)) (ap reasonOf e ∙ f)) r m p
 
-  pub given : 1 ≤ k → k ≤ 23 → SaysAs k r old m → FilledAs (reasonAsked k (length old)) r old m
+  pub given : 1 ≤ k → k ≤ 25 → SaysAs k r old m → FilledAs (reasonAsked k (length old)) r old m
   given h l p = filled-as _ old _ (asked-some k (length old) h l) r m p
 
 pub copied-whole : (out text after : List ℕ) → length text ≤ length out → after ≡ copied out 0 text 0 (length text) → after ≡ text ++ drop (length text) out

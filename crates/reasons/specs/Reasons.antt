@@ -40,6 +40,8 @@ reasons =
     ∷ bytes "an empty file cannot be merged"
     ∷ bytes "a sum passes 32 bits"
     ∷ bytes "two chosen splits disagree"
+    ∷ bytes "the matrix is malformed"
+    ∷ bytes "the matrix is not symmetric, or its diagonal not zero"
     ∷ []
 
 unfoldable pub reasonOf : ℕ → List ℕ
@@ -48,7 +50,7 @@ reasonOf k = getD reasons (k - 1) []
 
 unfoldable pub reasonAsked : ℕ → ℕ → Answer (List ℕ)
 unfolding reasonOf ifRoom
-reasonAsked k room = if eqb k 0 then refused 13 else (if ltb 23 k then refused 13 else ifRoom room (reasonOf k))
+reasonAsked k room = if eqb k 0 then refused 13 else (if ltb 25 k then refused 13 else ifRoom room (reasonOf k))
 
 abbrev pub SaysAs : ℕ → Number → List ℕ → List ℕ → Type 0
 SaysAs k r old m = FilledAs (ifRoom (length old) (reasonOf k)) r old m

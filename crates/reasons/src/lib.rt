@@ -16,7 +16,7 @@ pub fn reason(k: u32, out: &mut [u8]) -> Number
     if k == 0 {
         return Number::Refused(Refusal::NoSuchNumber);
     }
-    if 23 < k {
+    if 25 < k {
         return Number::Refused(Refusal::NoSuchNumber);
     }
     if k <= 5 {
@@ -31,7 +31,10 @@ pub fn reason(k: u32, out: &mut [u8]) -> Number
     if k <= 18 {
         return of_nexus_and_lengths(k, out);
     }
-    of_file(k, out)
+    if k <= 23 {
+        return of_file(k, out);
+    }
+    of_matrix(k, out)
 }
 
 // What was lent or asked for.
@@ -102,6 +105,20 @@ fn of_file(k: u32, out: &mut [u8]) -> Number
         21 => put(out, b"an empty file cannot be merged"),
         22 => put(out, b"a sum passes 32 bits"),
         _ => put(out, b"two chosen splits disagree"),
+    }
+}
+
+// What is wrong with a matrix.
+fn of_matrix(k: u32, out: &mut [u8]) -> Number
+    requires { ⌜ (24 ≤ k) × (k ≤ 25) ⌝ }
+    ensures { λ r. ⌜ SaysAs k r (now (out .entry)) (now (out .exit)) ⌝ }
+{
+    match k {
+        24 => put(out, b"the matrix is malformed"),
+        _ => put(
+            out,
+            b"the matrix is not symmetric, or its diagonal not zero",
+        ),
     }
 }
 

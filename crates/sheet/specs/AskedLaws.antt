@@ -21,7 +21,8 @@ use Rattle.layout.specs.WholeStore.{wholeAt}
 use Rattle.store.specs.LentLaws.{when-whole}
 use Rattle.writer.specs.Branch.{Put}
 use Rattle.writer.specs.PutLaws.{put-then}
-use Rattle.sheet.specs.Sheet.{digitsOf, spaced, fields, lineOf, sheetLines, refusalLine}
+use Rattle.trees.specs.Decimal.{digitsOf}
+use Rattle.sheet.specs.Sheet.{spaced, fields, lineOf, sheetLines, refusalLine}
 use Rattle.sheet.specs.Asked.{linesFrom, linesAsked, refusalAsked}
 use Rattle.sheet.specs.LineLaws.{put-as}
 

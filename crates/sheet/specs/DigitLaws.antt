@@ -14,7 +14,7 @@ use lib.Dec.{ltb}
 use borrow.Author.Tests.{lt-ltb, le-ltb}
 use Rattle.theorems.specs.ListLaws.{less-or-not}
 use Rattle.io.specs.Digits.{glyph, digits, Fewest}
-use Rattle.sheet.specs.Sheet.{digitsFrom, digitsOf}
+use Rattle.trees.specs.Decimal.{digitsFrom, digitsOf}
 
 abbrev digitsBy : Bool → ℕ → ℕ → List ℕ
 digitsBy true f n = (48 + n) ∷ []

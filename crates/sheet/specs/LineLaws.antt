@@ -44,7 +44,8 @@ use Rattle.store.specs.CountsLaws.{row-count, split-count}
 use Rattle.writer.specs.Branch.{Put}
 use Rattle.writer.specs.PutLaws.{put-none, put-then}
 use Rattle.consensus.specs.FewLaws.{tree-short, trees-good}
-use Rattle.sheet.specs.Sheet.{digitsOf, spaced, fields, lineOf, countsLine, splitLine, rowLine, treeLine, majorityLine, strictLine}
+use Rattle.trees.specs.Decimal.{digitsOf}
+use Rattle.sheet.specs.Sheet.{spaced, fields, lineOf, countsLine, splitLine, rowLine, treeLine, majorityLine, strictLine}
 use Rattle.sheet.specs.Lines.{answerText, Shown}
 use Rattle.sheet.specs.SheetLaws.{map-at}
 

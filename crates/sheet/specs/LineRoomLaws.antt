@@ -35,7 +35,8 @@ use Rattle.store.specs.RecordedAtLaws.{trees-length, recorded-length}
 use Rattle.store.specs.HeldWholeLaws.{held-numbers, opening-facts}
 use Rattle.distances.specs.LackLaws.{oneSided-most}
 use Rattle.consensus.specs.FewLaws.{tree-few, tree-short, trees-good}
-use Rattle.sheet.specs.Sheet.{digitsFrom, digitsOf, spaced, fields, lineOf, countsLine, splitLine, rowLine, treeLine, majorityLine, strictLine, sheetLines}
+use Rattle.trees.specs.Decimal.{digitsFrom, digitsOf}
+use Rattle.sheet.specs.Sheet.{spaced, fields, lineOf, countsLine, splitLine, rowLine, treeLine, majorityLine, strictLine, sheetLines}
 
 -- ---- words and lines
 

@@ -1,6 +1,5 @@
 -- The summary sheet: what `treesum` prints of a collection, line by line.
 --
---   digitsOf n                 the number n in decimal digits
 --   fields ws, lineOf ws       the words ws, parted by one space; and with their line end
 --   countsLine h refused       how many taxa, accepted trees, refused texts and recorded splits there are
 --   splitLine h m              the mask m and its count
@@ -8,27 +7,17 @@
 --   majorityLine, strictLine   the two consensus trees
 --   sheetLines h refused       all lines of the sheet, in order
 --   refusalLine k              the line printed for a first line that is refused with k
-use Prim.Native.Nat.{ℕ, zero, suc, _+_, _/_, _%_}
+use Prim.Native.Nat.{ℕ}
 use Prim.Native.String.{String}
-use mathlib.Core.Bool.{true, false}
 use mathlib.Core.List.{List, [], _∷_, _++_, map}
-use lib.Dec.{ltb, eqb}
+use lib.Dec.{eqb}
 use lib.ListN.{length}
 use Rattle.trees.specs.Plain.{if_then_else_, bytes, byte}
+use Rattle.trees.specs.Decimal.{digitsOf}
 use Rattle.trees.specs.Distance.{doubled}
 use Rattle.trees.specs.Consensus.{recorded, count, strict, majority}
 use Rattle.trees.specs.Written.{written}
 use Rattle.trees.specs.Held.{Held}
-
--- f is more than enough steps
-unfoldable pub digitsFrom : ℕ → ℕ → List ℕ
-digitsFrom zero n = []
-digitsFrom (suc f) n = elim (ltb n 10) [ true ↦ (byte "0" + n) ∷ [] | false ↦ digitsFrom f (n / 10) ++ (byte "0" + n % 10) ∷ [] ]
-
--- numbers, masks too, are printed in decimal digits
-unfoldable pub digitsOf : ℕ → List ℕ
-unfolding digitsFrom
-digitsOf n = digitsFrom (suc n) n
 
 -- words, each behind a space
 unfoldable pub spaced : List (List ℕ) → List ℕ

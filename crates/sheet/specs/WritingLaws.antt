@@ -12,7 +12,7 @@ use lib.Seq.{sets, take-all}
 use Rattle.io.specs.Digits.{digits, Fewest}
 use Rattle.fields.specs.Run.{copied}
 use Rattle.writer.specs.Branch.{Put}
-use Rattle.sheet.specs.Sheet.{digitsOf}
+use Rattle.trees.specs.Decimal.{digitsOf}
 use Rattle.sheet.specs.DigitLaws.{digits-of, digits-few, digits-fewer}
 
 pub word-put : (l after word : List ℕ) (at n : ℕ) → n ≡ length word → after ≡ copied l at word 0 n → Put l at word after (at + n)

@@ -7,7 +7,7 @@ ghost use mathlib.Core.Path.{_≡_};
 ghost use Prim.Native.Nat.{_+_, _≤_, _<_};
 ghost use lib.ListN.{length, set};
 ghost use Rattle.writer.specs.Branch.{Put};
-ghost use Rattle.sheet.specs.Sheet.{digitsOf};
+ghost use Rattle.trees.specs.Decimal.{digitsOf};
 
 // Puts a byte at `at`.
 fn put_byte(out: &mut [u8], at: usize, b: u8)

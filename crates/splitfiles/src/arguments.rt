@@ -32,6 +32,11 @@ fn if_same(word: &[u8], wanted: &[u8], k: u32) -> u32 {
     if parts::same(word, wanted) { k } else { NONE }
 }
 
+// Which argument names the file of names in this use. The first file stands behind it.
+pub(crate) fn names_of(kind: u32) -> usize {
+    if kind == SHOW { 2 } else { 3 }
+}
+
 // Says on standard error how the program is used.
 pub(crate) fn tell_use() {
     io::write_all(

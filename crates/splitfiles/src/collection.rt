@@ -15,28 +15,23 @@ const PLACES: u32 = 8192;
 
 // Opens a collection in the lent bytes over the names in the first line of the file that argument i names. Answers the number of taxa;
 // 0, where that is told to be impossible.
-pub(crate) fn opened(i: usize, names: &mut [u8], lent: &mut [u8], out: &mut [u8]) -> u32 {
-    let held = reading::file(i, names);
+pub(crate) fn opened(i: usize, names: &mut [u8], lent: &mut [u8]) -> u32 {
+    let held = reading::file(i, false, names);
     if !held.is_good {
         return 0;
     }
     let n = parts::within(held.bytes, names);
-    over_names(i, &names[..n], lent, out)
+    over_names(i, &names[..n], lent)
 }
 
 // The same over the first line of these bytes.
-fn over_names(i: usize, names: &[u8], lent: &mut [u8], out: &mut [u8]) -> u32 {
+fn over_names(i: usize, names: &[u8], lent: &mut [u8]) -> u32 {
     let end = parts::line_end(names);
-    over_line(i, &names[..end], lent, out)
-}
-
-// The same over this line.
-fn over_line(i: usize, line: &[u8], lent: &mut [u8], out: &mut [u8]) -> u32 {
-    let taxa = taxa_in(line, lent);
-    match open(line, taxa, lent) {
+    let taxa = taxa_in(&names[..end], lent);
+    match open(&names[..end], taxa, lent) {
         Finish::Done => taxa,
         Finish::Refused(r) => {
-            telling::refused_argument(i, answers::refusal_number(r), out);
+            telling::refused_argument(i, answers::refusal_number(r));
             0
         }
     }

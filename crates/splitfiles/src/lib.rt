@@ -7,6 +7,7 @@
 //
 // The exit status is 0 where all was done, 1 where something was refused and the rest was done, 2 where nothing could be done.
 mod arguments;
+mod beginning;
 mod collection;
 mod merging;
 mod parts;
@@ -20,31 +21,56 @@ mod writing;
 
 ghost use Prim.Native.Nat.{_≤_};
 
-// Does what the arguments ask for, and answers the exit status. Files are read into `names`, `first` and `second`; `lent` is for the
-// collection, `file` for the bytes of a file to be written, `out` for what is told; the other two are for the numbers that calls answer.
+// Does what the arguments ask for, and answers the exit status. Files are read into `first` and `second`; `lent` is for the collection;
+// `masks` and `numbers` are for what calls answer. Where a second file is not read, `second` is for the bytes of the one to be written;
+// where it is, `file` is.
 #[no_mangle]
 pub extern "C" fn splitfiles_main(
-    names: &mut [u8],
     first: &mut [u8],
     second: &mut [u8],
     lent: &mut [u8],
     masks: &mut [u64],
     numbers: &mut [u32],
     file: &mut [u8],
-    out: &mut [u8],
 ) -> u32
     ensures { λ r. ⌜ r ≤ 2 ⌝ }
 {
     let kind = arguments::asked();
+    let begun = beginning::begin(kind, first, lent);
+    if begun.taxa == 0 {
+        return 2;
+    }
+    let n = parts::within(begun.bytes, first);
+    go_on(
+        kind,
+        begun.taxa,
+        &first[..n],
+        second,
+        lent,
+        masks,
+        numbers,
+        file,
+    )
+}
+
+// The same with an open collection and the bytes of the first file.
+fn go_on(
+    kind: u32,
+    taxa: u32,
+    first: &[u8],
+    second: &mut [u8],
+    lent: &mut [u8],
+    masks: &mut [u64],
+    numbers: &mut [u32],
+    file: &mut [u8],
+) -> u32
+    ensures { λ r. ⌜ r ≤ 2 ⌝ }
+{
     if kind == arguments::WRITE {
-        return writing::write(names, first, lent, numbers, file, out);
+        return writing::write(first, lent, numbers, second);
     }
     if kind == arguments::MERGE {
-        return merging::merge(names, first, second, lent, file, out);
+        return merging::merge(first, lent, second, file);
     }
-    if kind == arguments::SHOW {
-        return showing::show(names, first, lent, masks, numbers, out);
-    }
-    arguments::tell_use();
-    2
+    showing::show(taxa, first, lent, masks, numbers)
 }

@@ -18,24 +18,14 @@ const START: Held = Held {
 };
 
 // Nothing can be read, as was told.
-pub(crate) const UNREADABLE: Held = Held {
+const UNREADABLE: Held = Held {
     bytes: 0,
     has_ended: true,
     is_good: false,
 };
 
-// Reads the file that argument i names.
-pub(crate) fn file(i: usize, buf: &mut [u8]) -> Held {
-    argument(i, false, buf)
-}
-
-// Reads the file that argument i names, standard input where it is `-`.
-pub(crate) fn file_or_input(i: usize, buf: &mut [u8]) -> Held {
-    argument(i, true, buf)
-}
-
-// Reads what argument i names.
-fn argument(i: usize, may_be_input: bool, buf: &mut [u8]) -> Held {
+// Reads the file that argument i names; standard input where it is `-`, if that may be.
+pub(crate) fn file(i: usize, may_be_input: bool, buf: &mut [u8]) -> Held {
     let mut path = io::buffer();
     let n = os::arg(i, &mut path);
     if os::errno() != 0 {

@@ -8,20 +8,14 @@ use libc::STDERR_FILENO;
 const PART: usize = 5;
 
 // Writes the bytes that a call left in `file` to the file that argument i names, and answers whether that was done.
-pub(crate) fn save_answer(
-    i: usize,
-    what: &[u8],
-    answer: Number,
-    file: &[u8],
-    out: &mut [u8],
-) -> bool {
+pub(crate) fn save_answer(i: usize, what: &[u8], answer: Number, file: &[u8]) -> bool {
     match answer {
         Number::Gives(n) => {
             let k = parts::within(n, file);
             save(i, &file[..k])
         }
         Number::Refused(r) => {
-            telling::refused(what, answers::refusal_number(r), out);
+            telling::refused(what, answers::refusal_number(r));
             false
         }
     }
@@ -34,10 +28,15 @@ fn save(i: usize, bytes: &[u8]) -> bool {
     if save_named(&path[..n], bytes) {
         return true;
     }
-    io::write_all(STDERR_FILENO, b"splitfiles: writing ");
-    io::write_all(STDERR_FILENO, &path[..n]);
-    io::write_all(STDERR_FILENO, b" failed\n");
+    tell_failed(&path[..n]);
     false
+}
+
+// Tells that the file of this name could not be written.
+fn tell_failed(path: &[u8]) {
+    io::write_all(STDERR_FILENO, b"splitfiles: writing ");
+    io::write_all(STDERR_FILENO, path);
+    io::write_all(STDERR_FILENO, b" failed\n");
 }
 
 // Writes the bytes to the file of this name.

@@ -1,7 +1,4 @@
 // `splitfiles show NAMES FILE`.
-use crate::collection;
-use crate::parts;
-use crate::reading;
 use crate::telling;
 use crate::waiting;
 use crate::waiting::Waiting;
@@ -11,73 +8,66 @@ use libc::STDERR_FILENO;
 use libc::STDOUT_FILENO;
 ghost use Prim.Native.Nat.{_≤_};
 
-// The arguments.
-const NAMES: usize = 2;
-
+// The argument.
 const FILE: usize = 3;
 
-// Opens a collection over the names, and prints what the file holds.
-pub(crate) fn show(
-    names: &mut [u8],
-    first: &mut [u8],
-    lent: &mut [u8],
-    masks: &mut [u64],
-    counts: &mut [u32],
-    out: &mut [u8],
-) -> u32
-    ensures { λ r. ⌜ r ≤ 2 ⌝ }
-{
-    let taxa = collection::opened(NAMES, names, lent, out);
-    if taxa == 0 {
-        return 2;
-    }
-    let held = reading::file(FILE, first);
-    if !held.is_good {
-        return 2;
-    }
-    let n = parts::within(held.bytes, first);
-    show_file(taxa, &first[..n], lent, masks, counts, out)
+// What waits behind a tree, and what its call answered.
+struct Shown {
+    pub waiting: Waiting,
+    pub answer: Number,
 }
 
-// Prints what these bytes hold.
-fn show_file(
+// Prints what the bytes of the file hold.
+pub(crate) fn show(
     taxa: u32,
     file: &[u8],
     lent: &[u8],
     masks: &mut [u64],
     counts: &mut [u32],
-    out: &mut [u8],
 ) -> u32
     ensures { λ r. ⌜ r ≤ 2 ⌝ }
 {
     match splitfile::read_splits(lent, file, masks, counts) {
         Both::Refused(r) => {
-            telling::refused_argument(FILE, answers::refusal_number(r), out);
+            telling::refused_argument(FILE, answers::refusal_number(r));
             2
         }
-        Both::Gives(trees, n) => {
-            let counted = put_counts(taxa, trees, n, out);
-            let listed = put_splits(masks, counts, n, out, counted);
-            show_trees(file, lent, out, listed)
-        }
+        Both::Gives(trees, n) => show_records(taxa, trees, file, lent, masks, counts, n),
     }
+}
+
+// Prints the counts, the n splits and the two trees of the file.
+fn show_records(
+    taxa: u32,
+    trees: usize,
+    file: &[u8],
+    lent: &[u8],
+    masks: &[u64],
+    counts: &[u32],
+    n: usize,
+) -> u32
+    ensures { λ r. ⌜ r ≤ 2 ⌝ }
+{
+    let mut out = [0u8; 512];
+    let counted = put_counts(taxa, trees, n, &mut out);
+    let listed = put_splits(masks, counts, n, &mut out, counted);
+    show_trees(file, lent, &mut out, listed)
 }
 
 // Puts the line of the counts. Of how many trees a file without records is, is not known.
 fn put_counts(taxa: u32, trees: usize, splits: usize, out: &mut [u8]) -> Waiting {
     let begun = waiting::none(STDOUT_FILENO);
-    let first = waiting::counted(out, b"taxa ", taxa as u64, begun);
-    let second = put_known(trees, splits, out, first);
-    let third = waiting::counted(out, b" splits ", splits as u64, second);
-    waiting::put(out, b"\n", third)
+    let first = waiting::between(out, b"taxa ", taxa as u64, b" trees ", begun);
+    if splits == 0 {
+        return waiting::put(out, b"- splits 0\n", first);
+    }
+    put_known(trees, splits, out, first)
 }
 
-// Puts the number of trees, where it is known.
+// Puts the end of that line, with the number of trees.
 fn put_known(trees: usize, splits: usize, out: &mut [u8], before: Waiting) -> Waiting {
-    if splits == 0 {
-        return waiting::put(out, b" trees -", before);
-    }
-    waiting::counted(out, b" trees ", trees as u64, before)
+    let first = waiting::number(out, trees as u64, before);
+    waiting::between(out, b" splits ", splits as u64, b"\n", first)
 }
 
 // Puts the lines of n splits.
@@ -100,21 +90,35 @@ fn put_splits(masks: &[u64], counts: &[u32], n: usize, out: &mut [u8], before: W
 // Puts the line of a split.
 fn put_split(mask: u64, count: u32, out: &mut [u8], before: Waiting) -> Waiting {
     let masked = waiting::number(out, mask, before);
-    let counted = waiting::counted(out, b" ", count as u64, masked);
-    waiting::put(out, b"\n", counted)
+    waiting::between(out, b" ", count as u64, b"\n", masked)
 }
 
 // Prints all that waits and the two trees of the file.
 fn show_trees(file: &[u8], lent: &[u8], out: &mut [u8], before: Waiting) -> u32
     ensures { λ r. ⌜ r ≤ 2 ⌝ }
 {
+    let majority = put_majority(file, lent, out, before);
+    let strict = put_strict(file, lent, out, majority.waiting);
+    let all = waiting::flush(out, strict);
+    let answer = majority.answer;
+    status(all.is_good, answer)
+}
+
+// Puts the line of the majority tree.
+fn put_majority(file: &[u8], lent: &[u8], out: &mut [u8], before: Waiting) -> Shown {
     let mut text = [0u8; 4352];
-    let majority = splitfile::majority_tree(lent, file, &mut text);
-    let first = put_tree(b"majority ", majority, &text, out, before);
-    let strict = splitfile::strict_tree(lent, file, &mut text);
-    let second = put_tree(b"strict ", strict, &text, out, first);
-    let all = waiting::flush(out, second);
-    status(all.is_good, majority, out)
+    let answer = splitfile::majority_tree(lent, file, &mut text);
+    Shown {
+        waiting: put_tree(b"majority ", answer, &text, out, before),
+        answer,
+    }
+}
+
+// Puts the line of the strict tree.
+fn put_strict(file: &[u8], lent: &[u8], out: &mut [u8], before: Waiting) -> Waiting {
+    let mut text = [0u8; 4352];
+    let answer = splitfile::strict_tree(lent, file, &mut text);
+    put_tree(b"strict ", answer, &text, out, before)
 }
 
 // Puts the line of a tree: a word, and what a call answered and left in `text`.
@@ -133,7 +137,7 @@ fn put_answer(answer: Number, text: &[u8], out: &mut [u8], before: Waiting) -> W
 }
 
 // The exit status. The strict splits are among the majority's, and agree where those do.
-fn status(is_written: bool, majority: Number, out: &mut [u8]) -> u32
+fn status(is_written: bool, majority: Number) -> u32
     ensures { λ r. ⌜ r ≤ 2 ⌝ }
 {
     if !is_written {
@@ -142,17 +146,17 @@ fn status(is_written: bool, majority: Number, out: &mut [u8]) -> u32
     }
     match majority {
         Number::Gives(_) => 0,
-        Number::Refused(r) => status_refused(answers::refusal_number(r), out),
+        Number::Refused(r) => status_refused(answers::refusal_number(r)),
     }
 }
 
 // The exit status where no majority tree is given: the file is empty, or chosen splits disagree, which is told.
-fn status_refused(k: u32, out: &mut [u8]) -> u32
+fn status_refused(k: u32) -> u32
     ensures { λ r. ⌜ r ≤ 2 ⌝ }
 {
     if k == 14 {
         return 0;
     }
-    telling::refused_argument(FILE, k, out);
+    telling::refused_argument(FILE, k);
     1
 }

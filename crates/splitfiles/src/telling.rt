@@ -6,17 +6,18 @@ use answers::Number;
 use libc::STDERR_FILENO;
 
 // Tells that what argument i names is refused with the number k.
-pub(crate) fn refused_argument(i: usize, k: u32, out: &mut [u8]) {
+pub(crate) fn refused_argument(i: usize, k: u32) {
     let mut path = io::buffer();
     let n = os::arg(i, &mut path);
-    refused(&path[..n], k, out);
+    refused(&path[..n], k);
 }
 
 // Tells that what has this name is refused with the number k.
-pub(crate) fn refused(name: &[u8], k: u32, out: &mut [u8]) {
-    let begun = waiting::put(out, name, waiting::none(STDERR_FILENO));
-    let told = refusal(out, k, begun);
-    waiting::flush(out, told);
+pub(crate) fn refused(name: &[u8], k: u32) {
+    let mut out = [0u8; 512];
+    let begun = waiting::put(&mut out, name, waiting::none(STDERR_FILENO));
+    let told = refusal(&mut out, k, begun);
+    waiting::flush(&out, told);
 }
 
 // Puts the line of a tree that is refused with the number k.
@@ -34,9 +35,8 @@ pub(crate) fn refused_tree(
 
 // Puts the end of a line on what is refused with the number k.
 fn refusal(out: &mut [u8], k: u32, before: Waiting) -> Waiting {
-    let counted = waiting::counted(out, b": refused ", k as u64, before);
-    let parted = waiting::put(out, b", ", counted);
-    let told = reason(out, k, parted);
+    let counted = waiting::between(out, b": refused ", k as u64, b", ", before);
+    let told = reason(out, k, counted);
     waiting::put(out, b"\n", told)
 }
 

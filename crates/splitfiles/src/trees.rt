@@ -9,6 +9,9 @@ use answers::Number;
 use libc::STDERR_FILENO;
 ghost use Prim.Native.Nat.{_≤_};
 
+// The least verdict that is no refusal: an accepted tree's number is given with 256 added.
+const TAKEN: u32 = 256;
+
 // What is told of verdicts, and how many of them are refusals.
 struct Told {
     pub waiting: Waiting,
@@ -16,20 +19,14 @@ struct Told {
 }
 
 // Feeds the trees of the file that argument i names, tells which are refused, and answers the exit status: 2, where the file is refused.
-pub(crate) fn feed_all(
-    i: usize,
-    trees: &[u8],
-    lent: &mut [u8],
-    verdicts: &mut [u32],
-    out: &mut [u8],
-) -> u32
+pub(crate) fn feed_all(i: usize, trees: &[u8], lent: &mut [u8], verdicts: &mut [u32]) -> u32
     ensures { λ r. ⌜ r ≤ 2 ⌝ }
 {
     let answer = feed(trees, lent, verdicts);
     let closing = close(lent);
     let mut path = io::buffer();
     let n = os::arg(i, &mut path);
-    tell(&path[..n], answer, verdicts, closing, out)
+    tell(&path[..n], answer, verdicts, closing)
 }
 
 // Feeds the trees, and writes their verdicts.
@@ -40,40 +37,41 @@ fn feed(trees: &[u8], lent: &mut [u8], verdicts: &mut [u32]) -> Number {
     feeding::batch(lent, Lane(0), trees, verdicts)
 }
 
-// Closes the lane, in which a text may be unfinished, and answers the number of the refusal; 0, where there is none.
+// Closes the lane, in which a text may be unfinished, and answers the verdict on it: not below 256, where there is none.
 fn close(lent: &mut [u8]) -> u32 {
     match feeding::close(lent, Lane(0)) {
-        Finish::Done => 0,
+        Finish::Done => TAKEN,
         Finish::Refused(r) => answers::refusal_number(r),
     }
 }
 
 // Tells what became of the trees, or that the file is refused.
-fn tell(name: &[u8], answer: Number, verdicts: &[u32], closing: u32, out: &mut [u8]) -> u32
+fn tell(name: &[u8], answer: Number, verdicts: &[u32], closing: u32) -> u32
     ensures { λ r. ⌜ r ≤ 2 ⌝ }
 {
     match answer {
         Number::Refused(r) => {
-            telling::refused(name, answers::refusal_number(r), out);
+            telling::refused(name, answers::refusal_number(r));
             2
         }
         Number::Gives(k) => {
             let n = parts::numbers_within(k, verdicts);
-            tell_trees(name, &verdicts[..n], closing, out)
+            tell_trees(name, &verdicts[..n], closing)
         }
     }
 }
 
 // Tells what became of the trees, the totals last.
-fn tell_trees(name: &[u8], verdicts: &[u32], closing: u32, out: &mut [u8]) -> u32
+fn tell_trees(name: &[u8], verdicts: &[u32], closing: u32) -> u32
     ensures { λ r. ⌜ r ≤ 2 ⌝ }
 {
     let n = verdicts.len();
-    let told = tell_verdicts(name, verdicts, out);
+    let mut out = [0u8; 512];
+    let told = tell_verdicts(name, verdicts, &mut out);
     let taken = std::num::wrapping_sub_usize(n, told.refused);
-    let all = tell_closing(name, n, closing, out, told);
-    let totals = tell_totals(name, taken, all.refused, out, all.waiting);
-    waiting::flush(out, totals);
+    let all = tell_verdict(name, n, closing, &mut out, told);
+    let totals = tell_totals(name, taken, all.refused, &mut out, all.waiting);
+    waiting::flush(&out, totals);
     if all.refused == 0 { 0 } else { 1 }
 }
 
@@ -96,27 +94,14 @@ fn nothing_told() -> Told {
     }
 }
 
-// Tells the verdict on the text behind n others, where it is a refusal: an accepted tree's number is given with 256 added.
+// Tells the verdict on the text behind n others, where it is a refusal. Texts are counted from 1.
 fn tell_verdict(name: &[u8], n: usize, verdict: u32, out: &mut [u8], before: Told) -> Told {
-    if 256 <= verdict {
+    if TAKEN <= verdict {
         return before;
     }
-    tell_refused(name, n, verdict, out, before)
-}
-
-// Tells a refused closing, as that of a text behind n others.
-fn tell_closing(name: &[u8], n: usize, closing: u32, out: &mut [u8], before: Told) -> Told {
-    if closing == 0 {
-        return before;
-    }
-    tell_refused(name, n, closing, out, before)
-}
-
-// Tells that the text behind n others is refused with the number k. Texts are counted from 1.
-fn tell_refused(name: &[u8], n: usize, k: u32, out: &mut [u8], before: Told) -> Told {
     let tree = std::num::wrapping_add_usize(n, 1);
     Told {
-        waiting: telling::refused_tree(out, name, tree, k, before.waiting),
+        waiting: telling::refused_tree(out, name, tree, verdict, before.waiting),
         refused: std::num::wrapping_add_usize(before.refused, 1),
     }
 }
@@ -131,6 +116,5 @@ fn tell_totals(
 ) -> Waiting {
     let named = waiting::put(out, name, before);
     let first = waiting::counted(out, b": ", taken as u64, named);
-    let second = waiting::counted(out, b" trees taken, ", refused as u64, first);
-    waiting::put(out, b" refused\n", second)
+    waiting::between(out, b" trees taken, ", refused as u64, b" refused\n", first)
 }

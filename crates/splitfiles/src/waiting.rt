@@ -55,6 +55,18 @@ pub(crate) fn counted(out: &mut [u8], word: &[u8], n: u64, before: Waiting) -> W
     number(out, n, begun)
 }
 
+// A number between two words.
+pub(crate) fn between(
+    out: &mut [u8],
+    word: &[u8],
+    n: u64,
+    behind: &[u8],
+    before: Waiting,
+) -> Waiting {
+    let begun = counted(out, word, n, before);
+    put(out, behind, begun)
+}
+
 // Writes what waits.
 pub(crate) fn flush(out: &[u8], before: Waiting) -> Waiting {
     let n = parts::within(before.bytes, out);

@@ -22,6 +22,7 @@ use Rattle.trees.specs.NexusCall.{onText}
 use Rattle.trees.specs.Withdrawing.{withoutAt, withoutTree, withdrawing}
 use Rattle.trees.specs.Questions.{treesHeld, splitsHeld, splitList, splitNumber, treeNumber, oneSidedOf, doubledOf, matrixOf, collisionsOf, strictOf, majorityOf, bothOf, writtenOf, weightedOf, sumsOf}
 use Rattle.trees.specs.SplitFileCall.{fileOf, readingOf, mergingOf, strictFileOf, majorityFileOf}
+use Rattle.trees.specs.PhylipCall.{phylipOf}
 use Rattle.theorems.specs.FeedingLaws.{endsAt, feedingBy, feeding-by, closingBy, closing-by}
 use Rattle.theorems.specs.WithdrawLaws.{withdrawingBy, withdrawing-by}
 use Rattle.theorems.specs.Alike.{Alike, SameFed, SameClosed, SameWithdrawn, SameAnswers}
@@ -192,7 +193,7 @@ abbrev bareOf : Held → Held
 bareOf h = bare (h .opening .numbers .taxa) (h .opening .numbers .kept) (h .opening .names) (h .trees) (h .lengths)
 
 pub questions-alike : (h k : Held) → Alike h k → SameAnswers h k
-unfolding treesHeld splitsHeld splitList splitNumber treeNumber oneSidedOf doubledOf matrixOf strictOf majorityOf bothOf writtenOf weightedOf sumsOf fileOf readingOf mergingOf strictFileOf majorityFileOf
+unfolding treesHeld splitsHeld splitList splitNumber treeNumber oneSidedOf doubledOf matrixOf strictOf majorityOf bothOf writtenOf weightedOf sumsOf fileOf readingOf mergingOf strictFileOf majorityFileOf phylipOf
 questions-alike h k a =
     record {
       number-of-trees = λ z. treesHeld (same z);
@@ -214,6 +215,7 @@ questions-alike h k a =
       files-merged = λ f g r z. mergingOf (same z) f g r;
       file-strict = λ f r z. strictFileOf (same z) f r;
       file-majority = λ f r z. majorityFileOf (same z) f r;
+      phylip = λ r z. phylipOf (same z) r;
     }
   where
     same : bareOf h ≡ bareOf k

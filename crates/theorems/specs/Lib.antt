@@ -95,3 +95,11 @@ pub mod OrderLaws
 pub mod GapLaws
 pub mod WeightedLaws
 pub mod SumLaws
+pub mod DecimalLaws
+pub mod PhylipLayout
+pub mod BetweenLaws
+pub mod PhylipReadLaws
+pub mod PhylipSoundLaws
+pub mod PhylipRefusalLaws
+pub mod PhylipWrittenLaws
+pub mod PhylipCallLaws

@@ -6,17 +6,19 @@
 --   less-or-not, equal-or-not     two numbers compared
 --   same-bool       two tests are equal where each passes with the other
 --   mem-stands, mem-getD, mem-where     what stands in a list is a member, and each member stands somewhere
+--   mem-flat, map-mem, mem-copies      what stands in lists one behind another, in a list with a function on each, and in copies of one number
+--   every-append    a test that every member of two lists passes
 --   map-append, map-same, map-back     a list with a function on each
 --   keep-append     the members of two lists that pass a test
 --   keep-step, keep-most     how many pass a test: one member more, and never more than there are
 use Prim.Native.Nat.{ℕ, zero, suc, _≤_, _<_}
 use native.Mathlib.Omega.{arith}
 use mathlib.Core.Path.{_≡_, refl, ap, ap₂, sym, _∙_}
-use mathlib.Core.Logic.{_⊎_, inl, inr, ⊎-map}
+use mathlib.Core.Logic.{_⊎_, inl, inr, ⊎-elim, ⊎-map}
 use mathlib.Core.Bool.{Bool, true, false, _&&_, _||_, true≢false}
-use mathlib.Core.List.{List, [], _∷_, _++_, map}
+use mathlib.Core.List.{List, [], _∷_, _++_, map, flatMap}
 use lib.Dec.{ltb, eqb}
-use lib.ListN.{length, getD}
+use lib.ListN.{length, getD, replicate}
 use borrow.Author.Tests.{ltb-true, ltb-false, eqb-true, eqb-false, eq-eqb}
 use Rattle.trees.specs.Plain.{if_then_else_, every, keep, member}
 
@@ -111,6 +113,19 @@ mem-cases x [] k h = inr h
 mem-cases x (y ∷ l) k (inl e) = inl (inl e)
 mem-cases x (y ∷ l) k (inr h) = ⊎-map (λ m. inr m) (λ m. m) (mem-cases x l k h)
 
+pub mem-flat : {A B : Type 0} (f : A → List B) (b : B) (l : List A) → Mem b (flatMap f l) → (x : A) × Mem x l × Mem b (f x)
+unfolding flatMap
+mem-flat f b (x ∷ l) h =
+    ⊎-elim (λ m. (x, inl refl, m)) (λ m. let r = mem-flat f b l m in (r .0, inr (r .1), r .2)) (mem-cases b (f x) (flatMap f l) h)
+
+pub map-mem : {A B : Type 0} (f : A → B) (l : List A) (y : B) → Mem y (map f l) → (x : A) × Mem x l × (y ≡ f x)
+map-mem f (x ∷ l) y (inl e) = (x, inl refl, e)
+map-mem f (x ∷ l) y (inr h) = let r = map-mem f l y h in (r .0, inr (r .1), r .2)
+
+pub mem-copies : (k a b : ℕ) → Mem b (replicate k a) → b ≡ a
+mem-copies (suc k) a b (inl e) = e
+mem-copies (suc k) a b (inr h) = mem-copies k a b h
+
 pub member-mem : (m : ℕ) (l : List ℕ) → member m l ≡ true → Mem m l
 unfolding member
 member-mem m [] e = absurd (true≢false (sym e))
@@ -142,6 +157,11 @@ pub every-intro : {A : Type 0} (p : A → Bool) (l : List A) → ((x : A) → Me
 unfolding every
 every-intro p [] f = refl
 every-intro p (y ∷ l) f = and-true (f y (inl refl)) (every-intro p l (λ x h. f x (inr h)))
+
+pub every-append : {A : Type 0} (p : A → Bool) (l r : List A) → every p l ≡ true → every p r ≡ true → every p (l ++ r) ≡ true
+unfolding every
+every-append p [] r a b = b
+every-append p (x ∷ l) r a b = and-true (and-left (p x) (every p l) a) (every-append p l r (and-right (p x) (every p l) a) b)
 
 -- ---- members that are kept
 

@@ -74,7 +74,7 @@ fn write_lengths(s: &[u8]) {
 }
 
 // The number that a call gives; 0 where it refuses.
-fn given(x: Number) -> usize {
+pub(crate) fn given(x: Number) -> usize {
     match x {
         Number::Gives(n) => n,
         Number::Refused(_) => 0,
@@ -82,7 +82,7 @@ fn given(x: Number) -> usize {
 }
 
 // Writes a number behind its name.
-fn write_number(name: &[u8], x: u64) {
+pub(crate) fn write_number(name: &[u8], x: u64) {
     io::write_all(STDOUT_FILENO, name);
     io::print_decimal(STDOUT_FILENO, x);
     io::write_all(STDOUT_FILENO, b"\n");

@@ -3,7 +3,6 @@
 use crate::answered;
 use crate::clock;
 use crate::opened;
-use answers::Number;
 ghost use Prim.Native.Nat.{_+_, _≤_};
 ghost use lib.ListN.{length};
 
@@ -38,7 +37,7 @@ fn times_written(part: u8, n: u64) -> u64 {
 }
 
 // The first n bytes; all of them, where there are not so many.
-fn front(bytes: &[u8], n: usize) -> &[u8] {
+pub(crate) fn front(bytes: &[u8], n: usize) -> &[u8] {
     if bytes.len() < n {
         return bytes;
     }
@@ -50,18 +49,10 @@ fn write_often(n: u64, s: &[u8], file: &mut [u8]) -> usize {
     let mut k = 0;
     let mut i = 0u64;
     while i < n {
-        k = given(splitfile::write_splits(s, file));
+        k = answered::given(splitfile::write_splits(s, file));
         i += 1;
     }
     k
-}
-
-// The number that a call gives; 0 where it refuses.
-fn given(x: Number) -> usize {
-    match x {
-        Number::Gives(n) => n,
-        Number::Refused(_) => 0,
-    }
 }
 
 // Reads a file n times.
@@ -154,7 +145,7 @@ fn copy_record(file: &[u8], from: usize, out: &mut [u8], to: usize, wanted: bool
 }
 
 // The sum of the sums of the first 1, 2, .. bytes, which tells their order too.
-fn byte_sum(bytes: &[u8]) -> u64 {
+pub(crate) fn byte_sum(bytes: &[u8]) -> u64 {
     let mut sum = 0u64;
     let mut sums = 0u64;
     let mut i = 0;

@@ -19,7 +19,7 @@ pub(crate) fn place_of(b: u8, input: &[u8], from: usize) -> usize
 }
 
 // How many times a line `PART N` asks for; any other line asks for none.
-pub(crate) fn times_in(line: &[u8]) -> u64 {
+fn times_in(line: &[u8]) -> u64 {
     let b = place_of(32, line, 0);
     if b == line.len() {
         return 0;
@@ -31,16 +31,54 @@ pub(crate) fn times_in(line: &[u8]) -> u64 {
     n
 }
 
-// The byte that names the part of a line: the first, but x for `withdraw`, which begins as `whole` does.
-pub(crate) fn part_of(line: &[u8]) -> u8 {
-    if 1 < line.len() {
-        if line[0] == b'w' {
-            if line[1] == b'i' {
-                return b'x';
-            }
-        }
+// What a line wants: a part, and how many times.
+pub(crate) struct Wanted {
+    pub(crate) part: u8,
+    pub(crate) times: u64,
+}
+
+// What a line wants.
+pub(crate) fn wanted_in(line: &[u8]) -> Wanted {
+    Wanted {
+        part: part_of(line),
+        times: times_in(line),
+    }
+}
+
+// Where there is no such line.
+pub(crate) fn nothing() -> Wanted {
+    Wanted { part: 0, times: 0 }
+}
+
+// The byte that names the part of a line: the first, but x for `withdraw` and h for `phylip`, which begin as `whole` and `pass` do.
+fn part_of(line: &[u8]) -> u8 {
+    if begins(line, b'w', b'i') {
+        return b'x';
+    }
+    if begins(line, b'p', b'h') {
+        return b'h';
     }
     first_byte(line)
+}
+
+// Whether a line begins with two bytes.
+fn begins(line: &[u8], first: u8, second: u8) -> bool {
+    if line.len() < 2 {
+        return false;
+    }
+    if line[0] != first {
+        return false;
+    }
+    line[1] == second
+}
+
+// Whether something is written over the input: for `phylip`, and for the last of the answers.
+pub(crate) fn is_written_over(part: u8) -> bool {
+    match part {
+        b'a' => true,
+        b'h' => true,
+        _ => false,
+    }
 }
 
 // Whether a part is one of split files: `export`, `read` or `unite`.

@@ -1,4 +1,4 @@
-// The parts that are timed, each named by its first letter, or x for `withdraw`.
+// The parts that are timed, each named by its first letter, or x for `withdraw`. Matrices as text are timed in matrices.rt.
 use crate::clock;
 use crate::files;
 use crate::files::Made;

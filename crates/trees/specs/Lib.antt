@@ -3,6 +3,7 @@ pub mod Mask
 pub mod Text
 pub mod Length
 pub mod Value
+pub mod Decimal
 pub mod Tree
 pub mod Grammar
 pub mod Reading
@@ -27,6 +28,8 @@ pub mod NexusCall
 pub mod Withdrawing
 pub mod SplitFile
 pub mod SplitFileCall
+pub mod Phylip
+pub mod PhylipCall
 pub mod Runs
 pub mod Samples
 pub mod FurtherTexts
@@ -39,3 +42,4 @@ pub mod FurtherSums
 pub mod FurtherBranches
 pub mod FurtherWithdrawals
 pub mod FurtherSplitFiles
+pub mod FurtherPhylip

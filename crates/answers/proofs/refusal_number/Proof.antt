@@ -96,10 +96,20 @@ returns-23 : tie.Need-returns-23
 unfolding refusalNumber
 returns-23 c = rw (c .enum-told23 .given .1)
 
+returns-24 : tie.Need-returns-24
+unfolding refusalNumber
+returns-24 c = rw (c .enum-told24 .given .1)
+
+returns-25 : tie.Need-returns-25
+unfolding refusalNumber
+returns-25 c = rw (c .enum-told25 .given .1)
+
 pub refusal-number-spec : {M : Type 1} → statement M
 refusal-number-spec =
     tie.close
     (tie.spec
+    (λ c. search needs)
+    (λ c. search needs)
     (λ c. search needs)
     (λ c. search needs)
     (λ c. search needs)
@@ -145,4 +155,6 @@ refusal-number-spec =
     returns-20
     returns-21
     returns-22
-    returns-23)
+    returns-23
+    returns-24
+    returns-25)

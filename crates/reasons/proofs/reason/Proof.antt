@@ -36,4 +36,7 @@ reason-spec =
     (λ c. given (c .before .before .before .before .before .before .before .before .before .before .before .args .k) (c .before .before .before .before .before .before .before .before .before .before .before .args .out .now) _ _ (omega arith) (omega arith) (c .before .before .of-nexus-and-lengths .ensures))
     (λ c κs. (omega arith, omega arith))
     (λ c. search needs)
-    (λ c. given (c .before .before .before .before .before .before .before .before .before .before .before .args .k) (c .before .before .before .before .before .before .before .before .before .before .before .args .out .now) _ _ (omega arith) (omega arith) (c .before .before .of-file .ensures)))
+    (λ c. given (c .before .before .before .before .before .before .before .before .before .before .before .before .args .k) (c .before .before .before .before .before .before .before .before .before .before .before .before .args .out .now) _ _ (omega arith) (omega arith) (c .before .before .of-file .ensures))
+    (λ c κs. (omega arith, omega arith))
+    (λ c. search needs)
+    (λ c. given (c .before .before .before .before .before .before .before .before .before .before .before .before .args .k) (c .before .before .before .before .before .before .before .before .before .before .before .before .args .out .now) _ _ (omega arith) (omega arith) (c .before .before .of-matrix .ensures)))

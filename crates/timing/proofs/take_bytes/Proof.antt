@@ -9,6 +9,7 @@ pub take-bytes-spec : {M : Type 1} → statement M
 take-bytes-spec =
     tie.close
     (tie.spec
+    (λ c κs. search needs)
     (λ c. search needs)
     (λ c. simp length-take (omega arith))
     (λ c κs. search needs)

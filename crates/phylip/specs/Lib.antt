@@ -1,0 +1,21 @@
+-- Matrices in PHYLIP's layout: what reading and writing promise, how a text is walked through, and the laws of both.
+pub mod Reading
+pub mod Walk
+pub mod CutLaws
+pub mod ValueLaws
+pub mod RowLaws
+pub mod SquareLaws
+pub mod Places
+pub mod PlaceLaws
+pub mod Rows
+pub mod PlaceRowLaws
+pub mod Symmetry
+pub mod SymmetryLaws
+pub mod Filling
+pub mod FillingLaws
+pub mod EntryLaws
+pub mod ReadingLaws
+pub mod Writing
+pub mod DigitLaws
+pub mod LineLaws
+pub mod WritingLaws
