@@ -140,6 +140,14 @@ impl Program {
         (peeked.len() == range.len()).then_some((range.start, peeked))
     }
 
+    /// The collection, if the store is known to be whole.
+    pub fn held(&self) -> Option<&Collection> {
+        match &self.store {
+            Store::Whole(collection) => Some(collection),
+            _ => None,
+        }
+    }
+
     /// Whether the store is known to be whole, or known not to be.
     pub fn is_whole(&self) -> Option<bool> {
         match self.store {

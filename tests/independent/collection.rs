@@ -1,5 +1,6 @@
 //! The collection: accepted trees as sets of masks with their lengths, lanes, and every call on it.
 
+use crate::claim::{claim, Claim};
 use crate::consensus::{majority, strict, written, Counts};
 use crate::double::Double;
 use crate::hash::{identifier, place};
@@ -310,6 +311,14 @@ impl Collection {
     /// Both, each into a buffer of so many bytes.
     pub fn both_texts(&self, room: usize) -> Result<(Vec<u8>, Vec<u8>), u32> {
         Ok((self.strict_text(room)?, self.majority_text(room)?))
+    }
+
+    /// "Order: 14, then 6 to 10. No lane is touched."
+    pub fn claim(&self, text: &[u8]) -> Result<Claim, u32> {
+        if self.trees.is_empty() {
+            return Err(14);
+        }
+        claim(&self.opening.names, text, &self.majority_splits())
     }
 
     pub fn tree_text(&self, number: u64, room: usize) -> Result<Vec<u8>, u32> {

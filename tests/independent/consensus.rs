@@ -44,7 +44,7 @@ fn written_node(names: &[Vec<u8>], taxa: &Taxa, clusters: &[Taxa]) -> Vec<u8> {
 }
 
 /// For each taxon from the smallest, the largest cluster inside the node that has it, or it alone; each once.
-fn children(taxa: &Taxa, clusters: &[Taxa]) -> Vec<Taxa> {
+pub fn children(taxa: &Taxa, clusters: &[Taxa]) -> Vec<Taxa> {
     let inside: Vec<&Taxa> = clusters.iter().filter(|c| c.is_subset(taxa) && c.len() < taxa.len()).collect();
     let mut children: Vec<Taxa> = Vec::new();
     for taxon in taxa {

@@ -1,6 +1,8 @@
 //! Damages to the bytes of stores that our program made: one or a few fields at a time, then mended and asked again.
 
 use crate::changes::{INFINITE, MINUS_ZERO, NO_NUMBERS, STORED_LENGTHS};
+use crate::claims::{claim_line, some_claim};
+use crate::collection::Collection;
 use crate::layout::{
     first_constant, head_number, name_bytes, name_length, second_constant, Field, HEAD_SPARE, LENGTHS_KEPT,
     MOST_LISTED, RUN_OVER,
@@ -9,6 +11,7 @@ use crate::maker::{every_call, joined, QUESTIONS};
 use crate::opening::Numbers;
 use crate::parts::Parts;
 use crate::random::Random;
+use crate::whole::held_in;
 use crate::words::{bytes, hex, lines};
 use std::ops::Range;
 
@@ -44,12 +47,14 @@ fn peeked_stores(script: &[u8], answers: &[u8]) -> Vec<Vec<u8>> {
 struct Lent {
     bytes: Vec<u8>,
     parts: Parts,
+    held: Option<Collection>,
 }
 
 impl Lent {
     fn new(bytes: Vec<u8>) -> Lent {
         let parts = Parts::read(&bytes).expect("the bytes of a store");
-        Lent { bytes, parts }
+        let held = held_in(&bytes);
+        Lent { bytes, parts, held }
     }
 
     fn poke_all(&self) -> String {
@@ -66,6 +71,9 @@ impl Lent {
             lines.extend(calls_that_write(random));
         } else {
             lines.extend(some_questions(random));
+        }
+        if random.one_in(2) {
+            lines.push(claim_line(&some_claim(random, &self.parts.names, self.held.as_ref())));
         }
         if random.one_in(3) {
             lines.push(format!("peek 0 {}", self.bytes.len()));

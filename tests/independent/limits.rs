@@ -53,7 +53,7 @@ pub fn opened_plain(mut random: Random, n: usize, lanes: u64, tree_room: u64, sp
     opened_over(random, names, lanes, tree_room, split_room)
 }
 
-fn opened_over(mut random: Random, names: Vec<Name>, lanes: u64, tree_room: u64, split_room: u64) -> Maker {
+pub fn opened_over(mut random: Random, names: Vec<Name>, lanes: u64, tree_room: u64, split_room: u64) -> Maker {
     let places = random.between(1, 2 * split_room as usize) as u64;
     let (taxa, lengths) = (names.len() as u64, random.one_in(2));
     Maker::open(random, names, Numbers { taxa, lanes, tree_room, split_room, places, lengths }, 3)
@@ -164,6 +164,7 @@ fn longest_written(mut random: Random) -> Vec<u8> {
         }
         let file = maker.file();
         maker.calls_on_file(&file);
+        maker.claim(&[&text[..], b";"].concat());
     }
     maker.questions();
     maker.peek();
@@ -179,9 +180,11 @@ fn nesting(random: Random) -> Vec<u8> {
             let tree = ladder(&mut maker.random, &names, brackets);
             let text = text_of(&mut maker.random, &tree);
             maker.text(&text);
+            maker.claim(&[&text[..], b";"].concat());
         }
         let deep = [vec![b'('; brackets], vec![b')'; brackets]].concat();
         maker.text(&deep);
+        maker.claim(&[&deep[..], b";"].concat());
     }
     maker.questions();
     maker.script()
@@ -198,6 +201,7 @@ fn taxa(random: &mut Random) -> Vec<u8> {
         lines.push(open_line(&numbers, &name_list(&names), &zeros, &zeros));
         let text = bare_text(random, &names, 2);
         lines.push(format!("feed 0 {}3b", hex(&text)));
+        lines.push(format!("claim {}3b", hex(&text)));
         lines.extend(["splits", "majority", "both", "collisions", "matrix", "phylip"].map(str::to_string));
     }
     joined(&lines)
@@ -216,6 +220,7 @@ fn small_tree_rooms(mut random: Random) -> Vec<u8> {
             maker.text(&text);
             maker.ask("matrix");
             maker.ask("phylip");
+            maker.claim_calls();
             maker.peek();
         }
     }
@@ -334,6 +339,7 @@ fn largest_tree_room(random: Random) -> Vec<u8> {
     maker.calls_on_file(&file);
     let file = maker.phylip();
     maker.read_phylip(&file);
+    maker.claim_questions();
     maker.script()
 }
 

@@ -6,6 +6,11 @@ mod branches;
 mod calls;
 mod changes;
 mod check;
+mod claim;
+mod claimcheck;
+mod claimrefusals;
+mod claims;
+mod claimscript;
 mod collection;
 mod compare;
 mod consensus;
@@ -50,6 +55,7 @@ mod quotesamples;
 mod random;
 mod reading;
 mod refusals;
+mod rooting;
 mod script;
 mod selfcheck;
 mod sets;
@@ -124,6 +130,7 @@ fn maker(word: &str) -> Option<Make> {
         "withdrawals" => withdrawals::withdrawals,
         "splitfiles" => splitfilescript::splitfiles,
         "phylips" => phylipscript::phylips,
+        "claims" => claimscript::claims,
         "limits" => limits::limits,
         "largest" => limits::largest,
         "oddities" => oddities::oddities,
@@ -191,7 +198,7 @@ fn usage() {
     eprintln!("nightjob write OUT NAMES TREES | nightjob merge OUT NAMES A B | nightjob show NAMES FILE");
     eprintln!("GENERATOR SEED COUNT | damaged SEED COUNT SCRIPT ANSWERS, a generator being");
     eprintln!("texts | sheet | calls | mixed | whole | batched | filed | zeros | refusals | stores | made | nexus");
-    eprintln!("quotes | lengths | withdrawals | splitfiles | phylips | limits | largest | oddities");
+    eprintln!("quotes | lengths | withdrawals | splitfiles | phylips | claims | limits | largest | oddities");
     std::process::exit(2);
 }
 

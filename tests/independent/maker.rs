@@ -1,5 +1,6 @@
 //! A script as it grows, with the collection that its calls come to.
 
+use crate::claims::claim_line;
 use crate::collection::{Collection, Fed};
 use crate::generator::{any_name_list, first_constants, second_constants};
 use crate::grow::Name;
@@ -120,6 +121,7 @@ impl Maker {
         }
         self.file_questions();
         self.phylip_questions();
+        self.claim_questions();
         for tree in 0..=self.held.number_of_trees() {
             self.ask(format!("tree {tree}"));
             self.ask(format!("write {tree}"));
@@ -139,13 +141,14 @@ pub fn every_call(piece: &[u8]) -> Vec<String> {
     let mut calls: Vec<String> = QUESTIONS.iter().map(|line| line.to_string()).collect();
     calls.extend([format!("feed 0 {}", hex(piece)), "close 0".to_string(), format!("batch 0 {}", hex(piece))]);
     calls.push(format!("nexus {}", hex(&[b"#NEXUS BEGIN TREES; TREE t=", piece, b"END;"].concat())));
+    calls.push(claim_line(piece));
     calls.push("withdraw 0".to_string());
     calls
 }
 
 /// The split files have one split, of the taxa 1 and 2, in one or both of two trees, or the taxa 1 and 3 in all of three; the
-/// matrices are one of two trees, one that is not symmetric, and none.
-pub const QUESTIONS: [&str; 30] = [
+/// matrices are one of two trees, one that is not symmetric, and none; the claims are of no text.
+pub const QUESTIONS: [&str; 32] = [
     "trees",
     "count",
     "splits",
@@ -176,6 +179,8 @@ pub const QUESTIONS: [&str; 30] = [
     "read-phylip 320a74302020202020202020203020370a74312020202020202020203720300a",
     "read-phylip 320a74302020202020202020203020370a74312020202020202020203620300a",
     "read-phylip -",
+    "claim -",
+    "claim 3b",
 ];
 
 pub fn size_line(numbers: &Numbers) -> String {

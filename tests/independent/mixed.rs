@@ -22,7 +22,7 @@ enum Step {
     Withdraw(usize),
     /// A question on the way, for the ways that cut alike.
     Ask(String),
-    /// Calls on split files and on matrices in PHYLIP's layout, for the same ways.
+    /// Calls on split files and on matrices in PHYLIP's layout, and claims, for the same ways.
     Files,
     Peek,
 }
@@ -180,6 +180,7 @@ fn cut(plan: &Plan, zeros: bool) -> Vec<u8> {
             Step::Files => {
                 maker.file_calls();
                 maker.phylip_calls();
+                maker.claim_calls();
             }
             Step::Peek => maker.peek(),
         }

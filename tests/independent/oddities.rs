@@ -5,7 +5,7 @@ use crate::random::Random;
 use crate::words::hex;
 
 /// A line of every call that is one once something is opened.
-const GOOD: [&str; 40] = [
+const GOOD: [&str; 43] = [
     "size 4 1 1 1 1",
     "size 4 1 1 1 1 lengths",
     "open 4 1 1 1 1 41204220432044 0,0,0,0 0,0,0,0 lengths",
@@ -42,13 +42,16 @@ const GOOD: [&str; 40] = [
     "phylip",
     "read-phylip 300a",
     "read-phylip 320a74302020202020202020203020370a74312020202020202020203720300a",
+    "claim -",
+    "claim 3b",
+    "claim 28412c422c432c44293b",
     "agree 6 12",
     "room 7",
     "peek 0 1",
     "poke 8866 00",
 ];
 
-const OTHERS: [&str; 84] = [
+const OTHERS: [&str; 94] = [
     "",
     " ",
     "  ",
@@ -133,6 +136,16 @@ const OTHERS: [&str; 84] = [
     "read-phylip --",
     "read phylip 300a",
     "phylip 300a",
+    "claim",
+    "claim 0",
+    "claim 3",
+    "claim 3B",
+    "claim --",
+    "claim - -",
+    "claim 28412c422c432c44 293b",
+    "claim 1 28412c422c432c44293b",
+    "claim 0 3b",
+    "Claim 3b",
 ];
 
 /// A script of so many rounds; its last line has no end.
@@ -225,7 +238,7 @@ fn edges_of_memory() -> Vec<String> {
     lines.map(str::to_string).to_vec()
 }
 
-/// The longest NEXUS file; the longest line, with room for all bytes that can be lent; one as long that is no call, and
+/// The longest NEXUS file; the longest text and claim; the longest line, with room for all bytes that can be lent; one as long that is no call, and
 /// longer ones.
 fn longest_lines() -> Vec<String> {
     let lend = "lend 8388608".to_string();
@@ -234,6 +247,8 @@ fn longest_lines() -> Vec<String> {
     lines.extend([
         longest_file(),
         longest_quotes(),
+        "feed 0 28412c422c432c44293b".to_string(),
+        longest_claim(),
         lend,
         poke,
         "peek 8388605 3".to_string(),
@@ -256,6 +271,11 @@ fn longest_file() -> String {
 /// A text of as many bytes with its semicolon, all others hidden by quotes.
 fn longest_quotes() -> String {
     format!("feed 0 27{}273b", "3b".repeat(8_388_605))
+}
+
+/// A claim of as many bytes.
+fn longest_claim() -> String {
+    format!("claim 27{}273b", "3b".repeat(8_388_605))
 }
 
 /// Lines of bytes by chance.

@@ -1,5 +1,6 @@
 //! The calls on a collection from their words, and the lines that answer them.
 
+use crate::claim::Claim;
 use crate::collection::{Batch, Collection, Fed, Verdict};
 use crate::double::Double;
 use crate::splitfile::Splits;
@@ -25,6 +26,7 @@ pub enum Question {
     Majority,
     Both,
     Write(u64),
+    Claim(Vec<u8>),
     Collisions,
     Phylip,
     File,
@@ -55,6 +57,7 @@ impl Question {
             [b"majority"] => Question::Majority,
             [b"both"] => Question::Both,
             [b"write", t] => Question::Write(number(t)?),
+            [b"claim", text] => Question::Claim(bytes(text)?),
             [b"collisions"] => Question::Collisions,
             [b"phylip"] => Question::Phylip,
             [b"file"] => Question::File,
@@ -87,6 +90,7 @@ impl Question {
             Question::Majority => text_line(&collection.majority_text(room)?),
             Question::Both => both_line(&collection.both_texts(room)?),
             Question::Write(t) => text_line(&collection.tree_text(*t, room)?),
+            Question::Claim(text) => claim_line(&collection.claim(text)?),
             Question::Collisions => number_line(collection.collisions()),
             Question::Phylip => bytes_line(&collection.phylip(room)?),
             Question::File => bytes_line(&collection.file(room)?),
@@ -191,6 +195,14 @@ fn bytes_line(bytes: &[u8]) -> Vec<u8> {
 
 fn text_line(text: &[u8]) -> Vec<u8> {
     [b"text ", text].concat()
+}
+
+fn claim_line(claim: &Claim) -> Vec<u8> {
+    match claim {
+        Claim::Same => b"same".to_vec(),
+        Claim::Text(mask) => format!("text {mask}").into_bytes(),
+        Claim::Majority(mask) => format!("majority {mask}").into_bytes(),
+    }
 }
 
 fn both_line((strict, majority): &(Vec<u8>, Vec<u8>)) -> Vec<u8> {

@@ -1,5 +1,6 @@
 //! Every refusal number in every place that can give it, with all lent bytes peeked before and after.
 
+use crate::claimrefusals::{claims, claims_at_full_rooms, refused_claims};
 use crate::collection::Collection;
 use crate::filerefusals::{files, files_at_full_rooms, refused_files};
 use crate::generator::{first_constants, name_list, second_constants};
@@ -38,6 +39,7 @@ fn round(mut random: Random, lengths: bool) -> Vec<u8> {
     lanes_and_texts(&mut maker);
     files(&mut maker);
     numbers_and_rooms(&mut maker);
+    claims(&mut maker);
     withdrawals(&mut maker);
     full_rooms(&mut maker);
     openings(&mut maker);
@@ -68,7 +70,7 @@ impl Maker {
     }
 }
 
-/// 14 and 13 before 4, and the answers of an empty collection in buffers of no element.
+/// 14 and 13 before 4, 14 before 6 to 10, and the answers of an empty collection in buffers of no element.
 fn no_trees(maker: &mut Maker) {
     maker.peek();
     for room in ["room 0", "room -"] {
@@ -80,6 +82,9 @@ fn no_trees(maker: &mut Maker) {
             maker.watched(line);
         }
         for line in ["batch 0 -", "phylip", "read-phylip 300a"] {
+            maker.watched(line);
+        }
+        for line in refused_claims(maker) {
             maker.watched(line);
         }
     }
@@ -298,6 +303,7 @@ fn full_rooms(maker: &mut Maker) {
     }
     files_at_full_rooms(maker);
     withdrawals_at_full_rooms(maker);
+    claims_at_full_rooms(maker);
     maker.questions();
 }
 
@@ -441,7 +447,8 @@ fn not_whole(maker: &mut Maker) {
             let wrong = ["feed 8 28", "close 8", "batch 9 3b", "split 9", "tree 9", "one 9 9", "two 9 9", "write 9"];
             let wrong = wrong.into_iter().chain(["weighted 9 9", "lengths 9", "withdraw 9"]).map(str::to_string);
             let files = refused_files(maker).into_iter().chain(refused_split_files()).chain(refused_phylips());
-            for line in every_call(&text).into_iter().chain(wrong).chain(files) {
+            let claims = refused_claims(maker);
+            for line in every_call(&text).into_iter().chain(wrong).chain(files).chain(claims) {
                 maker.watched(line);
             }
         }

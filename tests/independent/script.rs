@@ -1,6 +1,7 @@
 //! Generated lines for `treecalls`.
 
 use crate::calls::Program;
+use crate::claims::{claim_line, some_claim};
 use crate::files::any_file;
 use crate::generator::{
     any_name_list, damage_names, first_constants, second_constants, some_names, some_places, some_shapes, some_texts,
@@ -48,7 +49,7 @@ struct Script {
 }
 
 /// Lines that are no calls.
-const BAD_LINES: [&str; 64] = [
+const BAD_LINES: [&str; 70] = [
     "",
     " ",
     "trees ",
@@ -113,6 +114,12 @@ const BAD_LINES: [&str; 64] = [
     "read-phylip 0",
     "read-phylip - -",
     "readphylip -",
+    "claim",
+    "claim 0",
+    "claim 3B",
+    "claim - -",
+    "claim 1 3b",
+    "claims 3b",
 ];
 
 /// The longest piece of one feeding or batch.
@@ -240,7 +247,7 @@ impl Script {
     fn question_line(&mut self) -> String {
         let (a, b) = (self.small(), self.small());
         let masks = (self.random.next() % 64, self.random.next() % 64);
-        match self.random.below(26) {
+        match self.random.below(30) {
             0 => "trees".to_string(),
             1 => "count".to_string(),
             2 => "splits".to_string(),
@@ -261,8 +268,14 @@ impl Script {
             18..=20 => some_file_line(&mut self.random, self.names.len(), &self.kept),
             21 => "phylip".to_string(),
             22..=24 => some_phylip_line(&mut self.random, &self.phylips),
+            25..=28 => self.claim_line(),
             _ => format!("agree {} {}", self.random.next(), self.random.next()),
         }
+    }
+
+    /// On the collection that there is now, over the names of the openings.
+    fn claim_line(&mut self) -> String {
+        claim_line(&some_claim(&mut self.random, &self.names, self.program.held()))
     }
 
     /// A tree or split number that is mostly there, or far from it.

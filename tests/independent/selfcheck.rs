@@ -1,7 +1,8 @@
 //! `selfcheck`: the samples of document 01, the sheet of the summary program, the limits, and the settled points; then
-//! the checks of quotes, of lengths, of stores, of NEXUS files, of withdrawals, of split files and of matrices.
+//! the checks of quotes, of lengths, of stores, of NEXUS files, of withdrawals, of split files, of matrices and of claims.
 
 use crate::calls::treecalls;
+use crate::claimcheck::claim_checks;
 use crate::collection::Collection;
 use crate::consensus::{majority, strict, written, Counts};
 use crate::filecheck::file_checks;
@@ -42,6 +43,7 @@ pub fn selfcheck() -> bool {
         withdrawal_checks(),
         split_file_checks(),
         phylip_checks(),
+        claim_checks(),
     ]
     .concat();
     for (name, right) in &checks {

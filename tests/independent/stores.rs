@@ -1,6 +1,7 @@
 //! Small collections by chance, as our program makes them and as this one does by docs/STORE.md.
 
 use crate::changes::{CHANGES, FAULTS};
+use crate::claims::{claim_line, some_claim};
 use crate::generator::one_text;
 use crate::grow::{names, shape, text_of};
 use crate::maker::{every_call, joined, Maker};
@@ -98,7 +99,7 @@ pub fn made_bytes(random: &mut Random, i: usize) -> (Maker, Vec<u8>) {
     (maker, bytes)
 }
 
-/// Every call, texts that may be accepted, and withdrawals.
+/// Every call, texts that may be accepted, withdrawals, and claims.
 fn calls_on(random: &mut Random, maker: &Maker) -> Vec<String> {
     let tree = shape(random, &maker.names, 3);
     let text = [one_text(random, &maker.names, &[tree]), b";".to_vec()].concat();
@@ -108,5 +109,6 @@ fn calls_on(random: &mut Random, maker: &Maker) -> Vec<String> {
     let behind =
         ["splits", "matrix", "majority", "strict", "both", "collisions", "weighted 0 2", "lengths 2", "phylip"];
     lines.extend(behind.map(str::to_string));
+    lines.extend((0..3).map(|_| claim_line(&some_claim(random, &maker.names, Some(&maker.held)))));
     lines
 }

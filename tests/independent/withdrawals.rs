@@ -208,6 +208,7 @@ impl Row {
         if self.maker.random.one_in(30) {
             self.maker.file_calls();
             self.maker.phylip_calls();
+            self.maker.claim_calls();
         }
         if self.maker.random.one_in(20 + self.maker.lent as usize / 1000) {
             self.maker.peek();

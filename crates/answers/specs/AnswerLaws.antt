@@ -4,6 +4,7 @@
 --   split-refused, split-given       a call that gives one split
 --   lengths-refused, lengths-given   a call that gives the lengths of one split
 --   weight-refused, weight-given     a call that gives a double
+--   claim-refused, claim-same, claim-text, claim-majority     a claim that a text is the majority tree
 --   filled-refused                   a call that fills a buffer leaves it as found where it refuses
 --   filled-short, filled-given       4 where the buffer is too short for the whole answer, else the answer at its front
 --   filled-as                        a call that leaves the answer to another one
@@ -21,6 +22,7 @@ use borrow.Author.Tests.{lt-ltb, le-ltb}
 use Rattle.trees.specs.Plain.{Answer, refused, gives}
 use Rattle.trees.specs.Sums.{Sums}
 use Rattle.trees.specs.Questions.{ifRoom, together}
+use Rattle.trees.specs.Claim.{Claimed, same, textAlone, majorityAlone}
 use Rattle.answers.specs.declared.Refusal.{Refusal}
 use Rattle.answers.specs.declared.Refusal.the-variants as why
 use Rattle.answers.specs.declared.Number.{Number}
@@ -28,13 +30,14 @@ use Rattle.answers.specs.declared.Number.the-variants as number
 use Rattle.answers.specs.declared.Both.{Both}
 use Rattle.answers.specs.declared.Both.the-variants as both
 use Rattle.answers.specs.declared.Recorded.the-variants as recorded
+use Rattle.answers.specs.declared.Claim.the-variants as claim
 use Rattle.answers.specs.declared.Lengths.{Lengths}
 use Rattle.answers.specs.declared.SplitLengths.the-variants as splitLengths
 use Rattle.answers.specs.declared.Weight.the-variants as weight
-use Rattle.answers.specs.Answers.{refusalNumber, refusing, numberGiven, bothGiven, splitGiven, sumsGiven, splitLengthsGiven, weightGiven}
+use Rattle.answers.specs.Answers.{refusalNumber, refusing, numberGiven, bothGiven, splitGiven, claimGiven, sumsGiven, splitLengthsGiven, weightGiven}
 use Rattle.answers.specs.Filled.{lengthGiven, front, FilledAs, firstOf, secondOf, lengthsGiven, BothFilledAs}
 
--- ---- a number, a split, its lengths, a double
+-- ---- a number, a split, its lengths, a double, a claim
 
 module _ (x : Answer ℕ) where
   pub number-refused : (r : Refusal) → x ≡ refusing r → numberGiven (number.Refused r) ≡ x
@@ -71,6 +74,24 @@ module _ (x : Answer Float) where
   pub weight-given : (d y : Float) → x ≡ gives y → d ≡ y → weightGiven (weight.Gives d) ≡ x
   unfolding weightGiven
   weight-given d y e f = ap gives f ∙ sym e
+
+module _ (x : Answer Claimed) where
+  pub claim-refused : (r : Refusal) → x ≡ refusing r → claimGiven (claim.Refused r) ≡ x
+  unfolding claimGiven
+  claim-refused r e = sym e
+
+module _ (y : Claimed) where
+  pub claim-same : y ≡ same → claimGiven claim.Same ≡ gives y
+  unfolding claimGiven
+  claim-same e = ap gives (sym e)
+
+  pub claim-text : (m : ℕ) → y ≡ textAlone m → claimGiven (claim.Text m) ≡ gives y
+  unfolding claimGiven
+  claim-text m e = ap gives (sym e)
+
+  pub claim-majority : (m : ℕ) → y ≡ majorityAlone m → claimGiven (claim.Majority m) ≡ gives y
+  unfolding claimGiven
+  claim-majority m e = ap gives (sym e)
 
 -- ---- a buffer
 

@@ -2,8 +2,8 @@
 --
 --   refusalNumber r                                   the number of a refusal in documents 01 and 02
 --   refusing r                                        the answer that refuses with that number
---   finishGiven, numberGiven, bothGiven, splitGiven, splitLengthsGiven, weightGiven, progressGiven     an answer of the code, as the
---                                                     definitions of crate trees have it
+--   finishGiven, numberGiven, bothGiven, splitGiven, claimGiven, splitLengthsGiven, weightGiven, progressGiven     an answer of the code,
+--                                                     as the definitions of crate trees have it
 --   sumsGiven l                                       the three lengths of a split that the code has
 --   Small a                                           the number of an accepted tree is at most 1,024
 use Prim.Native.Nat.{ℕ, _≤_}
@@ -11,6 +11,7 @@ use lib.Ieee.{Float}
 use Rattle.trees.specs.Plain.{Answer, refused, gives}
 use Rattle.trees.specs.Sums.{Sums}
 use Rattle.trees.specs.Held.{moreWanted, accepted}
+use Rattle.trees.specs.Claim.{Claimed, same, textAlone, majorityAlone}
 use Rattle.trees.specs.Held as held
 use Rattle.answers.specs.declared.Refusal.{Refusal}
 use Rattle.answers.specs.declared.Refusal.the-variants as why
@@ -22,6 +23,8 @@ use Rattle.answers.specs.declared.Both.{Both}
 use Rattle.answers.specs.declared.Both.the-variants as both
 use Rattle.answers.specs.declared.Recorded.{Recorded}
 use Rattle.answers.specs.declared.Recorded.the-variants as recorded
+use Rattle.answers.specs.declared.Claim.{Claim}
+use Rattle.answers.specs.declared.Claim.the-variants as claim
 use Rattle.answers.specs.declared.Lengths.{Lengths}
 use Rattle.answers.specs.declared.SplitLengths.{SplitLengths}
 use Rattle.answers.specs.declared.SplitLengths.the-variants as splitLengths
@@ -84,6 +87,14 @@ unfoldable pub splitGiven : Recorded → Answer (ℕ × ℕ)
 unfolding refusalNumber
 splitGiven (recorded.Refused r) = refused (refusalNumber r)
 splitGiven (recorded.Gives m c) = gives (m, c)
+
+-- "name the smallest mask that is in one set alone, and which set"
+unfoldable pub claimGiven : Claim → Answer Claimed
+unfolding refusalNumber
+claimGiven (claim.Refused r) = refused (refusalNumber r)
+claimGiven claim.Same = gives same
+claimGiven (claim.Text m) = gives (textAlone m)
+claimGiven (claim.Majority m) = gives (majorityAlone m)
 
 -- "the shortest, longest and summed length"
 unfoldable pub sumsGiven : Lengths → Sums

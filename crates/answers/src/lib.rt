@@ -71,6 +71,15 @@ pub enum Recorded {
     Gives(u64, u32),
 }
 
+// The answer to a claim that a text is the majority tree: it has the same splits, or the smallest mask that the text's
+// splits or the majority's have alone.
+pub enum Claim {
+    Refused(Refusal),
+    Same,
+    Text(u64),
+    Majority(u64),
+}
+
 // The shortest, longest and summed length of a split, over some trees having it.
 pub struct Lengths {
     pub shortest: f64,

@@ -121,13 +121,13 @@ fn make_other(
     if call.kind == kinds::OPEN {
         return opens::open(line, lent, call);
     }
+    let bytes = parse::bytes_of(line, call);
+    let from = bytes.from;
+    let to = bytes.to;
     if kinds::writes(call.kind) == kinds::MEMORY {
-        let bytes = parse::bytes_of(line, call);
-        let from = bytes.from;
-        let to = bytes.to;
         return changes::make(&line[from..to], lent, verdicts, call, room);
     }
-    questions::make(lent, call)
+    questions::make(&line[from..to], lent, call)
 }
 
 // What is kept from a call: what was lent, and the room.

@@ -57,27 +57,29 @@ pub(crate) const BATCH: usize = 25;
 // Bytes.
 pub(crate) const NEXUS: usize = 26;
 
-pub(crate) const RECORDS: usize = 27;
+pub(crate) const CLAIM: usize = 27;
 
-pub(crate) const READ_PHYLIP: usize = 28;
+pub(crate) const RECORDS: usize = 28;
 
-pub(crate) const FILE_STRICT: usize = 29;
+pub(crate) const READ_PHYLIP: usize = 29;
 
-pub(crate) const FILE_MAJORITY: usize = 30;
+pub(crate) const FILE_STRICT: usize = 30;
+
+pub(crate) const FILE_MAJORITY: usize = 31;
 // Bytes twice.
-pub(crate) const MERGE: usize = 31;
+pub(crate) const MERGE: usize = 32;
 // Five numbers, and a last word or not.
-pub(crate) const SIZE: usize = 32;
+pub(crate) const SIZE: usize = 33;
 // Five numbers, bytes and two lists, and a last word or not.
-pub(crate) const OPEN: usize = 33;
+pub(crate) const OPEN: usize = 34;
 // A line that is no call.
-pub(crate) const NO_CALL: usize = 34;
+pub(crate) const NO_CALL: usize = 35;
 
 // The call of a word.
 pub(crate) fn of_word(word: &[u8]) -> usize {
     parts::place(
         word,
-        b"trees count collisions splits matrix strict majority both file phylip close withdraw split lengths tree write lend room one two weighted agree peek poke feed batch nexus records read-phylip file-strict file-majority merge size open ",
+        b"trees count collisions splits matrix strict majority both file phylip close withdraw split lengths tree write lend room one two weighted agree peek poke feed batch nexus claim records read-phylip file-strict file-majority merge size open ",
     )
 }
 

@@ -1,9 +1,10 @@
-// Calls that leave the lent memory as it is and give numbers.
+// Calls that leave the lent memory as it is and give numbers, or a mask with the set that has it.
 use crate::kinds;
 use crate::opens;
 use crate::parse::Call;
 use crate::replies;
 use crate::replies::Reply;
+use answers::Claim;
 use answers::Number;
 use answers::Recorded;
 use answers::Split;
@@ -11,8 +12,8 @@ use answers::SplitLengths;
 use answers::Tree;
 use answers::Weight;
 
-// Makes the call.
-pub(crate) fn make(lent: &[u8], call: Call) -> Reply {
+// Makes the call, with these bytes if it takes such.
+pub(crate) fn make(bytes: &[u8], lent: &[u8], call: Call) -> Reply {
     let kind = call.kind;
     match kind {
         kinds::NO_CALL => replies::bad_line(),
@@ -21,6 +22,7 @@ pub(crate) fn make(lent: &[u8], call: Call) -> Reply {
         kinds::SPLIT => split(lent, call.a),
         kinds::WEIGHTED => weighted(lent, call.a, call.b),
         kinds::LENGTHS => lengths(lent, call.a),
+        kinds::CLAIM => claim(lent, bytes),
         kinds::SIZE => replies::number(replies::BYTES, opens::size(call)),
         _ => replies::number(replies::NUMBER, number(lent, call)),
     }
@@ -80,5 +82,16 @@ fn lengths(lent: &[u8], s: usize) -> Reply {
                 c,
             }
         }
+    }
+}
+
+// `claim HEX`.
+fn claim(lent: &[u8], text: &[u8]) -> Reply {
+    let answer = claiming::claim(lent, text);
+    match answer {
+        Claim::Refused(r) => replies::refused(r),
+        Claim::Same => replies::with(replies::SAME, 0),
+        Claim::Text(mask) => replies::with(replies::TEXT, mask),
+        Claim::Majority(mask) => replies::with(replies::MAJORITY, mask),
     }
 }

@@ -18,44 +18,50 @@ pub(crate) struct Reply {
 pub(crate) const BAD_LINE: usize = 0;
 
 pub(crate) const DONE: usize = 1;
+
+pub(crate) const SAME: usize = 2;
 // The number a behind it.
-pub(crate) const REFUSED: usize = 2;
+pub(crate) const REFUSED: usize = 3;
 
-pub(crate) const NUMBER: usize = 3;
+pub(crate) const NUMBER: usize = 4;
 
-pub(crate) const BYTES: usize = 4;
+pub(crate) const BYTES: usize = 5;
 
-pub(crate) const AGREE: usize = 5;
+pub(crate) const AGREE: usize = 6;
 
-pub(crate) const MORE: usize = 6;
+pub(crate) const MORE: usize = 7;
+
+pub(crate) const TEXT: usize = 8;
+
+pub(crate) const MAJORITY: usize = 9;
 // The numbers a and b.
-pub(crate) const SPLIT: usize = 7;
+pub(crate) const SPLIT: usize = 10;
 
-pub(crate) const ACCEPTED: usize = 8;
+pub(crate) const ACCEPTED: usize = 11;
 
-pub(crate) const FED_REFUSED: usize = 9;
+pub(crate) const FED_REFUSED: usize = 12;
 // The double with the bits a.
-pub(crate) const DOUBLE: usize = 10;
+pub(crate) const DOUBLE: usize = 13;
 // The doubles with the bits a, b and c.
-pub(crate) const LENGTHS: usize = 11;
+pub(crate) const LENGTHS: usize = 14;
 // A list of a elements.
-pub(crate) const SPLITS: usize = 12;
+pub(crate) const SPLITS: usize = 15;
 
-pub(crate) const TREE: usize = 13;
+pub(crate) const TREE: usize = 16;
 
-pub(crate) const MATRIX: usize = 14;
+pub(crate) const MATRIX: usize = 17;
 // The number b, and a list of a elements.
-pub(crate) const RECORDS: usize = 15;
+pub(crate) const RECORDS: usize = 18;
 // A list of a verdicts.
-pub(crate) const NEXUS: usize = 16;
+pub(crate) const NEXUS: usize = 19;
 // A list of a verdicts, and the number b.
-pub(crate) const BATCH: usize = 17;
+pub(crate) const BATCH: usize = 20;
 
 // The word of a form.
 fn word(out: &mut [u8], form: usize, state: State) -> State {
     nth_word(
         out,
-        b"bad line,done,refused,number,bytes,agree,more,split,accepted,refused,double,lengths,splits,tree,matrix,records,nexus,batch",
+        b"bad line,done,same,refused,number,bytes,agree,more,text,majority,split,accepted,refused,double,lengths,splits,tree,matrix,records,nexus,batch",
         form,
         state,
     )

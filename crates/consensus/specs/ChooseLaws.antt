@@ -1,6 +1,8 @@
 -- Laws of the loop that chooses splits, a split at a time. Assumes nothing.
 --
 --   read-below                        the row of a split is one of the rows
+--   from-start, from-end              all are chosen from the first split on, and none behind the last
+--   from-takes, from-leaves           from split k on: it is in enough trees, or not
 --   choose-start, choose-end          before the first split, and behind the last
 --   choose-takes, choose-leaves       split k is in enough trees, or not
 --   choose-room                       and where it is, the list has a place for it
@@ -47,11 +49,11 @@ module _ (s : List ℕ) (w : wholeAt s ≡ true) where
   pub read-below : {k row : ℕ} → k < splitsHeldAt s → row ≡ orderAt s k → row < splitsHeldAt s
   read-below {k} h e = rw e (row-below s w k h)
 
-  from-start : (least : ℕ) → chosenFrom least s 0 ≡ chosen least (heldAt s .trees)
+  pub from-start : (least : ℕ) → chosenFrom least s 0 ≡ chosen least (heldAt s .trees)
   unfolding chosen chosenFrom
   from-start least = sym (ap (keep (inEnough least (heldAt s .trees))) (recorded-at s w))
 
-  from-end : (least k : ℕ) → splitsHeldAt s ≤ k → chosenFrom least s k ≡ []
+  pub from-end : (least k : ℕ) → splitsHeldAt s ≤ k → chosenFrom least s k ≡ []
   unfolding chosenFrom keep
   from-end least k h = rw (drop-of-length-le (masksAt s) {i = k} (omega (arith, masks-length (partsAt s) (shaped-at s .order))))
 
@@ -65,11 +67,11 @@ module _ (s : List ℕ) (w : wholeAt s ≡ true) where
     in-trees : count (heldAt s .trees) (getD (masksAt s) k 0) ≡ c
     in-trees = rw mask-is (count-at s w row (read-below (r .held) (r .row-is))) ∙ sym (r .count-is)
 
-    from-takes : (least : ℕ) → least ≤ c → chosenFrom least s k ≡ maskAt s row ∷ chosenFrom least s (k + 1)
+    pub from-takes : (least : ℕ) → least ≤ c → chosenFrom least s k ≡ maskAt s row ∷ chosenFrom least s (k + 1)
     unfolding chosenFrom inEnough
     from-takes least e = rw mask-is at (keep-takes (inEnough least (heldAt s .trees)) (masksAt s) k at-k (rw in-trees (le-leb least c e)))
 
-    from-leaves : (least : ℕ) → c < least → chosenFrom least s k ≡ chosenFrom least s (k + 1)
+    pub from-leaves : (least : ℕ) → c < least → chosenFrom least s k ≡ chosenFrom least s (k + 1)
     unfolding chosenFrom inEnough
     from-leaves least e = keep-leaves (inEnough least (heldAt s .trees)) (masksAt s) k at-k (rw in-trees (lt-leb least c e))
 

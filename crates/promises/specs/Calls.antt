@@ -1,7 +1,9 @@
 -- Every kind of call on a collection, what the definitions answer, and their run of many calls. No proof stands here.
 --
---   Question             what may be asked of a collection; a list is a lent buffer, as it is before the call, or a split file
---   Reply                how it is answered: by a number or two, a split, a double or three, and by the lent buffers as they are left
+--   Question             what may be asked of a collection; a list is a lent buffer, as it is before the call, a split file, or a text that is
+--                        claimed to be the majority tree
+--   Reply                how it is answered: by a number or two, a split, a double or three, by what is said of a claim, and by the lent buffers as they are
+--                        left
 --   reply h q            what the collection h answers to q
 --   Made                 a call: `one`, a feeding, a closing or a withdrawal; `many`, a batch, with its lane, its piece and the lent buffer for its verdicts;
 --                        `file`, a NEXUS file, with the lent buffer for its verdicts; `ask`, a question; `reopen`, an opening that is refused, with its numbers, its name list and its constants
@@ -41,6 +43,7 @@ use Rattle.trees.specs.Sums.{Sums}
 use Rattle.trees.specs.Questions.{treesHeld, splitsHeld, splitList, splitNumber, treeNumber, oneSidedOf, doubledOf, matrixOf, collisionsOf, strictOf, majorityOf, bothOf, writtenOf, weightedOf, sumsOf}
 use Rattle.trees.specs.SplitFileCall.{Splits, fileOf, readingOf, mergingOf, strictFileOf, majorityFileOf}
 use Rattle.trees.specs.PhylipCall.{phylipOf}
+use Rattle.trees.specs.Claim.{Claimed, claimOf}
 use Rattle.trees.specs.Runs.{Call, feed, hand, Heard, answer, next, Final, acceptedAs, refusedWith, finals}
 use Rattle.theorems.specs.Quiet.{Leaves}
 use Rattle.answers.specs.Filled.{lengthGiven, front, firstOf, secondOf, lengthsGiven}
@@ -70,6 +73,7 @@ pub data Question : Type 0 where
   strict-tree : List ℕ → List ℕ → Question
   majority-tree : List ℕ → List ℕ → Question
   write-matrix : List ℕ → Question
+  claim : List ℕ → Question
 
 pub data Reply : Type 0 where
   number : Answer ℕ → Reply
@@ -79,6 +83,7 @@ pub data Reply : Type 0 where
   eachFilled : Answer (ℕ × ℕ) → List ℕ → List ℕ → Reply
   weight : Answer Float → Reply
   sums : Answer Sums → Reply
+  claimed : Answer Claimed → Reply
 
 -- "Every written answer stands at its buffer's front; the rest of a longer buffer keeps its values"
 unfoldable pub fill : Answer (List ℕ) → List ℕ → Reply
@@ -100,7 +105,7 @@ unfolding readGiven masksRead countsRead front
 fillRead x masks counts = eachFilled (readGiven x) (front (masksRead x) masks) (front (countsRead x) counts)
 
 unfoldable pub reply : Held → Question → Reply
-unfolding fill fillBoth fillEach fillRead treesHeld splitsHeld splitList splitNumber treeNumber oneSidedOf doubledOf matrixOf collisionsOf strictOf majorityOf bothOf writtenOf weightedOf sumsOf fileOf readingOf mergingOf strictFileOf majorityFileOf phylipOf
+unfolding fill fillBoth fillEach fillRead treesHeld splitsHeld splitList splitNumber treeNumber oneSidedOf doubledOf matrixOf collisionsOf strictOf majorityOf bothOf writtenOf weightedOf sumsOf fileOf readingOf mergingOf strictFileOf majorityFileOf phylipOf claimOf
 reply h tree-count = number (treesHeld h)
 reply h split-count = number (splitsHeld h)
 reply h (one-split k) = split (splitNumber h k)
@@ -125,6 +130,8 @@ reply h (strict-tree f out) = fill (strictFileOf h f (length out)) out
 reply h (majority-tree f out) = fill (majorityFileOf h f (length out)) out
 -- in PHYLIP's layout
 reply h (write-matrix out) = fill (phylipOf h (length out)) out
+-- of a text, with its semicolon, which stays
+reply h (claim t) = claimed (claimOf h t)
 
 -- ---- calls
 
@@ -275,6 +282,7 @@ isCollisions (ask (merge f g out)) = false
 isCollisions (ask (strict-tree f out)) = false
 isCollisions (ask (majority-tree f out)) = false
 isCollisions (ask (write-matrix out)) = false
+isCollisions (ask (claim t)) = false
 isCollisions (reopen x names first second) = false
 
 -- an answer to no call is none

@@ -33,3 +33,5 @@ pub mod SplitFileOutcomes
 pub mod SplitFileCallLaws
 pub mod PhylipOutcomes
 pub mod PhylipCallLaws
+pub mod ClaimOutcomes
+pub mod ClaimCallLaws

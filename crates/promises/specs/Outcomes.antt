@@ -1,8 +1,8 @@
 -- What two outcomes of a promise have in common, by what it says: the laws from which each promise's own theorem is a line or two.
 -- Assumes nothing.
 --
---   refusal-one, finish-one, number-one, lengths-one, split-one, weight-one, sums-one, split-lengths-one, progress-one     answers that mean the same
---                                         are the same
+--   refusal-one, finish-one, number-one, lengths-one, split-one, weight-one, sums-one, split-lengths-one, claim-one, progress-one     answers that mean
+--                                         the same are the same
 --   valueOr                               what an answer gives
 --   both                                  two that are equal to a third
 --   finish-both, number-both, lengths-both     two answers that mean the same third
@@ -18,6 +18,7 @@ use Rattle.trees.specs.Plain.{if_then_else_, Answer, refused, gives}
 use Rattle.trees.specs.Opening.{storeSize}
 use Rattle.trees.specs.Held.{Held, moreWanted, accepted}
 use Rattle.trees.specs.Held as held
+use Rattle.trees.specs.Claim.{Claimed, same, textAlone, majorityAlone}
 use Rattle.answers.specs.declared.Refusal.{Refusal}
 use Rattle.answers.specs.declared.Refusal.the-variants as why
 use Rattle.answers.specs.declared.Finish.{Finish}
@@ -31,11 +32,13 @@ use Rattle.answers.specs.declared.Weight.the-variants as weight
 use Rattle.answers.specs.declared.Lengths.{Lengths}
 use Rattle.answers.specs.declared.SplitLengths.{SplitLengths}
 use Rattle.answers.specs.declared.SplitLengths.the-variants as three
+use Rattle.answers.specs.declared.Claim.{Claim}
+use Rattle.answers.specs.declared.Claim.the-variants as claim
 use Rattle.answers.specs.declared.Progress.{Progress}
 use Rattle.answers.specs.declared.Progress.the-variants as progress
 use Rattle.answers.specs.declared.Both.{Both}
 use Rattle.answers.specs.declared.Both.the-variants as lengths
-use Rattle.answers.specs.Answers.{refusalNumber, finishGiven, numberGiven, bothGiven, splitGiven, weightGiven, sumsGiven, splitLengthsGiven, progressGiven}
+use Rattle.answers.specs.Answers.{refusalNumber, finishGiven, numberGiven, bothGiven, splitGiven, weightGiven, sumsGiven, splitLengthsGiven, claimGiven, progressGiven}
 use Rattle.answers.specs.AnswerLaws.{gives≢refused}
 use Rattle.head.specs.Head.{openingAt}
 use Rattle.layout.specs.Store.{sizeAt, heldAt, heldIn}
@@ -156,6 +159,23 @@ split-lengths-one (three.Refused r) (three.Refused q) e = ap three.Refused (refu
 split-lengths-one (three.Refused r) (three.Gives x) e = absurd (gives≢refused (sumsGiven x) (refusalNumber r) (sym e))
 split-lengths-one (three.Gives x) (three.Refused r) e = absurd (gives≢refused (sumsGiven x) (refusalNumber r) e)
 split-lengths-one (three.Gives x) (three.Gives y) e = ap three.Gives (sums-one x y (ap (valueOr (sumsGiven x)) e))
+
+-- the answer of the code to a claim
+claimFrom : Answer Claimed → Claim
+claimFrom (refused k) = claim.Refused (refusalOf k)
+claimFrom (gives same) = claim.Same
+claimFrom (gives (textAlone m)) = claim.Text m
+claimFrom (gives (majorityAlone m)) = claim.Majority m
+
+claim-from : (a : Claim) → claimFrom (claimGiven a) ≡ a
+unfolding claimFrom claimGiven
+claim-from (claim.Refused r) = ap claim.Refused (numbered r)
+claim-from claim.Same = refl
+claim-from (claim.Text m) = refl
+claim-from (claim.Majority m) = refl
+
+pub claim-one : (a b : Claim) → claimGiven a ≡ claimGiven b → a ≡ b
+claim-one a b e = sym (claim-from a) ∙ ap claimFrom e ∙ claim-from b
 
 treeOr0 : held.Progress → ℕ
 treeOr0 moreWanted = 0

@@ -30,7 +30,7 @@ use Rattle.layout.specs.Store.{heldAt}
 use Rattle.layout.specs.WholeStore.{wholeAt}
 use Rattle.store.specs.HeldWholeLaws.{held-whole}
 use Rattle.store.specs.Lent.{Holds}
-use Rattle.promises.specs.Calls.{strict, majority, both, write-accepted, Reply, number, split, filled, bothFilled, eachFilled, weight, sums, fill, fillEach, reply, one, Told, heard, batched, replied, notOpened, told, after}
+use Rattle.promises.specs.Calls.{strict, majority, both, write-accepted, Reply, number, split, filled, bothFilled, eachFilled, weight, sums, claimed, fill, fillEach, reply, one, Told, heard, batched, replied, notOpened, told, after}
 use Rattle.promises.specs.Steps.{Asked, Step}
 use Rattle.promises.specs.StepLaws.{asked-follows, step-follows}
 use Rattle.promises.specs.Outcomes.{valueOr}
@@ -45,6 +45,7 @@ numberIn (bothFilled a masks counts) = a
 numberIn (eachFilled a xs ys) = refused 0
 numberIn (weight a) = refused 0
 numberIn (sums a) = refused 0
+numberIn (claimed a) = refused 0
 
 bufferIn : Reply → List ℕ
 bufferIn (number a) = []
@@ -54,6 +55,7 @@ bufferIn (bothFilled a masks counts) = masks
 bufferIn (eachFilled a xs ys) = xs
 bufferIn (weight a) = []
 bufferIn (sums a) = []
+bufferIn (claimed a) = []
 
 -- what is given is the list ys
 abbrev Only : List ℕ → Answer (List ℕ) → Type 0

@@ -32,7 +32,7 @@ use Rattle.layout.specs.Store.{heldAt}
 use Rattle.layout.specs.WholeStore.{wholeAt}
 use Rattle.store.specs.Lent.{Holds}
 use Rattle.summary.specs.PartLaws.{holds-then}
-use Rattle.promises.specs.Calls.{Question, tree-count, split-count, one-split, split-list, tree-splits, one-sided, doubled, matrix, collisions, strict, majority, both, write-accepted, weighted, split-lengths, write-splits, read-splits, merge, strict-tree, majority-tree, write-matrix, number, split, weight, sums, fill, fillBoth, fillEach, fillRead, reply, Made, one, many, file, ask, reopen, Told, replied, told, after, toldAll, afterAll, handed, handedAll, verdictsTold, isCollisions, otherTold}
+use Rattle.promises.specs.Calls.{Question, tree-count, split-count, one-split, split-list, tree-splits, one-sided, doubled, matrix, collisions, strict, majority, both, write-accepted, weighted, split-lengths, write-splits, read-splits, merge, strict-tree, majority-tree, write-matrix, claim, number, split, weight, sums, claimed, fill, fillBoth, fillEach, fillRead, reply, Made, one, many, file, ask, reopen, Told, replied, told, after, toldAll, afterAll, handed, handedAll, verdictsTold, isCollisions, otherTold}
 use Rattle.promises.specs.Steps.{Opens, Steps}
 use Rattle.promises.specs.BatchLaws.{after-handed, verdicts-handed, SameTexts, same-texts, handed-same, told-same}
 use Rattle.promises.specs.StepLaws.{opening-follows, step-follows, all-opening, steps-follow, told-lent}
@@ -103,6 +103,7 @@ module _ (h k : Held) (s : SameAnswers h k) where
   reply-same (strict-tree f out) c = ap (λ (x : Answer (List ℕ)). fill x out) (s .file-strict f (length out))
   reply-same (majority-tree f out) c = ap (λ (x : Answer (List ℕ)). fill x out) (s .file-majority f (length out))
   reply-same (write-matrix out) c = ap (λ (x : Answer (List ℕ)). fill x out) (s .phylip (length out))
+  reply-same (claim t) c = ap claimed (s .claim t)
 
 -- ---- from one accepted opening on
 
@@ -153,8 +154,8 @@ module _ (x : Numbers) (names first second before s : List ℕ) (o : Opens x nam
       ∙ ap verdictsTold (told-first (length before) cs ds begun)
       ∙ verdicts-whole cs
 
-  -- every distance, count and consensus tree, the collision number, the matrix in PHYLIP's layout, and what is written, read, merged or
-  -- summed up of split files, at any point of a run
+  -- every distance, count and consensus tree, the collision number, the matrix in PHYLIP's layout, what is written, read, merged or summed up
+  -- of split files, and what is said of a claim, at any point of a run
   pub same-questions : (cs ds : List Made) (q : Question) (as′ : List Told) (t : List ℕ) → Steps s (cs ++ ask q ∷ ds) as′ t
       → (d : Told) → getD as′ (length cs) d ≡ replied (reply (ending begun (texts cs)) q)
   unfolding told

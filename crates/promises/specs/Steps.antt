@@ -22,7 +22,8 @@ use Rattle.answers.specs.declared.Recorded.{Recorded}
 use Rattle.answers.specs.declared.Both.{Both}
 use Rattle.answers.specs.declared.Weight.{Weight}
 use Rattle.answers.specs.declared.SplitLengths.{SplitLengths}
-use Rattle.answers.specs.Answers.{finishGiven, numberGiven, bothGiven, splitGiven, weightGiven, splitLengthsGiven, progressGiven}
+use Rattle.answers.specs.declared.Claim.{Claim}
+use Rattle.answers.specs.Answers.{finishGiven, numberGiven, bothGiven, splitGiven, weightGiven, splitLengthsGiven, claimGiven, progressGiven}
 use Rattle.opening.specs.Given.{flagOf}
 use Rattle.table.proofs.«open».Reads as opens
 use Rattle.table.proofs.tree_count.Reads as treeCount
@@ -51,7 +52,8 @@ use Rattle.splitfile.proofs.merge.Reads as merges
 use Rattle.splitfile.proofs.strict_tree.Reads as strictTrees
 use Rattle.splitfile.proofs.majority_tree.Reads as majorityTrees
 use Rattle.phylip.proofs.write_matrix.Reads as writesMatrix
-use Rattle.promises.specs.Calls.{Question, tree-count, split-count, one-split, split-list, tree-splits, one-sided, doubled, matrix, collisions, strict, majority, both, write-accepted, weighted, split-lengths, write-splits, read-splits, merge, strict-tree, majority-tree, write-matrix, Reply, number, split, filled, bothFilled, eachFilled, weight, sums, Made, one, many, file, ask, reopen, Told, heard, batched, replied, notOpened}
+use Rattle.claiming.proofs.claim.Reads as claims
+use Rattle.promises.specs.Calls.{Question, tree-count, split-count, one-split, split-list, tree-splits, one-sided, doubled, matrix, collisions, strict, majority, both, write-accepted, weighted, split-lengths, write-splits, read-splits, merge, strict-tree, majority-tree, write-matrix, claim, Reply, number, split, filled, bothFilled, eachFilled, weight, sums, claimed, Made, one, many, file, ask, reopen, Told, heard, batched, replied, notOpened}
 
 abbrev pub lent : List ℕ → RefT (List ℕ)
 lent s = record { ptr = (0, 0); name = 0; now = s }
@@ -65,9 +67,9 @@ Counts post a = (r : Number) × post r × (a ≡ number (numberGiven r))
 abbrev Fills : (Number → List ℕ → Type 0) → Reply → Type 0
 Fills post a = (r : Number) × (out : List ℕ) × post r out × (a ≡ filled (numberGiven r) out)
 
--- the store and split files are lent to be read, the buffers to be written
+-- the store, split files and a text that is claimed are lent to be read, the buffers to be written
 unfoldable pub Asked : List ℕ → Question → Reply → Type 0
-unfolding numberGiven bothGiven splitGiven weightGiven splitLengthsGiven
+unfolding numberGiven bothGiven splitGiven weightGiven splitLengthsGiven claimGiven
 Asked s tree-count = Counts (λ r. treeCount.Post ([], tt) (lent s, tt) r (lent s, tt))
 Asked s split-count = Counts (λ r. splitCount.Post ([], tt) (lent s, tt) r (lent s, tt))
 Asked s (one-split k) = λ a.
@@ -109,6 +111,7 @@ Asked s (strict-tree f o) =
 Asked s (majority-tree f o) =
     Fills (λ r o′. majorityTrees.Post ([], ([], ([], tt))) (lent s, (lent f, (lent o, tt))) r (lent s, (lent f, (lent o′, tt))))
 Asked s (write-matrix o) = Fills (λ r o′. writesMatrix.Post ([], ([], tt)) (lent s, (lent o, tt)) r (lent s, (lent o′, tt)))
+Asked s (claim t) = λ a. (r : Claim) × claims.Post ([], ([], tt)) (lent s, (lent t, tt)) r (lent s, (lent t, tt)) × (a ≡ claimed (claimGiven r))
 
 -- ---- openings
 

@@ -18,6 +18,7 @@ use Rattle.trees.specs.Withdrawing.{Withdrawn}
 use Rattle.trees.specs.Questions.{treesHeld, splitsHeld, splitList, splitNumber, treeNumber, oneSidedOf, doubledOf, matrixOf, strictOf, majorityOf, bothOf, writtenOf, weightedOf, sumsOf}
 use Rattle.trees.specs.SplitFileCall.{fileOf, readingOf, mergingOf, strictFileOf, majorityFileOf}
 use Rattle.trees.specs.PhylipCall.{phylipOf}
+use Rattle.trees.specs.Claim.{claimOf}
 use Rattle.trees.specs.Runs.{Call, answers, ending}
 
 -- ---- collections
@@ -82,6 +83,7 @@ pub record SameAnswers (h k : Held) : Type 0 where
   pub file-strict : (f : List ℕ) (room : ℕ) → strictFileOf h f room ≡ strictFileOf k f room
   pub file-majority : (f : List ℕ) (room : ℕ) → majorityFileOf h f room ≡ majorityFileOf k f room
   pub phylip : (room : ℕ) → phylipOf h room ≡ phylipOf k room
+  pub claim : (t : List ℕ) → claimOf h t ≡ claimOf k t
 
 -- two runs of the calls cs that nobody can tell apart, save by the collision number
 pub record SameRun (h k : Held) (cs : List Call) : Type 0 where

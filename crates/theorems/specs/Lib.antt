@@ -103,3 +103,6 @@ pub mod PhylipSoundLaws
 pub mod PhylipRefusalLaws
 pub mod PhylipWrittenLaws
 pub mod PhylipCallLaws
+pub mod ComparedLaws
+pub mod ClaimLaws
+pub mod ClaimedTreeLaws

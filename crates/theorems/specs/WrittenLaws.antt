@@ -1,5 +1,6 @@
 -- What is written: the tree of good splits has exactly these splits, its text is accepted with them, and it is short.
 --
+--   judged-gives               the verdict on a text that reads as a tree whose leaves have no fault gives the splits of that tree
 --   tree-has-splits            the tree made of splits has exactly these splits
 --   majority-tree-splits, strict-tree-splits     so the consensus trees have exactly the consensus splits
 --   written-tree-reads-back    the verdict on what is written gives the splits that it was written from
@@ -57,7 +58,7 @@ use Rattle.theorems.specs.TreeOfLaws.{branches-done}
 
 -- ---- the verdict on a text that is read and has no faulty leaf
 
-judged-gives : (ns : List (List ℕ)) (w : List ℕ) (t : Nodes) → reading w ≡ some t → leafFault ns 0 (leaves t) ≡ 0 → judged ns w ≡ gives (splitsOf ns t)
+pub judged-gives : (ns : List (List ℕ)) (w : List ℕ) (t : Nodes) → reading w ≡ some t → leafFault ns 0 (leaves t) ≡ 0 → judged ns w ≡ gives (splitsOf ns t)
 unfolding judged judgedTree
 judged-gives ns w t e z =
     ap (λ o. elim o as (λ _. Answer (List ℕ)) [ none ↦ refused 7 | some u ↦ judgedTree ns u ]) e

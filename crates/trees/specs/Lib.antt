@@ -30,6 +30,7 @@ pub mod SplitFile
 pub mod SplitFileCall
 pub mod Phylip
 pub mod PhylipCall
+pub mod Claim
 pub mod Runs
 pub mod Samples
 pub mod FurtherTexts
@@ -43,3 +44,4 @@ pub mod FurtherBranches
 pub mod FurtherWithdrawals
 pub mod FurtherSplitFiles
 pub mod FurtherPhylip
+pub mod FurtherClaims
