@@ -9,6 +9,16 @@ typedef unsigned long u64;
 
 extern long read(int fd, void *to, u64 bytes);
 extern long write(int fd, const void *from, u64 bytes);
+extern int open(const char *path, int flags, ...);
+extern int close(int fd);
+extern int rename(const char *from, const char *to);
+extern int unlink(const char *path);
+extern _Noreturn void exit(int status);
+extern void *realloc(void *from, u64 bytes);
+extern int *__errno_location(void);
+extern char *strerror(int fault);
+extern u64 strlen(const char *text);
+extern int strcmp(const char *a, const char *b);
 extern long clock(void);
 extern int memcmp(const void *a, const void *b, u64 bytes);
 extern void *memcpy(void *to, const void *from, u64 bytes);
@@ -45,16 +55,26 @@ static inline void put_number(u64 n)
         put_char(digits[--k]);
 }
 
-static inline void flush_output(void)
+/* Writes bytes; answers whether all were written. */
+static inline int write_all(int fd, const void *from, u64 bytes)
 {
     u64 done = 0;
-    while (done < out_used) {
-        long n = write(1, out_bytes + done, out_used - done);
+    while (done < bytes) {
+        long n = write(fd, (const char *)from + done, bytes - done);
         if (n <= 0)
-            return;
+            return 0;
         done += (u64)n;
     }
-    out_used = 0;
+    return 1;
 }
+
+static inline int flush_to(int fd)
+{
+    u64 bytes = out_used;
+    out_used = 0;
+    return write_all(fd, out_bytes, bytes);
+}
+
+static inline void flush_output(void) { flush_to(1); }
 
 #endif

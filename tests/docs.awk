@@ -142,7 +142,7 @@ function stand(list, where, is_row,   n, i, j, k, w, part, in_crates, in_files, 
 
 # Paths to files, which the shell looks for.
 function paths(s,   p) {
-    while (match(s, /(crates|tests|docs|bench|samples)\/[A-Za-z0-9_.\/*-]+/)) {
+    while (match(s, /(bin|crates|tests|docs|bench|samples)\/[A-Za-z0-9_.\/*-]+/)) {
         p = substr(s, RSTART, RLENGTH)
         if (RSTART == 1 || substr(s, RSTART - 1, 1) !~ /[A-Za-z0-9_.\/-]/) { sub(/[.]+$/, "", p); print "path", page ":" FNR, p }
         s = substr(s, RSTART + RLENGTH)

@@ -1,5 +1,5 @@
 //! An independent calculation of every answer, to compare the proved programs with. It is written from document 01,
-//! entries 2026-01 to 2026-03 and 2026-05 to 2026-07 of document 02 and the settled points, and shares nothing with the code that it is compared with.
+//! entries 2026-01 to 2026-03 and 2026-05 to 2026-08 of document 02 and the settled points, and shares nothing with the code that it is compared with.
 
 mod big;
 mod branches;
@@ -55,19 +55,24 @@ mod quotesamples;
 mod random;
 mod reading;
 mod refusals;
+mod release;
 mod rooting;
 mod script;
 mod selfcheck;
 mod sets;
+mod sheetcheck;
+mod sheetfiles;
 mod splitfile;
 mod splitfilecheck;
 mod splitfilerefusals;
 mod splitfiles;
 mod splitfilescript;
+mod starters;
 mod storecheck;
 mod stores;
 mod summary;
 mod text;
+mod treesheet;
 mod verdict;
 mod weights;
 mod whole;
@@ -81,6 +86,10 @@ use nightjob::{Done, Given};
 use std::io::{Read, Write};
 
 fn main() {
+    // The words of `treesheet` may be any bytes.
+    if std::env::args_os().nth(1).is_some_and(|word| word == "treesheet") {
+        std::process::exit(sheetfiles::run(std::env::args_os().skip(2).collect()));
+    }
     let words: Vec<String> = std::env::args().skip(1).collect();
     let words: Vec<&str> = words.iter().map(String::as_str).collect();
     match words[..] {
@@ -103,6 +112,7 @@ fn main() {
             let [a, b] = [names, splits].map(file);
             night_job("", &nightjob::shown(&given(names, &a), &given(splits, &b)));
         }
+        ["starter-names"] => print(&starters::name_list()),
         ["selfcheck"] => finish(selfcheck::selfcheck()),
         ["check", script, answers] => finish(check::check(&file(script), &file(answers))),
         ["same-verdicts", a, b, c, d] => finish(beside(compare::same_verdicts, [a, b, c, d])),
@@ -131,6 +141,7 @@ fn maker(word: &str) -> Option<Make> {
         "splitfiles" => splitfilescript::splitfiles,
         "phylips" => phylipscript::phylips,
         "claims" => claimscript::claims,
+        "starters" => starters::run,
         "limits" => limits::limits,
         "largest" => limits::largest,
         "oddities" => oddities::oddities,
@@ -196,9 +207,12 @@ fn usage() {
     eprintln!("same-verdicts SCRIPT ANSWERS SCRIPT ANSWERS | same-answers SCRIPT ANSWERS SCRIPT ANSWERS");
     eprintln!("nexus-texts | nexus-calls NAMES FILE | nexus-damages SEED COUNT NAMES FILE");
     eprintln!("nightjob write OUT NAMES TREES | nightjob merge OUT NAMES A B | nightjob show NAMES FILE");
+    eprintln!("treesheet [--matrix FILE] [--splits] [--drop N] [--newick] [--apart NAME] NAMES FILE.. | starter-names");
     eprintln!("GENERATOR SEED COUNT | damaged SEED COUNT SCRIPT ANSWERS, a generator being");
     eprintln!("texts | sheet | calls | mixed | whole | batched | filed | zeros | refusals | stores | made | nexus");
-    eprintln!("quotes | lengths | withdrawals | splitfiles | phylips | claims | limits | largest | oddities");
+    eprintln!(
+        "quotes | lengths | withdrawals | splitfiles | phylips | claims | limits | largest | oddities | starters"
+    );
     std::process::exit(2);
 }
 

@@ -135,7 +135,8 @@ fn line(name: &str, refusal: u32) -> String {
     format!("{name}: refused {refusal}, {}\n", reason(refusal))
 }
 
-fn reason(refusal: u32) -> &'static str {
+/// A refusal in words.
+pub fn reason(refusal: u32) -> &'static str {
     match refusal {
         2 => "a number is out of range",
         3 => "the name list is not different names of 1 to 32 bytes",

@@ -1,5 +1,6 @@
 //! `selfcheck`: the samples of document 01, the sheet of the summary program, the limits, and the settled points; then
-//! the checks of quotes, of lengths, of stores, of NEXUS files, of withdrawals, of split files, of matrices and of claims.
+//! the checks of quotes, of lengths, of stores, of NEXUS files, of withdrawals, of split files, of matrices, of claims and of
+//! release sheets.
 
 use crate::calls::treecalls;
 use crate::claimcheck::claim_checks;
@@ -13,6 +14,7 @@ use crate::phylipcheck::phylip_checks;
 use crate::quotecheck::quote_checks;
 use crate::random::Random;
 use crate::sets::{agree, taxa_of};
+use crate::sheetcheck::sheet_checks;
 use crate::splitfilecheck::split_file_checks;
 use crate::storecheck::store_checks;
 use crate::summary::treesum;
@@ -44,6 +46,7 @@ pub fn selfcheck() -> bool {
         split_file_checks(),
         phylip_checks(),
         claim_checks(),
+        sheet_checks(),
     ]
     .concat();
     for (name, right) in &checks {

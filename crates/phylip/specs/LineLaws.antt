@@ -1,9 +1,7 @@
 -- The line of a tree, as the code writes it. Assumes nothing.
 --
---   put-as, put-to                the same bytes, or the same end, under another name
 --   number-one, number-two, number-three, number-four     the digits of a number, stored
 --   three-put                     the last three of them
---   spaces-more, spaces-end       spaces, one after another
 --   name-put                      a padded name
 --   values-more, values-end       the values of a line, one after another
 --   values-length                 they take at most four bytes each
@@ -11,23 +9,17 @@
 use Prim.Native.Nat.{ℕ, suc, _+_, _-_, _*_, _/_, _%_, _≤_, _<_}
 use native.Mathlib.Numerals.{add-one}
 use native.Mathlib.Omega.{arith}
-use mathlib.Core.Path.{_≡_, refl, sym, ap, subst, _∙_}
+use mathlib.Core.Path.{_≡_, refl, sym, ap, _∙_}
 use mathlib.Core.List.{List, [], _∷_, _++_, flatMap}
 use lib.ListN.{length, getD, set, drop, replicate, length-append, length-replicate, drop-of-length-le}
 use lib.Seq.{drop-cons}
 use Rattle.trees.specs.Plain.{bytes}
 use Rattle.trees.specs.Decimal.{digitsOf}
 use Rattle.trees.specs.Phylip.{nameOf, padded, rowText}
-use Rattle.writer.specs.Branch.{Put}
-use Rattle.writer.specs.PutLaws.{put-one, put-then}
+use Rattle.putting.specs.Put.{Put}
+use Rattle.putting.specs.PutLaws.{put-one, put-then, put-as}
 use Rattle.phylip.specs.Writing.{lastThree, valuesText, Values}
 use Rattle.phylip.specs.DigitLaws.{digits-one, digits-two, digits-three, digits-four, digits-short, digits-few}
-
-pub put-as : {l v w after : List ℕ} {at z : ℕ} → v ≡ w → Put l at v after z → Put l at w after z
-put-as {l} {after = after} {at} {z} e p = subst (λ (x : List ℕ). Put l at x after z) e p
-
-pub put-to : {l w after : List ℕ} {at y z : ℕ} → y ≡ z → Put l at w after z → Put l at w after y
-put-to e p = record { stored = p .stored; ends = e ∙ p .ends }
 
 -- ---- numbers
 
@@ -56,17 +48,6 @@ module _ {l after : List ℕ} {at : ℕ} (n : ℕ) where
   number-four x h k d p q = put-as (rw d (sym (digits-four n h k))) (put-then (put-one p) q)
 
 -- ---- a name
-
-module _ (i end : ℕ) where
-  pub spaces-more : i < end → replicate {A = ℕ} (end - i) 32 ≡ (32 ∷ []) ++ replicate (end - (i + 1)) 32
-  spaces-more h =
-      let e : end - i ≡ suc (end - (i + 1)) = omega arith in
-      rw e
-
-  pub spaces-end : end ≤ i → replicate {A = ℕ} (end - i) 32 ≡ []
-  spaces-end h =
-      let e : end - i ≡ 0 = omega arith in
-      rw e
 
 padded-is : (i : ℕ) → padded (nameOf i) ≡ (116 ∷ []) ++ (digitsOf i ++ replicate (9 - length (digitsOf i)) 32)
 unfolding padded nameOf bytes

@@ -39,11 +39,11 @@ use Rattle.distances.specs.EightLaws.{block-same}
 use Rattle.distances.specs.LackLaws.{oneSided-most}
 use Rattle.distances.specs.WholeTreeLaws.{head-at, list-few}
 use Rattle.distances.specs.RowLaws.{row-length, row-entry}
-use Rattle.writer.specs.Branch.{Put}
-use Rattle.writer.specs.PutLaws.{put-one, put-then}
+use Rattle.putting.specs.Put.{Put}
+use Rattle.putting.specs.PutLaws.{put-one, put-then, put-as}
 use Rattle.phylip.specs.Writing.{phylipAsked, distanceRows, Values, Kept, mostBytes}
 use Rattle.phylip.specs.DigitLaws.{digits-few}
-use Rattle.phylip.specs.LineLaws.{put-as, line-length}
+use Rattle.phylip.specs.LineLaws.{line-length}
 
 pub most-few : (t : ℕ) → t ≤ 1024 → t * (4 * t + 11) ≤ 4205568
 most-few t h =

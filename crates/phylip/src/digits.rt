@@ -1,23 +1,14 @@
-// Bytes and numbers below 10,000, written one behind another. What does not fit is dropped, and the end is where it would
+// Numbers below 10,000, written one behind another. What does not fit is dropped, and the end is where it would
 // be: so a text's length is found by writing it.
 //
-// Its contracts cite crate writer, `specs/Branch.antt` (`Put`), crate trees, `specs/Decimal.antt` (`digitsOf`), and
+// Its contracts cite crate putting, `specs/Put.antt` (`Put`), crate trees, `specs/Decimal.antt` (`digitsOf`), and
 // `specs/Writing.antt` (`lastThree`).
 ghost use mathlib.Core.Path.{_≡_};
 ghost use Prim.Native.Nat.{_+_, _≤_, _<_};
-ghost use lib.ListN.{set};
 ghost use Rattle.trees.specs.Decimal.{digitsOf};
-ghost use Rattle.writer.specs.Branch.{Put};
+ghost use Rattle.putting.specs.Put.{Put};
 ghost use Rattle.phylip.specs.Writing.{lastThree};
-
-// Puts a byte at `at`.
-pub(crate) fn put_byte(out: &mut [u8], at: usize, b: u8)
-    ensures { λ r. ⌜ now (out .exit) ≡ set (now (out .entry)) at b ⌝ }
-{
-    if at < out.len() {
-        out[at] = b;
-    }
-}
+use putting::put_byte;
 
 // The digit of a number below 10.
 fn digit(n: u16) -> u8

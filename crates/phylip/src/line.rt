@@ -2,14 +2,14 @@
 //
 // Its contracts cite crate trees, `specs/Phylip.antt` (`padded`, `nameOf`, `rowText`), and `specs/Writing.antt`
 // (`valuesText`, `Values`).
-ghost use mathlib.Core.Path.{_≡_};
-ghost use Prim.Native.Nat.{_+_, _-_, _≤_, _<_};
-ghost use lib.ListN.{length, replicate};
+ghost use Prim.Native.Nat.{_+_, _≤_, _<_};
+ghost use lib.ListN.{length};
 ghost use Rattle.trees.specs.Phylip.{nameOf, padded, rowText};
-ghost use Rattle.writer.specs.Branch.{Put};
+ghost use Rattle.putting.specs.Put.{Put};
 ghost use Rattle.phylip.specs.Writing.{Values, valuesText};
-use crate::digits::put_byte;
 use crate::digits::put_number;
+use putting::put_byte;
+use putting::put_spaces;
 
 // Puts the line of tree i from `at` on, and answers where it ends.
 pub(crate) fn put_line(out: &mut [u8], at: usize, i: usize, row: &[u16]) -> usize
@@ -34,19 +34,6 @@ fn put_name(out: &mut [u8], at: usize, i: usize)
     put_byte(out, at, 116);
     let e = put_number(out, at + 1, i as u16);
     put_spaces(out, e, at + 10);
-}
-
-// Puts spaces from `at` up to `end`.
-fn put_spaces(out: &mut [u8], at: usize, end: usize)
-    requires { ⌜ at ≤ end ⌝ }
-    requires { ⌜ end ≤ 9000000 ⌝ }
-    ensures { λ r. ⌜ Put (now (out .entry)) at (replicate (end - at) 32) (now (out .exit)) end ⌝ }
-{
-    let mut i = at;
-    while i < end {
-        put_byte(out, i, 32);
-        i += 1;
-    }
 }
 
 // Puts a space and the digits of each value.

@@ -13,7 +13,7 @@ ghost use Rattle.answers.specs.Filled.{FilledAs};
 ghost use Rattle.layout.specs.Store.{treesHeldAt, heldAt};
 ghost use Rattle.layout.specs.WholeStore.{wholeAt};
 ghost use Rattle.distances.specs.Short.{Shortened};
-ghost use Rattle.writer.specs.Branch.{Put};
+ghost use Rattle.putting.specs.Put.{Put};
 ghost use Rattle.phylip.specs.Writing.{phylipAsked, distanceRows, mostBytes};
 use crate::digits;
 use crate::eight;
@@ -76,7 +76,7 @@ fn put_matrix(s: &[u8], out: &mut [u8]) -> usize
     let mut sizes = [0; MOST_TREES];
     distances::shorten(s, trees, &mut short, &mut sizes);
     let e = digits::put_number(out, 0, trees as u16);
-    digits::put_byte(out, e, 10);
+    putting::put_byte(out, e, 10);
     put_lines(s, &short, &sizes, out, e + 1)
 }
 

@@ -48,6 +48,8 @@ use Rattle.trees.specs.Runs.{Call, feed, hand, Heard, answer, next, Final, acce
 use Rattle.theorems.specs.Quiet.{Leaves}
 use Rattle.answers.specs.Filled.{lengthGiven, front, firstOf, secondOf, lengthsGiven}
 use Rattle.splitfile.specs.Files.{readGiven, masksRead, countsRead}
+use Rattle.release.specs.declared.Wanted.{Wanted}
+use Rattle.release.specs.Release.{releaseOf}
 
 -- ---- questions
 
@@ -74,6 +76,7 @@ pub data Question : Type 0 where
   majority-tree : List ℕ → List ℕ → Question
   write-matrix : List ℕ → Question
   claim : List ℕ → Question
+  release : ℕ → Wanted → List ℕ → Question
 
 pub data Reply : Type 0 where
   number : Answer ℕ → Reply
@@ -105,7 +108,7 @@ unfolding readGiven masksRead countsRead front
 fillRead x masks counts = eachFilled (readGiven x) (front (masksRead x) masks) (front (countsRead x) counts)
 
 unfoldable pub reply : Held → Question → Reply
-unfolding fill fillBoth fillEach fillRead treesHeld splitsHeld splitList splitNumber treeNumber oneSidedOf doubledOf matrixOf collisionsOf strictOf majorityOf bothOf writtenOf weightedOf sumsOf fileOf readingOf mergingOf strictFileOf majorityFileOf phylipOf claimOf
+unfolding fill fillBoth fillEach fillRead treesHeld splitsHeld splitList splitNumber treeNumber oneSidedOf doubledOf matrixOf collisionsOf strictOf majorityOf bothOf writtenOf weightedOf sumsOf fileOf readingOf mergingOf strictFileOf majorityFileOf phylipOf claimOf releaseOf
 reply h tree-count = number (treesHeld h)
 reply h split-count = number (splitsHeld h)
 reply h (one-split k) = split (splitNumber h k)
@@ -132,6 +135,8 @@ reply h (majority-tree f out) = fill (majorityFileOf h f (length out)) out
 reply h (write-matrix out) = fill (phylipOf h (length out)) out
 -- of a text, with its semicolon, which stays
 reply h (claim t) = claimed (claimOf h t)
+-- behind so many refused texts, what is wanted of it
+reply h (release n x out) = fill (releaseOf h n x (length out)) out
 
 -- ---- calls
 
@@ -283,6 +288,7 @@ isCollisions (ask (strict-tree f out)) = false
 isCollisions (ask (majority-tree f out)) = false
 isCollisions (ask (write-matrix out)) = false
 isCollisions (ask (claim t)) = false
+isCollisions (ask (release n x out)) = false
 isCollisions (reopen x names first second) = false
 
 -- an answer to no call is none

@@ -29,9 +29,11 @@ pub mod SummaryOutcomes
 pub mod SummarySteps
 pub mod PrintedLaws
 pub mod SummaryLaws
+pub mod PutOutcomes
 pub mod SplitFileOutcomes
 pub mod SplitFileCallLaws
 pub mod PhylipOutcomes
 pub mod PhylipCallLaws
 pub mod ClaimOutcomes
 pub mod ClaimCallLaws
+pub mod ReleaseCallLaws

@@ -19,9 +19,11 @@ use Rattle.answers.specs.declared.Both.the-variants as both
 use Rattle.answers.specs.Answers.{refusalNumber, bothGiven}
 use Rattle.answers.specs.Filled.{front}
 use Rattle.answers.specs.AnswerLaws.{gives≢refused}
+use Rattle.putting.specs.Lines.{bytesOf}
+use Rattle.putting.specs.LinesLaws.{bytes-append}
 use Rattle.sheet.specs.Sheet.{refusalLine}
-use Rattle.sheet.specs.Asked.{fitted, ifAny, linesFrom, bytesOf, bytesGiven, sizesGiven, PrintsAs}
-use Rattle.sheet.specs.RunLaws.{bytes-append, fitted-first, fitted-rest}
+use Rattle.sheet.specs.Asked.{fitted, ifAny, linesFrom, bytesGiven, sizesGiven, PrintsAs}
+use Rattle.sheet.specs.RunLaws.{fitted-first, fitted-rest}
 use Rattle.sheet.specs.LineRoomLaws.{lines-fit}
 use Rattle.summary.specs.Summary.{firstLine, summaryBytes, linesFor}
 use Rattle.summary.specs.OpeningLaws.{two-or-three}

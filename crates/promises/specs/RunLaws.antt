@@ -32,7 +32,8 @@ use Rattle.layout.specs.Store.{heldAt}
 use Rattle.layout.specs.WholeStore.{wholeAt}
 use Rattle.store.specs.Lent.{Holds}
 use Rattle.summary.specs.PartLaws.{holds-then}
-use Rattle.promises.specs.Calls.{Question, tree-count, split-count, one-split, split-list, tree-splits, one-sided, doubled, matrix, collisions, strict, majority, both, write-accepted, weighted, split-lengths, write-splits, read-splits, merge, strict-tree, majority-tree, write-matrix, claim, number, split, weight, sums, claimed, fill, fillBoth, fillEach, fillRead, reply, Made, one, many, file, ask, reopen, Told, replied, told, after, toldAll, afterAll, handed, handedAll, verdictsTold, isCollisions, otherTold}
+use Rattle.release.specs.AlikeLaws.{release-alike}
+use Rattle.promises.specs.Calls.{Question, tree-count, split-count, one-split, split-list, tree-splits, one-sided, doubled, matrix, collisions, strict, majority, both, write-accepted, weighted, split-lengths, write-splits, read-splits, merge, strict-tree, majority-tree, write-matrix, claim, release, number, split, weight, sums, claimed, fill, fillBoth, fillEach, fillRead, reply, Made, one, many, file, ask, reopen, Told, replied, told, after, toldAll, afterAll, handed, handedAll, verdictsTold, isCollisions, otherTold}
 use Rattle.promises.specs.Steps.{Opens, Steps}
 use Rattle.promises.specs.BatchLaws.{after-handed, verdicts-handed, SameTexts, same-texts, handed-same, told-same}
 use Rattle.promises.specs.StepLaws.{opening-follows, step-follows, all-opening, steps-follow, told-lent}
@@ -104,6 +105,7 @@ module _ (h k : Held) (s : SameAnswers h k) where
   reply-same (majority-tree f out) c = ap (λ (x : Answer (List ℕ)). fill x out) (s .file-majority f (length out))
   reply-same (write-matrix out) c = ap (λ (x : Answer (List ℕ)). fill x out) (s .phylip (length out))
   reply-same (claim t) c = ap claimed (s .claim t)
+  reply-same (release n x out) c = ap (λ (y : Answer (List ℕ)). fill y out) (release-alike h k (s .taxa) (s .names) (s .trees) n x (length out))
 
 -- ---- from one accepted opening on
 

@@ -24,6 +24,7 @@ use Rattle.trees.specs.Questions.{treesHeld, splitsHeld, splitList, splitNumber
 use Rattle.trees.specs.SplitFileCall.{Splits, fileOf, readingOf, mergingOf, strictFileOf, majorityFileOf}
 use Rattle.trees.specs.PhylipCall.{phylipOf}
 use Rattle.trees.specs.Claim.{claimOf}
+use Rattle.release.specs.Release.{releaseOf}
 use Rattle.trees.specs.Withdrawing.{Withdrawn, withdrawing}
 use Rattle.trees.specs.Runs.{feed, hand, close, withdraw, fed, closedLane, withdrew, answer, next}
 use Rattle.theorems.specs.ListLaws.{by-test}
@@ -47,7 +48,7 @@ use Rattle.feeding.specs.Feeding.{reached, fedOf, closedOf, batchOf, FedAs, Clo
 use Rattle.nexus.specs.Fed.{nexusOf, NexusAs}
 use Rattle.withdrawing.specs.Withdrawn.{there, withdrawnOf, WithdrawnAs}
 use Rattle.summary.specs.PartLaws.{holds-then}
-use Rattle.promises.specs.Calls.{Question, tree-count, split-count, one-split, split-list, tree-splits, one-sided, doubled, matrix, collisions, strict, majority, both, write-accepted, weighted, split-lengths, write-splits, read-splits, merge, strict-tree, majority-tree, write-matrix, claim, Reply, number, split, filled, bothFilled, eachFilled, weight, sums, claimed, fill, fillBoth, fillEach, fillRead, reply, Made, one, many, file, ask, reopen, Told, heard, batched, replied, notOpened, numbersIn, afterBatch, refusalIn, told, after, toldAll, afterAll, handed}
+use Rattle.promises.specs.Calls.{Question, tree-count, split-count, one-split, split-list, tree-splits, one-sided, doubled, matrix, collisions, strict, majority, both, write-accepted, weighted, split-lengths, write-splits, read-splits, merge, strict-tree, majority-tree, write-matrix, claim, release, Reply, number, split, filled, bothFilled, eachFilled, weight, sums, claimed, fill, fillBoth, fillEach, fillRead, reply, Made, one, many, file, ask, reopen, Told, heard, batched, replied, notOpened, numbersIn, afterBatch, refusalIn, told, after, toldAll, afterAll, handed}
 use Rattle.promises.specs.Steps.{Asked, Opened, Opens, Step, Steps}
 use Rattle.promises.specs.BatchLaws.{after-handed}
 
@@ -175,6 +176,7 @@ module _ (s : List ℕ) (w : wholeAt s ≡ true) where
   asked-follows (majority-tree f o) a x = x .3 ∙ filled-is _ _ (when-whole s (λ h. majorityFileOf h f (length o)) w) (x .0) o (x .1) (x .2 .0) (x .2 .1)
   asked-follows (write-matrix o) a x = x .3 ∙ filled-is _ _ (when-whole s (λ h. phylipOf h (length o)) w) (x .0) o (x .1) (x .2 .0) (x .2 .1)
   asked-follows (claim t) a x = x .2 ∙ ap claimed (x .1 ∙ when-whole s (λ h. claimOf h t) w)
+  asked-follows (release n y o) a x = x .3 ∙ filled-is _ _ (when-whole s (λ h. releaseOf h n y (length o)) w) (x .0) o (x .1) (x .2 .0) (x .2 .1)
 
 -- ---- feeding and closing
 

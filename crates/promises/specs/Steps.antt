@@ -53,7 +53,8 @@ use Rattle.splitfile.proofs.strict_tree.Reads as strictTrees
 use Rattle.splitfile.proofs.majority_tree.Reads as majorityTrees
 use Rattle.phylip.proofs.write_matrix.Reads as writesMatrix
 use Rattle.claiming.proofs.claim.Reads as claims
-use Rattle.promises.specs.Calls.{Question, tree-count, split-count, one-split, split-list, tree-splits, one-sided, doubled, matrix, collisions, strict, majority, both, write-accepted, weighted, split-lengths, write-splits, read-splits, merge, strict-tree, majority-tree, write-matrix, claim, Reply, number, split, filled, bothFilled, eachFilled, weight, sums, claimed, Made, one, many, file, ask, reopen, Told, heard, batched, replied, notOpened}
+use Rattle.release.proofs.write_release.Reads as releases
+use Rattle.promises.specs.Calls.{Question, tree-count, split-count, one-split, split-list, tree-splits, one-sided, doubled, matrix, collisions, strict, majority, both, write-accepted, weighted, split-lengths, write-splits, read-splits, merge, strict-tree, majority-tree, write-matrix, claim, release, Reply, number, split, filled, bothFilled, eachFilled, weight, sums, claimed, Made, one, many, file, ask, reopen, Told, heard, batched, replied, notOpened}
 
 abbrev pub lent : List ℕ → RefT (List ℕ)
 lent s = record { ptr = (0, 0); name = 0; now = s }
@@ -112,6 +113,7 @@ Asked s (majority-tree f o) =
     Fills (λ r o′. majorityTrees.Post ([], ([], ([], tt))) (lent s, (lent f, (lent o, tt))) r (lent s, (lent f, (lent o′, tt))))
 Asked s (write-matrix o) = Fills (λ r o′. writesMatrix.Post ([], ([], tt)) (lent s, (lent o, tt)) r (lent s, (lent o′, tt)))
 Asked s (claim t) = λ a. (r : Claim) × claims.Post ([], ([], tt)) (lent s, (lent t, tt)) r (lent s, (lent t, tt)) × (a ≡ claimed (claimGiven r))
+Asked s (release n x o) = Fills (λ r o′. releases.Post ([], ([], tt)) (lent s, (n, (x, (lent o, tt)))) r (lent s, (n, (x, (lent o′, tt)))))
 
 -- ---- openings
 

@@ -3,13 +3,12 @@
 --   fitted room ls                     the lines at the front of ls that fit into `room` bytes, one behind another
 --   linesFrom ls from room             the lines ls from number `from` on, as many whole ones as fit into a buffer of `room` bytes
 --   linesAsked s refused from room     those of the sheet of lent bytes: 1 where they are not whole
---   bytesOf ls                         the bytes of the lines ls, one behind another
 --   bytesGiven a, sizesGiven a         of an answer of lines: their bytes; how many bytes, and how many lines
 --   PrintsAs x r old m                 the answer x is given as r, and leaves the buffer old as m
 --   refusalAsked k room                the line for a first line that is refused with k
 use Prim.Native.Nat.{ℕ, _-_}
 use mathlib.Core.Path.{_≡_}
-use mathlib.Core.List.{List, [], _∷_, flatMap}
+use mathlib.Core.List.{List, [], _∷_}
 use lib.Dec.{ltb}
 use lib.ListN.{length, drop}
 use Rattle.trees.specs.Plain.{if_then_else_, Answer, refused, gives}
@@ -18,6 +17,7 @@ use Rattle.answers.specs.declared.Both.{Both}
 use Rattle.answers.specs.Answers.{bothGiven}
 use Rattle.answers.specs.Filled.{front}
 use Rattle.store.specs.Lent.{ifWhole}
+use Rattle.putting.specs.Lines.{bytesOf}
 use Rattle.sheet.specs.Sheet.{sheetLines, refusalLine}
 
 unfoldable pub fitted : ℕ → List (List ℕ) → List (List ℕ)
@@ -36,10 +36,6 @@ linesFrom ls from room = if ltb from (length ls) then ifAny (fitted room (drop f
 
 abbrev pub linesAsked : List ℕ → ℕ → ℕ → ℕ → Answer (List (List ℕ))
 linesAsked s refused-texts from room = ifWhole s (λ h. linesFrom (sheetLines h refused-texts) from room)
-
-unfoldable pub bytesOf : List (List ℕ) → List ℕ
-unfolding flatMap
-bytesOf ls = flatMap (λ l. l) ls
 
 unfoldable pub bytesGiven : Answer (List (List ℕ)) → Answer (List ℕ)
 unfolding bytesOf

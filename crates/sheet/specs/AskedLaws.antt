@@ -1,16 +1,12 @@
 -- What the calls that print lines answer. Assumes nothing.
 --
---   put-length                             storing leaves as many bytes
---   put-front, put-taken                   what is stored from the start stands at the front
 --   lines-whole                            lines of the sheet of a whole store
 --   refusal-put, refusal-given             the line of a refusal
-use Prim.Native.Nat.{ℕ, _+_, _≤_}
-use native.Mathlib.Omega.{arith}
+use Prim.Native.Nat.{ℕ}
 use mathlib.Core.Path.{_≡_, refl, sym, ap, _∙_}
 use mathlib.Core.Bool.{true}
 use mathlib.Core.List.{List, [], _∷_, _++_, append-assoc, append-nil}
-use lib.ListN.{length, take, drop}
-use lib.Seq.{sets-eq, length-sets, take-at}
+use lib.ListN.{length}
 use Rattle.trees.specs.Plain.{bytes}
 use Rattle.trees.specs.Questions.{ifRoom}
 use Rattle.answers.specs.declared.Number.{Number}
@@ -19,29 +15,12 @@ use Rattle.answers.specs.AnswerLaws.{filled-as}
 use Rattle.layout.specs.Store.{heldAt}
 use Rattle.layout.specs.WholeStore.{wholeAt}
 use Rattle.store.specs.LentLaws.{when-whole}
-use Rattle.writer.specs.Branch.{Put}
-use Rattle.writer.specs.PutLaws.{put-then}
+use Rattle.putting.specs.Put.{Put}
+use Rattle.putting.specs.PutLaws.{put-as, put-then}
+use Rattle.putting.specs.Lines.{spaced, fields, lineOf}
 use Rattle.trees.specs.Decimal.{digitsOf}
-use Rattle.sheet.specs.Sheet.{spaced, fields, lineOf, sheetLines, refusalLine}
+use Rattle.sheet.specs.Sheet.{sheetLines, refusalLine}
 use Rattle.sheet.specs.Asked.{linesFrom, linesAsked, refusalAsked}
-use Rattle.sheet.specs.LineLaws.{put-as}
-
--- ---- the front of a buffer
-
-pub put-length : {l v after : List ℕ} {at z : ℕ} → Put l at v after z → length after ≡ length l
-put-length {l} {v} {at = at} p = ap length (p .stored) ∙ length-sets l at v
-
-module _ (l v after : List ℕ) (z : ℕ) (p : Put l 0 v after z) (h : z ≤ length l) where
-  pub put-front : after ≡ v ++ drop (length v) l
-  put-front =
-      let e = p .ends in
-      let f : 0 + length v ≡ length v = omega arith in
-      p .stored ∙ sets-eq v l 0 (omega arith) ∙ ap (λ (k : ℕ). v ++ drop k l) f
-
-  pub put-taken : take z after ≡ v
-  put-taken =
-      let e : length v ≡ z = omega (arith, p .ends) in
-      rw put-front (take-at v (drop (length v) l) z e)
 
 -- ---- lines of the sheet
 

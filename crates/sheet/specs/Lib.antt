@@ -2,8 +2,6 @@
 pub mod Sheet
 pub mod Asked
 pub mod Lines
-pub mod DigitLaws
-pub mod WritingLaws
 pub mod LineLaws
 pub mod SheetLaws
 pub mod AskedLaws

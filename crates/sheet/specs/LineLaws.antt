@@ -1,13 +1,12 @@
 -- The lines of the sheet of a whole store, as the code writes them. Assumes nothing.
 --
---   put-as                          the same bytes, under another name
 --   counts-put, split-put           the line of counts, and that of a split
 --   cell row j                      the digits of place j of a row
 --   rest f j                        the words of a row behind its first, when j are there
 --   row-none, row-more, row-put     a row of distances, word by word
 --   answer-shown, answer-text       a tree that a call answered
---   majority-shown, majority-put    the majority tree
---   strict-shown, strict-put        the strict tree
+--   majority-line, majority-shown, majority-put     the majority tree
+--   strict-line, strict-shown, strict-put           the strict tree
 --   shown-word, shown-alone, shown-fits     what of it is short
 --   answer-given, answer-none       it is the text, or `none`
 use Prim.Native.Nat.{ℕ, zero, suc, _+_, _≤_, _<_}
@@ -41,16 +40,15 @@ use Rattle.layout.specs.Columns.{upTo-more}
 use Rattle.store.specs.RecordedAtLaws.{held-trees, trees-length, tree-at, recorded-length}
 use Rattle.store.specs.HeldWholeLaws.{held-numbers}
 use Rattle.store.specs.CountsLaws.{row-count, split-count}
-use Rattle.writer.specs.Branch.{Put}
-use Rattle.writer.specs.PutLaws.{put-none, put-then}
+use Rattle.putting.specs.Put.{Put}
+use Rattle.putting.specs.PutLaws.{put-none, put-then, put-as}
+use Rattle.putting.specs.Lines.{spaced, fields, lineOf}
+use Rattle.putting.specs.LinesLaws.{spaced-more}
 use Rattle.consensus.specs.FewLaws.{tree-short, trees-good}
 use Rattle.trees.specs.Decimal.{digitsOf}
-use Rattle.sheet.specs.Sheet.{spaced, fields, lineOf, countsLine, splitLine, rowLine, treeLine, majorityLine, strictLine}
+use Rattle.sheet.specs.Sheet.{countsLine, splitLine, rowLine, treeText, treeLine, majorityLine, strictLine}
 use Rattle.sheet.specs.Lines.{answerText, Shown}
 use Rattle.sheet.specs.SheetLaws.{map-at}
-
-pub put-as : {l v w after : List ℕ} {at z : ℕ} → v ≡ w → Put l at v after z → Put l at w after z
-put-as {l} {after = after} {at} {z} e p = subst (λ (x : List ℕ). Put l at x after z) e p
 
 -- ---- the line of counts
 
@@ -82,21 +80,21 @@ module _ (s : List ℕ) (w : wholeAt s ≡ true) where
   counts-held r = rw (counts-is (heldAt s) r, held-numbers s, trees-length s, recorded-length s w)
 
   pub counts-put : (r taxa trees splits : ℕ) → taxa ≡ numbersAt s .taxa → trees ≡ treesHeldAt s → splits ≡ splitsHeldAt s
-      → {l i j k m after : List ℕ} {a b c d z : ℕ}
-      → Put l 0 (116 ∷ 97 ∷ 120 ∷ 97 ∷ 32 ∷ digitsOf taxa) i a
+      → {l i j k m after : List ℕ} {at a b c d z : ℕ}
+      → Put l at (116 ∷ 97 ∷ 120 ∷ 97 ∷ 32 ∷ digitsOf taxa) i a
       → Put i a (32 ∷ 116 ∷ 114 ∷ 101 ∷ 101 ∷ 115 ∷ 32 ∷ digitsOf trees) j b
       → Put j b (32 ∷ 114 ∷ 101 ∷ 102 ∷ 117 ∷ 115 ∷ 101 ∷ 100 ∷ 32 ∷ digitsOf r) k c
       → Put k c (32 ∷ 115 ∷ 112 ∷ 108 ∷ 105 ∷ 116 ∷ 115 ∷ 32 ∷ digitsOf splits) m d
       → Put m d (10 ∷ []) after z
-      → Put l 0 (countsLine (heldAt s) r) after z
+      → Put l at (countsLine (heldAt s) r) after z
   counts-put r taxa trees splits e f g p q t u v =
       put-as (counts-text (digitsOf taxa) (digitsOf trees) (digitsOf r) (digitsOf splits) ∙ rw (e, f, g) (counts-held r)) (put-then p (put-then q (put-then t (put-then u v))))
 
   -- ---- the line of a split
 
   pub split-put : (k row mask n : ℕ) → k < splitsHeldAt s → row ≡ orderAt s k → mask ≡ maskAt s row → n ≡ countAt s row
-      → {l i j after : List ℕ} {a b z : ℕ} → Put l 0 (digitsOf mask) i a → Put i a (32 ∷ digitsOf n) j b → Put j b (10 ∷ []) after z
-      → Put l 0 (splitLine (heldAt s) (splitAt s k)) after z
+      → {l i j after : List ℕ} {at a b z : ℕ} → Put l at (digitsOf mask) i a → Put i a (32 ∷ digitsOf n) j b → Put j b (10 ∷ []) after z
+      → Put l at (splitLine (heldAt s) (splitAt s k)) after z
   split-put k row mask n h e f g p q t =
       let m : mask ≡ splitAt s k = f ∙ ap (maskAt s) e in
       let c : n ≡ count (heldAt s .trees) (splitAt s k) = row-count s k row n e g ∙ sym (split-count s w k h) in
@@ -118,16 +116,6 @@ module _ {A B : Type 0} (f : A → B) (g : ℕ → A) where
   map-upTo : (n : ℕ) → map f (upTo g n) ≡ upTo (λ i. f (g i)) n
   unfolding upTo
   map-upTo n = map-from 0 n
-
-spaced-more : (ws : List (List ℕ)) (w : List ℕ) → spaced (ws ++ w ∷ []) ≡ spaced ws ++ (32 ∷ w)
-unfolding spaced
-spaced-more [] w = ap (λ (v : List ℕ). 32 ∷ v) (append-nil w)
-spaced-more (v ∷ ws) w = ap (λ (x : List ℕ). 32 ∷ x) (ap (λ (x : List ℕ). v ++ x) (spaced-more ws w) ∙ sym (append-assoc v (spaced ws) (32 ∷ w)))
-
-fields-more : (ws : List (List ℕ)) (w : List ℕ) → 0 < length ws → fields (ws ++ w ∷ []) ≡ fields ws ++ (32 ∷ w)
-unfolding fields
-fields-more [] w h = absurd (omega arith)
-fields-more (v ∷ ws) w h = ap (λ (x : List ℕ). v ++ x) (spaced-more ws w) ∙ sym (append-assoc v (spaced ws) (32 ∷ w))
 
 -- the words of a row behind its first, when j are there
 unfoldable pub rest : (ℕ → List ℕ) → ℕ → List ℕ
@@ -220,21 +208,25 @@ module _ (t old text : List ℕ) where
 
 -- ---- the two trees
 
+tree-text-is : (h : Held) (splits : List ℕ) → (if eqb (length (h .trees)) 0 then bytes "none" else written (h .opening .names) splits) ≡ treeText h splits
+unfolding treeText bytes written
+tree-text-is h splits = refl
+
 tree-text : (word t : List ℕ) → (word ++ 32 ∷ []) ++ (t ++ 10 ∷ []) ≡ lineOf (word ∷ t ∷ [])
 unfolding lineOf fields spaced
 tree-text word t = simp (append-assoc, append-nil)
 
--- what is written behind the word
-abbrev treeShown : Held → List ℕ → List ℕ
-treeShown h splits = if eqb (length (h .trees)) 0 then bytes "none" else written (h .opening .names) splits
+pub majority-line : (h : Held) → (bytes "majority" ++ 32 ∷ []) ++ (treeText h (majority (h .trees)) ++ 10 ∷ []) ≡ majorityLine h
+majority-line h = tree-text (bytes "majority") (treeText h (majority (h .trees))) ∙ line-is
+  where
+    line-is : lineOf (bytes "majority" ∷ treeText h (majority (h .trees)) ∷ []) ≡ majorityLine h
+    line-is = unfold majorityLine treeLine lineOf bytes treeText majority in refl
 
-majority-is : (h : Held) → lineOf (bytes "majority" ∷ treeShown h (majority (h .trees)) ∷ []) ≡ majorityLine h
-unfolding majorityLine treeLine lineOf bytes written majority
-majority-is h = refl
-
-strict-is : (h : Held) → lineOf (bytes "strict" ∷ treeShown h (strict (h .trees)) ∷ []) ≡ strictLine h
-unfolding strictLine treeLine lineOf bytes written strict
-strict-is h = refl
+pub strict-line : (h : Held) → (bytes "strict" ++ 32 ∷ []) ++ (treeText h (strict (h .trees)) ++ 10 ∷ []) ≡ strictLine h
+strict-line h = tree-text (bytes "strict") (treeText h (strict (h .trees))) ∙ line-is
+  where
+    line-is : lineOf (bytes "strict" ∷ treeText h (strict (h .trees)) ∷ []) ≡ strictLine h
+    line-is = unfold strictLine treeLine lineOf bytes treeText strict in refl
 
 module _ (s : List ℕ) (w : wholeAt s ≡ true) where
   -- with so much room, a tree is refused only where there is none
@@ -263,10 +255,9 @@ module _ (s : List ℕ) (w : wholeAt s ≡ true) where
     tree-shown : (word : List ℕ) → length word ≤ 2000 → Shown r word text
     tree-shown word k = answer-shown text-of old text word k (tree-short s w splits g) none r length-asked front-asked
 
-    tree-put : (word : List ℕ) {l after : List ℕ} {z : ℕ} → Put l 0 ((word ++ 32 ∷ []) ++ (answerText r text ++ 10 ∷ [])) after z
-        → Put l 0 (lineOf (word ∷ treeShown (heldAt s) splits ∷ [])) after z
-    tree-put word p =
-        put-as (ap (λ (v : List ℕ). (word ++ 32 ∷ []) ++ (v ++ 10 ∷ [])) (answer-text text-of old text none r length-asked front-asked) ∙ tree-text word (treeShown (heldAt s) splits)) p
+    tree-put : (word : List ℕ) {l after : List ℕ} {at z : ℕ} → Put l at (word ++ (answerText r text ++ 10 ∷ [])) after z
+        → Put l at (word ++ (treeText (heldAt s) splits ++ 10 ∷ [])) after z
+    tree-put word p = put-as (ap (λ (v : List ℕ). word ++ (v ++ 10 ∷ [])) (answer-text text-of old text none r length-asked front-asked ∙ tree-text-is (heldAt s) splits)) p
 
   module _ (old text : List ℕ) (r : Number) where
     majority-asked : majorityOf (heldAt s) (length old) ≡ ifTrees (heldAt s) (ifRoom (length old) (written (heldAt s .opening .names) (majority (heldAt s .trees))))
@@ -277,13 +268,12 @@ module _ (s : List ℕ) (w : wholeAt s ≡ true) where
       good : goodTree (numbersAt s .taxa) (majority (heldAt s .trees)) ≡ true
       good = majority-good (numbersAt s .taxa) (heldAt s .trees) (trees-good s w)
 
-      pub majority-shown : Shown r (bytes "majority" ++ 32 ∷ []) text
-      unfolding bytes
-      majority-shown = tree-shown old text h r _ good _ majority-asked e f (bytes "majority" ++ 32 ∷ []) (omega arith)
+      pub majority-shown : (word : List ℕ) → length word ≤ 2000 → Shown r word text
+      majority-shown = tree-shown old text h r _ good _ majority-asked e f
 
-      pub majority-put : {l after : List ℕ} {z : ℕ} → Put l 0 ((bytes "majority" ++ 32 ∷ []) ++ (answerText r text ++ 10 ∷ [])) after z
-          → Put l 0 (majorityLine (heldAt s)) after z
-      majority-put p = put-as (majority-is (heldAt s)) (tree-put old text h r _ good _ majority-asked e f (bytes "majority") p)
+      pub majority-put : (word : List ℕ) {l after : List ℕ} {at z : ℕ} → Put l at (word ++ (answerText r text ++ 10 ∷ [])) after z
+          → Put l at (word ++ (treeText (heldAt s) (majority (heldAt s .trees)) ++ 10 ∷ [])) after z
+      majority-put word p = tree-put old text h r _ good _ majority-asked e f word p
 
     strict-asked : strictOf (heldAt s) (length old) ≡ ifTrees (heldAt s) (ifRoom (length old) (written (heldAt s .opening .names) (strict (heldAt s .trees))))
     unfolding strictOf
@@ -293,13 +283,12 @@ module _ (s : List ℕ) (w : wholeAt s ≡ true) where
       good-strict : goodTree (numbersAt s .taxa) (strict (heldAt s .trees)) ≡ true
       good-strict = strict-good (numbersAt s .taxa) (heldAt s .trees) (trees-good s w)
 
-      pub strict-shown : Shown r (bytes "strict" ++ 32 ∷ []) text
-      unfolding bytes
-      strict-shown = tree-shown old text h r _ good-strict _ strict-asked e f (bytes "strict" ++ 32 ∷ []) (omega arith)
+      pub strict-shown : (word : List ℕ) → length word ≤ 2000 → Shown r word text
+      strict-shown = tree-shown old text h r _ good-strict _ strict-asked e f
 
-      pub strict-put : {l after : List ℕ} {z : ℕ} → Put l 0 ((bytes "strict" ++ 32 ∷ []) ++ (answerText r text ++ 10 ∷ [])) after z
-          → Put l 0 (strictLine (heldAt s)) after z
-      strict-put p = put-as (strict-is (heldAt s)) (tree-put old text h r _ good-strict _ strict-asked e f (bytes "strict") p)
+      pub strict-put : (word : List ℕ) {l after : List ℕ} {at z : ℕ} → Put l at (word ++ (answerText r text ++ 10 ∷ [])) after z
+          → Put l at (word ++ (treeText (heldAt s) (strict (heldAt s .trees)) ++ 10 ∷ [])) after z
+      strict-put word p = tree-put old text h r _ good-strict _ strict-asked e f word p
 
 -- ---- a tree as it was answered
 

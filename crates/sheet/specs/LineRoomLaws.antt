@@ -36,7 +36,8 @@ use Rattle.store.specs.HeldWholeLaws.{held-numbers, opening-facts}
 use Rattle.distances.specs.LackLaws.{oneSided-most}
 use Rattle.consensus.specs.FewLaws.{tree-few, tree-short, trees-good}
 use Rattle.trees.specs.Decimal.{digitsFrom, digitsOf}
-use Rattle.sheet.specs.Sheet.{spaced, fields, lineOf, countsLine, splitLine, rowLine, treeLine, majorityLine, strictLine, sheetLines}
+use Rattle.putting.specs.Lines.{spaced, fields, lineOf}
+use Rattle.sheet.specs.Sheet.{countsLine, splitLine, rowLine, treeText, treeLine, majorityLine, strictLine, sheetLines}
 
 -- ---- words and lines
 
@@ -169,12 +170,9 @@ module _ (s : List ℕ) (w : wholeAt s ≡ true) where
   -- ---- the two trees
 
   tree-line-short : (word : String) → length (bytes word) ≤ 2000 → (l : List ℕ) → goodTree (numbersAt s .taxa) l ≡ true → length (treeLine h word l) ≤ 8192
-  unfolding treeLine
-  tree-line-short word a l g = omega (arith, two-length (bytes word) text, go (eqb (length (h .trees)) 0))
+  unfolding treeLine treeText
+  tree-line-short word a l g = omega (arith, two-length (bytes word) (treeText h l), go (eqb (length (h .trees)) 0))
     where
-      text : List ℕ
-      text = if eqb (length (h .trees)) 0 then bytes "none" else written (h .opening .names) l
-
       go : (b : Bool) → length (if b then bytes "none" else written (h .opening .names) l) ≤ 4352
       go true = unfold bytes in omega arith
       go false = omega (arith, tree-short s w l g)

@@ -6,7 +6,8 @@ use Prim.Native.Nat.{ℕ, _+_, _-_, _≤_}
 use mathlib.Core.Path.{_≡_}
 use mathlib.Core.List.{List, _++_}
 use lib.ListN.{length, drop}
-use Rattle.sheet.specs.Asked.{fitted, bytesOf}
+use Rattle.putting.specs.Lines.{bytesOf}
+use Rattle.sheet.specs.Asked.{fitted}
 
 pub record Run (ls : List (List ℕ)) (bytes lines : ℕ) (old m : List ℕ) : Type 0 where
   pub counted : lines ≡ length (fitted (length old) ls)

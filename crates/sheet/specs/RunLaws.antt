@@ -4,7 +4,6 @@
 --   run-end, run-full              behind the last line, and before one that does not fit
 --   run-length                     the buffer stays as long as it was
 --   fitted-first, fitted-rest      of lines: the first, where it fits; those that fit, and the others
---   bytes-append                   the bytes of lines behind others
 --   prints-refused, prints-missing, prints-short, prints-given     what is answered: a refusal, 13, 4, or the lines
 --   one-given, one-refused         what is answered of one line alone
 use Prim.Native.Nat.{ℕ, suc, _+_, _-_, _≤_, _<_}
@@ -27,7 +26,9 @@ use Rattle.answers.specs.Answers.{refusalNumber, refusing, numberGiven, bothGiv
 use Rattle.answers.specs.Filled.{lengthGiven, front, FilledAs}
 use Rattle.answers.specs.AnswerLaws.{gives≢refused}
 use Rattle.fields.specs.Run.{copied}
-use Rattle.sheet.specs.Asked.{fitted, ifAny, linesFrom, bytesOf, bytesGiven, sizesGiven, PrintsAs}
+use Rattle.putting.specs.Lines.{bytesOf}
+use Rattle.putting.specs.LinesLaws.{bytes-more}
+use Rattle.sheet.specs.Asked.{fitted, ifAny, linesFrom, bytesGiven, sizesGiven, PrintsAs}
 use Rattle.sheet.specs.Run.{Run, Printing}
 
 -- ---- lines that fit
@@ -40,14 +41,6 @@ module _ (room : ℕ) (l : List ℕ) (ls : List (List ℕ)) where
   fitted-none : room < length l → fitted room (l ∷ ls) ≡ []
   unfolding fitted
   fitted-none h = rw (lt-ltb room (length l) h)
-
-pub bytes-append : (ls ms : List (List ℕ)) → bytesOf (ls ++ ms) ≡ bytesOf ls ++ bytesOf ms
-unfolding bytesOf flatMap
-bytes-append [] ms = refl
-bytes-append (l ∷ ls) ms = ap (λ (v : List ℕ). l ++ v) (bytes-append ls ms) ∙ sym (append-assoc l (bytesOf ls) (bytesOf ms))
-
-bytes-more : (ls : List (List ℕ)) (l : List ℕ) → bytesOf (ls ++ l ∷ []) ≡ bytesOf ls ++ l
-bytes-more ls l = bytes-append ls (l ∷ []) ∙ ap (λ (v : List ℕ). bytesOf ls ++ v) (unfold bytesOf flatMap in append-nil l)
 
 pub fitted-first : (room : ℕ) (ls : List (List ℕ)) (i : ℕ) → i < length ls → length (getD ls i []) ≤ room
     → (more : List (List ℕ)) × (fitted room (drop i ls) ≡ getD ls i [] ∷ more)

@@ -1,9 +1,9 @@
 -- The summary sheet: what `treesum` prints of a collection, line by line.
 --
---   fields ws, lineOf ws       the words ws, parted by one space; and with their line end
 --   countsLine h refused       how many taxa, accepted trees, refused texts and recorded splits there are
 --   splitLine h m              the mask m and its count
 --   rowLine h t                the doubled distances of the tree t from all trees
+--   treeText h splits          the tree of these splits; `none`, where there are no trees
 --   majorityLine, strictLine   the two consensus trees
 --   sheetLines h refused       all lines of the sheet, in order
 --   refusalLine k              the line printed for a first line that is refused with k
@@ -12,28 +12,13 @@ use Prim.Native.String.{String}
 use mathlib.Core.List.{List, [], _∷_, _++_, map}
 use lib.Dec.{eqb}
 use lib.ListN.{length}
-use Rattle.trees.specs.Plain.{if_then_else_, bytes, byte}
+use Rattle.trees.specs.Plain.{if_then_else_, bytes}
 use Rattle.trees.specs.Decimal.{digitsOf}
 use Rattle.trees.specs.Distance.{doubled}
 use Rattle.trees.specs.Consensus.{recorded, count, strict, majority}
 use Rattle.trees.specs.Written.{written}
 use Rattle.trees.specs.Held.{Held}
-
--- words, each behind a space
-unfoldable pub spaced : List (List ℕ) → List ℕ
-spaced [] = []
-spaced (w ∷ ws) = byte " " ∷ (w ++ spaced ws)
-
--- "Fields are parted by one space"
-unfoldable pub fields : List (List ℕ) → List ℕ
-unfolding spaced
-fields [] = []
-fields (w ∷ ws) = w ++ spaced ws
-
--- "every line ends with LF"
-unfoldable pub lineOf : List (List ℕ) → List ℕ
-unfolding fields
-lineOf ws = fields ws ++ byte "\n" ∷ []
+use Rattle.putting.specs.Lines.{lineOf}
 
 -- "Line one counts taxa, accepted trees, refused texts (a refused closing included) and recorded splits"
 unfoldable pub countsLine : Held → ℕ → List ℕ
@@ -60,10 +45,15 @@ unfoldable pub rowLine : Held → List ℕ → List ℕ
 unfolding lineOf digitsOf doubled
 rowLine h t = lineOf (map (λ u. digitsOf (doubled t u)) (h .trees))
 
--- "the two trees. With no trees the last lines are `majority none` and `strict none`"
+-- "With no trees the last lines are `majority none` and `strict none`"
+unfoldable pub treeText : Held → List ℕ → List ℕ
+unfolding bytes written
+treeText h splits = if eqb (length (h .trees)) 0 then bytes "none" else written (h .opening .names) splits
+
+-- "the two trees"
 unfoldable pub treeLine : Held → String → List ℕ → List ℕ
-unfolding lineOf bytes written
-treeLine h word splits = lineOf (bytes word ∷ (if eqb (length (h .trees)) 0 then bytes "none" else written (h .opening .names) splits) ∷ [])
+unfolding lineOf bytes treeText
+treeLine h word splits = lineOf (bytes word ∷ treeText h splits ∷ [])
 
 unfoldable pub majorityLine : Held → List ℕ
 unfolding treeLine majority

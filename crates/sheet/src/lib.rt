@@ -1,7 +1,8 @@
 // The lines of the summary sheet of a collection in lent bytes, and the line for a first line that is refused. Each
 // call does its own checking and asks nothing of what it is given.
 //
-// Read `specs/Sheet.antt` for the lines, and `specs/Asked.antt` for what the calls promise.
+// Read `specs/Sheet.antt` for the lines, and `specs/Asked.antt` for what the calls promise. Lines of it that other
+// sheets have too are put by `put_counts`, `put_split`, `put_majority` and `put_strict`.
 ghost use Prim.Native.Nat.{_≤_};
 ghost use lib.ListN.{length, take};
 ghost use Rattle.trees.specs.Questions.{ifRoom};
@@ -13,7 +14,11 @@ use answers::Refusal;
 
 mod line;
 mod run;
-mod writing;
+
+pub use line::put_counts;
+pub use line::put_majority;
+pub use line::put_split;
+pub use line::put_strict;
 
 // Writes the lines of the sheet from number `from` on, as many whole ones as fit, to the front of out. `refused`
 // texts were refused.
@@ -39,8 +44,8 @@ pub fn refusal_line(k: u32, out: &mut [u8]) -> Number
     ensures { λ r. ⌜ FilledAs (refusalAsked k (length (now (out .entry)))) r (now (out .entry)) (now (out .exit)) ⌝ }
 {
     let mut text = [0u8; 64];
-    let e = writing::put_counted(&mut text, 0, b"names refused ", k as u64);
-    let n = writing::put_end(&mut text, e);
+    let e = putting::put_counted(&mut text, 0, b"names refused ", k as u64);
+    let n = putting::put_end(&mut text, e);
     give(&text, n, out)
 }
 

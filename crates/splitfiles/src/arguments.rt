@@ -1,5 +1,4 @@
 // What the program's arguments ask for. The first is its own name.
-use crate::parts;
 
 // Which use is asked for.
 pub(crate) const NONE: u32 = 0;
@@ -29,7 +28,7 @@ fn use_of(word: &[u8], count: usize) -> u32 {
 
 // The use k, where the word is the one wanted.
 fn if_same(word: &[u8], wanted: &[u8], k: u32) -> u32 {
-    if parts::same(word, wanted) { k } else { NONE }
+    if filing::same(word, wanted) { k } else { NONE }
 }
 
 // Which argument names the file of names in this use. The first file stands behind it.

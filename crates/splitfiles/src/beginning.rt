@@ -1,7 +1,5 @@
 // What every use begins with: a collection is opened over the names, and the first file is read.
 use crate::arguments;
-use crate::collection;
-use crate::reading;
 
 // The number of taxa, and how many bytes the first file has. No taxa: something is impossible, as was told.
 pub(crate) struct Begun {
@@ -19,12 +17,12 @@ pub(crate) fn begin(kind: u32, first: &mut [u8], lent: &mut [u8]) -> Begun {
         return IMPOSSIBLE;
     }
     let names = arguments::names_of(kind);
-    let taxa = collection::opened(names, first, lent);
+    let taxa = filing::open_names(b"splitfiles", names, 1, first, lent);
     if taxa == 0 {
         return IMPOSSIBLE;
     }
     let next = std::num::wrapping_add_usize(names, 1);
-    let held = reading::file(next, kind == arguments::WRITE, first);
+    let held = filing::read_file(b"splitfiles", next, kind == arguments::WRITE, first);
     if !held.is_good {
         return IMPOSSIBLE;
     }

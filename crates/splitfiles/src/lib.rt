@@ -8,15 +8,9 @@
 // The exit status is 0 where all was done, 1 where something was refused and the rest was done, 2 where nothing could be done.
 mod arguments;
 mod beginning;
-mod collection;
 mod merging;
-mod parts;
-mod reading;
-mod saving;
 mod showing;
-mod telling;
 mod trees;
-mod waiting;
 mod writing;
 
 ghost use Prim.Native.Nat.{_≤_};
@@ -40,7 +34,7 @@ pub extern "C" fn splitfiles_main(
     if begun.taxa == 0 {
         return 2;
     }
-    let n = parts::within(begun.bytes, first);
+    let n = filing::within(begun.bytes, first);
     go_on(
         kind,
         begun.taxa,

@@ -1,8 +1,4 @@
 // `splitfiles merge OUT NAMES A B`.
-use crate::parts;
-use crate::reading;
-use crate::saving;
-use crate::telling;
 use answers::Both;
 ghost use Prim.Native.Nat.{_≤_};
 
@@ -23,11 +19,11 @@ pub(crate) fn merge(first: &[u8], lent: &[u8], second: &mut [u8], file: &mut [u8
     if !is_split_file(FIRST, first, lent) {
         return 2;
     }
-    let held = reading::file(SECOND, false, second);
+    let held = filing::read_file(b"splitfiles", SECOND, false, second);
     if !held.is_good {
         return 2;
     }
-    let n = parts::within(held.bytes, second);
+    let n = filing::within(held.bytes, second);
     merge_bytes(first, &second[..n], lent, file)
 }
 
@@ -39,7 +35,7 @@ fn merge_bytes(first: &[u8], second: &[u8], lent: &[u8], file: &mut [u8]) -> u32
         return 2;
     }
     let answer = splitfile::merge(lent, first, second, file);
-    if saving::save_answer(OUT, b"merge", answer, file) {
+    if filing::save_answer(b"splitfiles", OUT, b"merge", answer, file) {
         return 0;
     }
     2
@@ -54,7 +50,7 @@ fn is_split_file(i: usize, bytes: &[u8], lent: &[u8]) -> bool {
     if k == SHORT {
         return true;
     }
-    telling::refused_argument(i, k);
+    filing::tell_refused_argument(i, k);
     false
 }
 

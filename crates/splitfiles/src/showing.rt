@@ -1,9 +1,7 @@
 // `splitfiles show NAMES FILE`.
-use crate::telling;
-use crate::waiting;
-use crate::waiting::Waiting;
 use answers::Both;
 use answers::Number;
+use filing::Waiting;
 use libc::STDERR_FILENO;
 use libc::STDOUT_FILENO;
 ghost use Prim.Native.Nat.{_≤_};
@@ -29,7 +27,7 @@ pub(crate) fn show(
 {
     match splitfile::read_splits(lent, file, masks, counts) {
         Both::Refused(r) => {
-            telling::refused_argument(FILE, answers::refusal_number(r));
+            filing::tell_refused_argument(FILE, answers::refusal_number(r));
             2
         }
         Both::Gives(trees, n) => show_records(taxa, trees, file, lent, masks, counts, n),
@@ -56,18 +54,18 @@ fn show_records(
 
 // Puts the line of the counts. Of how many trees a file without records is, is not known.
 fn put_counts(taxa: u32, trees: usize, splits: usize, out: &mut [u8]) -> Waiting {
-    let begun = waiting::none(STDOUT_FILENO);
-    let first = waiting::between(out, b"taxa ", taxa as u64, b" trees ", begun);
+    let begun = filing::put(out, b"taxa ", filing::nothing_waits(STDOUT_FILENO));
+    let first = filing::put_counted(out, taxa as u64, b" trees ", begun);
     if splits == 0 {
-        return waiting::put(out, b"- splits 0\n", first);
+        return filing::put(out, b"- splits 0\n", first);
     }
     put_known(trees, splits, out, first)
 }
 
 // Puts the end of that line, with the number of trees.
 fn put_known(trees: usize, splits: usize, out: &mut [u8], before: Waiting) -> Waiting {
-    let first = waiting::number(out, trees as u64, before);
-    waiting::between(out, b" splits ", splits as u64, b"\n", first)
+    let first = filing::put_counted(out, trees as u64, b" splits ", before);
+    filing::put_counted(out, splits as u64, b"\n", first)
 }
 
 // Puts the lines of n splits.
@@ -89,8 +87,8 @@ fn put_splits(masks: &[u64], counts: &[u32], n: usize, out: &mut [u8], before: W
 
 // Puts the line of a split.
 fn put_split(mask: u64, count: u32, out: &mut [u8], before: Waiting) -> Waiting {
-    let masked = waiting::number(out, mask, before);
-    waiting::between(out, b" ", count as u64, b"\n", masked)
+    let masked = filing::put_counted(out, mask, b" ", before);
+    filing::put_counted(out, count as u64, b"\n", masked)
 }
 
 // Prints all that waits and the two trees of the file.
@@ -99,7 +97,7 @@ fn show_trees(file: &[u8], lent: &[u8], out: &mut [u8], before: Waiting) -> u32
 {
     let majority = put_majority(file, lent, out, before);
     let strict = put_strict(file, lent, out, majority.waiting);
-    let all = waiting::flush(out, strict);
+    let all = filing::flush(out, strict);
     let answer = majority.answer;
     status(all.is_good, answer)
 }
@@ -123,16 +121,19 @@ fn put_strict(file: &[u8], lent: &[u8], out: &mut [u8], before: Waiting) -> Wait
 
 // Puts the line of a tree: a word, and what a call answered and left in `text`.
 fn put_tree(word: &[u8], answer: Number, text: &[u8], out: &mut [u8], before: Waiting) -> Waiting {
-    let begun = waiting::put(out, word, before);
+    let begun = filing::put(out, word, before);
     let told = put_answer(answer, text, out, begun);
-    waiting::put(out, b"\n", told)
+    filing::put(out, b"\n", told)
 }
 
 // Puts the tree that a call answered and left in `text`; none, where it refused.
 fn put_answer(answer: Number, text: &[u8], out: &mut [u8], before: Waiting) -> Waiting {
     match answer {
-        Number::Gives(n) => telling::words(out, text, n, before),
-        Number::Refused(_) => waiting::put(out, b"none", before),
+        Number::Gives(n) => {
+            let k = filing::within(n, text);
+            filing::put(out, &text[..k], before)
+        }
+        Number::Refused(_) => filing::put(out, b"none", before),
     }
 }
 
@@ -157,6 +158,6 @@ fn status_refused(k: u32) -> u32
     if k == 14 {
         return 0;
     }
-    telling::refused_argument(FILE, k);
+    filing::tell_refused_argument(FILE, k);
     1
 }

@@ -1,5 +1,4 @@
 // `splitfiles write OUT NAMES TREES`.
-use crate::saving;
 use crate::trees;
 ghost use Prim.Native.Nat.{_≤_};
 
@@ -17,7 +16,7 @@ pub(crate) fn write(trees: &[u8], lent: &mut [u8], verdicts: &mut [u32], file: &
         return 2;
     }
     let answer = splitfile::write_splits(lent, file);
-    if saving::save_answer(OUT, b"write", answer, file) {
+    if filing::save_answer(b"splitfiles", OUT, b"write", answer, file) {
         return status;
     }
     2

@@ -23,8 +23,8 @@ use Rattle.trees.specs.Opening.{Numbers, Opening, opening}
 use Rattle.trees.specs.Held.{opened, closing}
 use Rattle.trees.specs.Batch.{textsIn, isRefusal, Batched, batching}
 use Rattle.head.specs.Head.{upTo}
+use Rattle.putting.specs.Lines.{bytesOf}
 use Rattle.sheet.specs.Sheet.{sheetLines, refusalLine}
-use Rattle.sheet.specs.Asked.{bytesOf}
 
 -- "The line ends before its LF, or where the input ends"
 unfoldable pub firstLine : List ℕ → List ℕ

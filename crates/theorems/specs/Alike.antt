@@ -84,6 +84,10 @@ pub record SameAnswers (h k : Held) : Type 0 where
   pub file-majority : (f : List ℕ) (room : ℕ) → majorityFileOf h f room ≡ majorityFileOf k f room
   pub phylip : (room : ℕ) → phylipOf h room ≡ phylipOf k room
   pub claim : (t : List ℕ) → claimOf h t ≡ claimOf k t
+  -- what sheets of the collection go by
+  pub taxa : h .opening .numbers .taxa ≡ k .opening .numbers .taxa
+  pub names : h .opening .names ≡ k .opening .names
+  pub trees : h .trees ≡ k .trees
 
 -- two runs of the calls cs that nobody can tell apart, save by the collision number
 pub record SameRun (h k : Held) (cs : List Call) : Type 0 where

@@ -218,6 +218,9 @@ questions-alike h k a =
       file-majority = λ f r z. majorityFileOf (same z) f r;
       phylip = λ r z. phylipOf (same z) r;
       claim = λ t z. claimOf (same z) t;
+      taxa = a .taxa;
+      names = a .names;
+      trees = a .trees;
     }
   where
     same : bareOf h ≡ bareOf k

@@ -1,12 +1,14 @@
 -- Laws of the branches of the tree made of splits, one branch at a time: what holds of the branches behind a branch, and of those below it,
 -- holds with that branch.
 --
+--   lt-or-eq           at most is less or equal
 --   labelOf ns i       the label that taxon i is written as
 --   extra x m          1 where taxon x is in the mask m, else 0
 --   Closed s m r       every split below m lies within r or has nothing of it
 --   Built ns s m r t   the nodes t have the taxa r; their clusters are single taxa and the splits below m within r
 --   Wide s m r t       how many nodes stand side by side
 --   Done ns s m r t    all of this, and: t can be read back, its leaves have no fault, and it is short
+--   leaf-rest, lies    where the other splits lie: behind a leaf; within an inner node or away from it
 --   nil-done           no branch
 --   leaf-done          a leaf, where no split has the smallest taxon
 --   inner-done         an inner node, where there is a widest split that has it
@@ -51,7 +53,7 @@ pub on-pos : (m i : ℕ) → On m i → 0 < m
 on-pos zero i h = absurd (off-zero i h)
 on-pos (suc m) i h = omega arith
 
-lt-or-eq : {a b : ℕ} → a ≤ b → (a < b) ⊎ (a ≡ b)
+pub lt-or-eq : {a b : ℕ} → a ≤ b → (a < b) ⊎ (a ≡ b)
 lt-or-eq {a} {b} h = go (eqb a b) refl
   where
     go : (t : Bool) → eqb a b ≡ t → (a < b) ⊎ (a ≡ b)
@@ -182,7 +184,7 @@ module _ (n : ℕ) (ns : List (List ℕ)) (s : List ℕ) (names : goodNames n ns
     leaf-ones : 1 + ones (bitXor r (2 ^ i)) ≡ ones r
     leaf-ones = omega (arith, ones-part (2 ^ i) r leaf-within, ones-bit i)
 
-    leaf-rest : (y : ℕ) → Mem y s → y < m → Sub y r → Sub y (bitXor r (2 ^ i))
+    pub leaf-rest : (y : ℕ) → Mem y s → y < m → Sub y r → Sub y (bitXor r (2 ^ i))
     leaf-rest y my l p j a = on-xor r (2 ^ i) j (p j a) (λ b. nofit y my (l, subst (On y) (sym (only-on i j b)) a))
 
     pub leaf-closed : Closed s m (bitXor r (2 ^ i))
@@ -257,7 +259,7 @@ module _ (n : ℕ) (ns : List (List ℕ)) (s : List ℕ) (names : goodNames n ns
     inner-ones = ones-part x r inner-within
 
     -- a split below m is within x, or away from it
-    lies : (y : ℕ) → Mem y s → y < m → Sub y x ⊎ Dis y x
+    pub lies : (y : ℕ) → Mem y s → y < m → Sub y x ⊎ Dis y x
     lies y my l = go (agreed x y mx my)
       where
         go : Ag x y → Sub y x ⊎ Dis y x

@@ -106,3 +106,10 @@ pub mod PhylipCallLaws
 pub mod ComparedLaws
 pub mod ClaimLaws
 pub mod ClaimedTreeLaws
+pub mod GroupLaws
+pub mod FirstGroupLaws
+pub mod InTurnLaws
+pub mod TaxaInLaws
+pub mod StandInLaws
+pub mod DrawnLaws
+pub mod DrawnGroupLaws

@@ -2,6 +2,8 @@
 -- back, their leaves have no fault, and they are short.
 --
 --   branches-step      one step of making branches
+--   Made n ns s f      f steps are enough for the branches of every part of the taxa: all of this holds of them
+--   made               so it is
 --   branches-done      all of this holds of the branches of the root
 use Prim.Native.Nat.{ℕ, zero, suc, _+_, _^_, _≤_, _<_}
 use native.Mathlib.Omega.{arith}
@@ -54,7 +56,7 @@ branches-step f ns s m r = go (eqb r 0) (eqb (widest m (lowest r) s) 0)
 -- ---- all steps
 
 module _ (n : ℕ) (ns : List (List ℕ)) (s : List ℕ) (names : goodNames n ns ≡ true) (good : goodTree n s ≡ true) where
-  unfoldable Made : ℕ → Type 0
+  unfoldable pub Made : ℕ → Type 0
   Made f = (m r : ℕ) → m + r < f → Sub r m → Sub r (everyTaxon n) → Closed s m r → Done ns s m r (branches f ns s m r)
 
   -- the children behind the one with the taxa x
@@ -87,7 +89,7 @@ module _ (n : ℕ) (ns : List (List ℕ)) (s : List ℕ) (names : goodNames n ns
   made-step f m r i x ih h rm rn cl oi top (inl z) false false p q = absurd (eqb-false x 0 q z)
   made-step f m r i x ih h rm rn cl oi top (inr w) false false p q = made-inner f m r i x ih h rm rn cl (oi (omega (arith, eqb-false r 0 p))) top (w .0) (w .1)
 
-  made : (f : ℕ) → Made f
+  pub made : (f : ℕ) → Made f
   unfolding Made
   made zero m r h rm rn cl = absurd (omega arith)
   made (suc f) m r h rm rn cl =

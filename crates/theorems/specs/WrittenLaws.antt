@@ -1,8 +1,10 @@
 -- What is written: the tree of good splits has exactly these splits, its text is accepted with them, and it is short.
 --
 --   judged-gives               the verdict on a text that reads as a tree whose leaves have no fault gives the splits of that tree
+--   split-below                a split is less than the mask of all taxa
 --   tree-has-splits            the tree made of splits has exactly these splits
 --   majority-tree-splits, strict-tree-splits     so the consensus trees have exactly the consensus splits
+--   tree-faultless             its leaves have no fault
 --   written-tree-reads-back    the verdict on what is written gives the splits that it was written from
 --   written-readable           what is shown of it can be read back
 --   written-tree-with-lengths  where lengths are kept they are absent, and it is not refused for them
@@ -88,7 +90,7 @@ module _ (n : ℕ) (ns : List (List ℕ)) (s : List ℕ) (names : goodNames n ns
   split-ones : (y : ℕ) → Mem y s → ones y + 2 ≤ n
   split-ones y h = omega (arith, proper-two n y (split-proper n ns s names good y h), proper-most n y (split-proper n ns s names good y h))
 
-  split-below : (y : ℕ) → Mem y s → y < everyTaxon n
+  pub split-below : (y : ℕ) → Mem y s → y < everyTaxon n
   split-below y h = omega (arith, sub-le y (everyTaxon n) (proper-sub n y (split-proper n ns s names good y h)), not-all)
     where
       not-all : y ≡ everyTaxon n → ⊥
@@ -128,7 +130,7 @@ module _ (n : ℕ) (ns : List (List ℕ)) (s : List ℕ) (names : goodNames n ns
   tree-reading : 2 ≤ n → n ≤ 64 → reading (shown (treeOf ns s)) ≡ some (treeOf ns s)
   tree-reading h l = ap (λ t. reading (shown t)) tree-root ∙ shown-reading (rootBranches n ns s) (root-readable h 62 l) ∙ ap some (sym tree-root)
 
-  tree-faultless : leafFault ns 0 (leaves (treeOf ns s)) ≡ 0
+  pub tree-faultless : leafFault ns 0 (leaves (treeOf ns s)) ≡ 0
   unfolding leaves leafFault
   tree-faultless =
       ap (λ t. leafFault ns 0 (leaves t)) tree-root ∙ done .faultless 0 [] (λ i h k. off-zero i h)

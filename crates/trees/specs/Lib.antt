@@ -31,6 +31,8 @@ pub mod SplitFileCall
 pub mod Phylip
 pub mod PhylipCall
 pub mod Claim
+pub mod Groups
+pub mod Drawn
 pub mod Runs
 pub mod Samples
 pub mod FurtherTexts
@@ -45,3 +47,4 @@ pub mod FurtherWithdrawals
 pub mod FurtherSplitFiles
 pub mod FurtherPhylip
 pub mod FurtherClaims
+pub mod FurtherGroups

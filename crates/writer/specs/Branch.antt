@@ -8,15 +8,11 @@
 --                            lies within them or away from them
 --   Child n ns s i x         so it can with the child of i and x
 --   Step n ns s m r i x      that child is the first of the branches of m that have the taxa r
---   Put before at w after e  the bytes w were stored from `at` up to e, as far as there is room
---   Putting before at w out e v     halfway: the bytes v are left, to be stored from e on
 use Prim.Native.Nat.{ℕ, suc, _+_, _^_, _<_}
 use mathlib.Core.Path.{_≡_}
 use mathlib.Core.Bool.{true}
 use mathlib.Core.List.{List, [], _∷_, _++_}
 use lib.Dec.{eqb}
-use lib.ListN.{length}
-use lib.Seq.{sets}
 use Rattle.trees.specs.Plain.{if_then_else_}
 use Rattle.trees.specs.Mask.{everyTaxon, lowest}
 use Rattle.trees.specs.Tree.{Nodes}
@@ -57,12 +53,3 @@ pub record Step (n : ℕ) (ns : List (List ℕ)) (s : List ℕ) (m r i x : ℕ) 
   pub some : r ≡ 0 → ⊥
   pub smallest : i ≡ lowest r
   pub wide : x ≡ widest m i s
-
-pub record Put (before : List ℕ) (at : ℕ) (w after : List ℕ) (e : ℕ) : Type 0 where
-  pub stored : after ≡ sets before at w
-  pub ends : e ≡ at + length w
-
-pub record Putting (before : List ℕ) (at : ℕ) (w out : List ℕ) (e : ℕ) (v : List ℕ) : Type 0 where
-  pub room : length out ≡ length before
-  pub stored : sets before at w ≡ sets out e v
-  pub ends : at + length w ≡ e + length v

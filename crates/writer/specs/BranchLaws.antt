@@ -1,7 +1,9 @@
 -- The laws of a node's first child and of the branches behind it. Assumes nothing.
 --
 --   mask-leaf, mask-inner        the taxa of a leaf and of an inner node
---   child-ok                     the first child can be written
+--   positive                     there is a taxon
+--   child-sub                    the first child has taxa of these alone
+--   child-ok                     it can be written
 --   child-less, child-ones       its own branches take fewer steps, and have fewer ones
 --   rest-ready                   the branches behind it can be written,
 --   rest-less, rest-ones         in fewer steps, with fewer ones
@@ -75,7 +77,7 @@ module _ {n : ℕ} {ns : List (List ℕ)} {s : List ℕ} {m r i x : ℕ} (k : St
   inner-sub : (x ≡ 0 → ⊥) → Sub x r
   inner-sub z = inner-within n ns s (k .ready .names) (k .ready .splits) m r i x on-smallest (fits z .0) (fits z .1) top (k .ready .closed)
 
-  child-sub : Sub (childMask i x) r
+  pub child-sub : Sub (childMask i x) r
   child-sub =
       either i x (λ c. Sub c r)
       (λ z. leaf-within n ns s (k .ready .names) (k .ready .splits) m r i on-smallest (no-fit z) (k .ready .closed)) inner-sub

@@ -4,7 +4,6 @@ pub mod TextLaws
 pub mod Branch
 pub mod BranchLaws
 pub mod BranchTextLaws
-pub mod PutLaws
 pub mod Name
 pub mod NameLaws
 pub mod StepLaws

@@ -24,8 +24,8 @@ use Rattle.theorems.specs.ListLaws.{if-true, if-false, Mem, mem-member}
 use Rattle.theorems.specs.WrittenNameLaws.{inQuotes}
 use Rattle.head.specs.Head.{nameAt}
 use Rattle.head.specs.HeadLaws.{name-slice}
-use Rattle.writer.specs.Branch.{Put}
-use Rattle.writer.specs.PutLaws.{put-one, put-then}
+use Rattle.putting.specs.Put.{Put}
+use Rattle.putting.specs.PutLaws.{put-one, put-then}
 use Rattle.writer.specs.Name.{isPlain}
 
 -- ---- a name, and what it is written as

@@ -23,8 +23,9 @@ use Rattle.theorems.specs.WrittenLaws.{written-length}
 use Rattle.theorems.specs.OpeningLaws.{good-opening}
 use Rattle.head.specs.Head.{numbersAt, namesAt, openingAt}
 use Rattle.head.specs.HeadLaws.{names-length}
-use Rattle.writer.specs.Branch.{grown, branchText, Ready, Put}
-use Rattle.writer.specs.PutLaws.{put-one, put-then}
+use Rattle.putting.specs.Put.{Put}
+use Rattle.writer.specs.Branch.{grown, branchText, Ready}
+use Rattle.putting.specs.PutLaws.{put-one, put-then}
 
 written-text : (ns : List (List ℕ)) (s : List ℕ)
     → written ns s ≡ 40 ∷ (branchText ns s (everyTaxon (length ns)) (everyTaxon (length ns)) ++ 41 ∷ 59 ∷ [])

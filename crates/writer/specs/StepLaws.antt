@@ -17,10 +17,11 @@ use borrow.Author.Tests.{eqb-true, eqb-false}
 use Rattle.trees.specs.Mask.{without}
 use Rattle.trees.specs.Written.{writtenName}
 use Rattle.theorems.specs.OnesLaws.{ones-zero, ones-pos}
-use Rattle.writer.specs.Branch.{branchText, childMask, childText, Step, Put}
+use Rattle.putting.specs.Put.{Put}
+use Rattle.writer.specs.Branch.{branchText, childMask, childText, Step}
 use Rattle.writer.specs.BranchLaws.{positive, child-ones, rest-ones}
 use Rattle.writer.specs.BranchTextLaws.{child-leaf, child-inner, text-none, text-last, text-more}
-use Rattle.writer.specs.PutLaws.{put-none, put-one, put-then}
+use Rattle.putting.specs.PutLaws.{put-none, put-one, put-then}
 
 -- ---- the branches of m that have the taxa r: the child of i and x, and those that have the taxa q
 

@@ -12,7 +12,7 @@ use lib.Seq.{sets, sets-eq, take-at}
 use Rattle.fields.specs.Run.{copied}
 use Rattle.writer.specs.declared.Text.the-variants.{Bytes, TooShort}
 use Rattle.writer.specs.Text.{Wrote}
-use Rattle.writer.specs.Branch.{Put}
+use Rattle.putting.specs.Put.{Put}
 
 pub wrote-nothing : (w before after : List ℕ) (n : ℕ) → n ≡ length w → length before < n → after ≡ before → Wrote w before TooShort after
 unfolding Wrote

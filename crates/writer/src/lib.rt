@@ -3,20 +3,25 @@
 //
 // Its contracts cite `specs/Text.antt` (`Wrote`), crate trees, `specs/Written.antt` (`widest`,
 // `written`), and crate head, `specs/Head.antt` (`namesAt`, `openingAt`). What the recursion writes
-// is in `specs/Branch.antt` (`branchText`, `childText`); `names.rt` writes the names.
+// is in `specs/Branch.antt` (`branchText`, `childText`); `names.rt` writes the names. What finds a node's children,
+// `child_mask` and `widest_in`, serves crate drawing too.
 ghost use mathlib.Core.Path.{_≡_};
 ghost use Prim.Native.Nat.{_+_, _≤_, _<_};
 ghost use mathlib.Core.Bool.{true};
-ghost use lib.ListN.{length, set, take};
+ghost use lib.ListN.{length, take};
 ghost use Rattle.trees.specs.Opening.{headBytes};
 ghost use Rattle.trees.specs.Written.{wider, widest, written};
 ghost use Rattle.trees.specs.Whole.{goodTree, goodOpening};
 ghost use Rattle.head.specs.Head.{numbersAt, namesAt, openingAt};
-ghost use Rattle.writer.specs.Branch.{branchText, childMask, childText, Ready, Child, Put};
+ghost use Rattle.putting.specs.Put.{Put};
+ghost use Rattle.writer.specs.Branch.{branchText, childMask, childText, Ready, Child};
 ghost use Rattle.writer.specs.Text.{Wrote};
 use answers::Taxon;
+use putting::put_byte;
 
 mod names;
+
+pub use names::write_name;
 
 // The answer of a writing: how many bytes were written, or that there is no room.
 pub enum Text {
@@ -106,7 +111,7 @@ fn write_child(
     ensures { λ e. ⌜ Put (now (out .entry)) at (childText (namesAt (now (head .entry))) (take k (now (list .entry))) (i .0) x) (now (out .exit)) e ⌝ }
 {
     if masks::is_empty(x) {
-        return names::write_name(head, i, out, at);
+        return write_name(head, i, out, at);
     }
     put_byte(out, at, b'(');
     let e = write_branches(head, list, k, x, x, out, at + 1);
@@ -115,7 +120,7 @@ fn write_child(
 }
 
 // The taxa of a child: of the leaf i where x is 0, else x.
-fn child_mask(i: Taxon, x: u64) -> u64
+pub fn child_mask(i: Taxon, x: u64) -> u64
     requires { ⌜ i .0 < 64 ⌝ }
     ensures { λ r. ⌜ r ≡ childMask (i .0) x ⌝ }
 {
@@ -126,7 +131,7 @@ fn child_mask(i: Taxon, x: u64) -> u64
 }
 
 // Of the first k masks of the list that are below m and have taxon i, the greatest; 0 where there is none.
-fn widest_in(list: &[u64], k: usize, m: u64, i: Taxon) -> u64
+pub fn widest_in(list: &[u64], k: usize, m: u64, i: Taxon) -> u64
     requires { ⌜ k ≤ length (now list) ⌝ }
     requires { ⌜ i .0 < 64 ⌝ }
     ensures { λ r. ⌜ r ≡ widest m (i .0) (take k (now (list .entry))) ⌝ }
@@ -153,13 +158,4 @@ fn wider_of(best: u64, x: u64, m: u64, i: Taxon) -> u64
         }
     }
     best
-}
-
-// Stores b at the place `at`, where out reaches it.
-pub(crate) fn put_byte(out: &mut [u8], at: usize, b: u8)
-    ensures { λ r. ⌜ now (out .exit) ≡ set (now (out .entry)) at b ⌝ }
-{
-    if at < out.len() {
-        out[at] = b;
-    }
 }

@@ -8,16 +8,16 @@ ghost use lib.Seq.{slice};
 ghost use Rattle.trees.specs.Opening.{headBytes};
 ghost use Rattle.trees.specs.Written.{doubled, wantsQuotes, underscored as underscoredByte, writtenName};
 ghost use Rattle.head.specs.Head.{nameAt};
-ghost use Rattle.writer.specs.Branch.{Put};
+ghost use Rattle.putting.specs.Put.{Put};
 ghost use Rattle.writer.specs.Name.{isPlain};
-use crate::put_byte;
 use answers::Taxon;
+use putting::put_byte;
 
 // Writes the name of taxon i as a label, as far as out reaches, and answers where it ends.
-pub(crate) fn write_name(head: &[u8], i: Taxon, out: &mut [u8], at: usize) -> usize
+pub fn write_name(head: &[u8], i: Taxon, out: &mut [u8], at: usize) -> usize
     requires { ⌜ headBytes ≤ length (now head) ⌝ }
     requires { ⌜ i .0 < 64 ⌝ }
-    requires { ⌜ at ≤ 65536 ⌝ }
+    requires { ⌜ at ≤ 9000000 ⌝ }
     ensures { λ e. ⌜ Put (now (out .entry)) at (writtenName (nameAt (now (head .entry)) (i .0))) (now (out .exit)) e ⌝ }
 {
     let b = 17 + 33 * i.0 as usize;
@@ -95,7 +95,7 @@ fn put_underscored(s: &[u8], b: usize, e: usize, out: &mut [u8], at: usize) -> u
     requires { ⌜ b ≤ e ⌝ }
     requires { ⌜ e ≤ length (now s) ⌝ }
     requires { ⌜ e ≤ b + 255 ⌝ }
-    requires { ⌜ at ≤ 65537 ⌝ }
+    requires { ⌜ at ≤ 9000001 ⌝ }
     ensures { λ r. ⌜ Put (now (out .entry)) at (map underscoredByte (slice b e (now (s .entry)))) (now (out .exit)) r ⌝ }
 {
     let mut end = at;
@@ -123,7 +123,7 @@ fn put_doubled(s: &[u8], b: usize, e: usize, out: &mut [u8], at: usize) -> usize
     requires { ⌜ b ≤ e ⌝ }
     requires { ⌜ e ≤ length (now s) ⌝ }
     requires { ⌜ e ≤ b + 255 ⌝ }
-    requires { ⌜ at ≤ 65537 ⌝ }
+    requires { ⌜ at ≤ 9000001 ⌝ }
     ensures { λ r. ⌜ Put (now (out .entry)) at (doubled (slice b e (now (s .entry)))) (now (out .exit)) r ⌝ }
     ensures { λ r. ⌜ r ≤ at + 510 ⌝ }
 {
@@ -138,7 +138,7 @@ fn put_doubled(s: &[u8], b: usize, e: usize, out: &mut [u8], at: usize) -> usize
 
 // Writes the byte b of a name in quotes, as far as out reaches, and answers where it ends.
 fn put_quoted(out: &mut [u8], at: usize, b: u8) -> usize
-    requires { ⌜ at ≤ 66047 ⌝ }
+    requires { ⌜ at ≤ 9000511 ⌝ }
     ensures { λ r. ⌜ Put (now (out .entry)) at (doubled (b ∷ [])) (now (out .exit)) r ⌝ }
     ensures { λ r. ⌜ r ≤ at + 2 ⌝ }
 {

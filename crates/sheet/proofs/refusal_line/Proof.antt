@@ -3,7 +3,8 @@ use Prim.Native.Nat.{ℕ}
 use native.Mathlib.Omega.{arith}
 use lib.ListN.{replicate, length-replicate}
 use borrow.Author.Needs.{needs}
-use Rattle.sheet.specs.AskedLaws.{put-taken, refusal-put, refusal-given}
+use Rattle.putting.specs.PutLaws.{put-taken}
+use Rattle.sheet.specs.AskedLaws.{refusal-put, refusal-given}
 use Rattle.sheet.proofs.refusal_line.Statement.{statement}
 use Rattle.sheet.proofs.refusal_line.Tie as tie
 

@@ -27,7 +27,7 @@ use Rattle.masks.proofs.is_empty.Reads as is-empty-reads
 use Rattle.masks.proofs.lowest_taxon.Reads as lowest-taxon-reads
 use Rattle.masks.proofs.taxa_without.Reads as taxa-without-reads
 use Rattle.writer.proofs.child_mask.Reads as child-mask-reads
-use Rattle.writer.proofs.put_byte.Reads as put-byte-reads
+use Rattle.putting.proofs.put_byte.Reads as put-byte-reads
 use Rattle.writer.proofs.widest_in.Reads as widest-in-reads
 use Rattle.writer.proofs.names.write_name.Reads as write-name-reads
 use Rattle.writer.proofs.+write_branches+write_child.{statement}

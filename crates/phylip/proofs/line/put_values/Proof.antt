@@ -3,8 +3,8 @@ use Prim.Native.Nat.{_+_, _≤_, _-_}
 use native.Mathlib.Omega.{arith}
 use mathlib.Core.Path.{refl}
 use lib.ListN.{length, drop}
-use Rattle.writer.specs.Branch.{Putting}
-use Rattle.writer.specs.PutLaws.{put-one, put-then, putting-start, putting-more, putting-end}
+use Rattle.putting.specs.Put.{Putting}
+use Rattle.putting.specs.PutLaws.{put-one, put-then, putting-start, putting-more, putting-end}
 use Rattle.phylip.specs.Writing.{valuesText}
 use Rattle.phylip.specs.LineLaws.{values-more, values-end, values-length}
 use Rattle.phylip.proofs.line.put_values.Statement.{statement}

@@ -7,10 +7,9 @@ use Rattle.trees.specs.Phylip.{rowText, rowTexts}
 use Rattle.layout.specs.Store.{treesHeldAt, heldAt}
 use Rattle.rows.specs.ReadLaws.{long}
 use Rattle.distances.specs.RowLaws.{row-length}
-use Rattle.writer.specs.Branch.{Putting}
-use Rattle.writer.specs.PutLaws.{putting-start, putting-more, putting-end}
+use Rattle.putting.specs.Put.{Putting}
+use Rattle.putting.specs.PutLaws.{put-as, putting-start, putting-more, putting-end}
 use Rattle.phylip.specs.Writing.{distanceRows, Values, Kept}
-use Rattle.phylip.specs.LineLaws.{put-as}
 use Rattle.phylip.specs.WritingLaws.{trees-most, row-values, row-there, kept-next, rows-more, rows-end, rows-few}
 use Rattle.phylip.proofs.writing.put_lines.Statement.{statement}
 use Rattle.phylip.proofs.writing.put_lines.Tie as tie

@@ -8,7 +8,7 @@ use Rattle.layout.specs.Store.{treesHeldAt}
 use Rattle.layout.specs.WholeFacts.{whole-at-facts}
 use Rattle.layout.specs.InsideLaws.{trees-few}
 use Rattle.rows.specs.ReadLaws.{long}
-use Rattle.writer.specs.Branch.{Put}
+use Rattle.putting.specs.Put.{Put}
 use Rattle.sheet.specs.LineLaws.{cell, rest, row-none, row-more, row-put}
 use Rattle.sheet.proofs.line.row_line.Statement.{statement}
 use Rattle.sheet.proofs.line.row_line.Tie as tie

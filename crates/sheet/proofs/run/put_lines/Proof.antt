@@ -6,7 +6,7 @@ use lib.ListN.{length, length-replicate}
 use Rattle.layout.specs.Store.{heldAt}
 use Rattle.sheet.specs.Sheet.{sheetLines}
 use Rattle.sheet.specs.SheetLaws.{sheet-length}
-use Rattle.sheet.specs.AskedLaws.{put-length, put-taken}
+use Rattle.putting.specs.PutLaws.{put-length, put-taken}
 use Rattle.sheet.specs.Run.{Printing}
 use Rattle.sheet.specs.RunLaws.{run-start, run-more, run-end, run-full, run-length}
 use Rattle.sheet.proofs.run.put_lines.Statement.{statement}

@@ -3,8 +3,8 @@ use Prim.Native.Nat.{_+_, _*_, _≤_, _-_}
 use native.Mathlib.Omega.{arith}
 use lib.Seq.{slice}
 use Rattle.trees.specs.Written.{doubled}
-use Rattle.writer.specs.Branch.{Putting}
-use Rattle.writer.specs.PutLaws.{putting-start, putting-more, putting-end}
+use Rattle.putting.specs.Put.{Putting}
+use Rattle.putting.specs.PutLaws.{putting-start, putting-more, putting-end}
 use Rattle.writer.specs.NameLaws.{doubled-more, doubled-end}
 use Rattle.writer.proofs.names.put_doubled.Statement.{statement}
 use Rattle.writer.proofs.names.put_doubled.Tie as tie

@@ -3,7 +3,7 @@ use Prim.Native.Nat.{_+_}
 use native.Mathlib.Omega.{arith}
 use mathlib.Core.Path.{_≡_}
 use borrow.Author.Needs.{needs}
-use Rattle.writer.specs.PutLaws.{put-one, put-then}
+use Rattle.putting.specs.PutLaws.{put-one, put-then}
 use Rattle.writer.specs.NameLaws.{doubled-other, doubled-quote}
 use Rattle.writer.proofs.names.put_quoted.Statement.{statement}
 use Rattle.writer.proofs.names.put_quoted.Tie as tie

@@ -5,8 +5,8 @@ use mathlib.Core.Path.{_≡_}
 use mathlib.Core.List.{map}
 use lib.Seq.{slice}
 use Rattle.trees.specs.Written.{underscored}
-use Rattle.writer.specs.Branch.{Putting}
-use Rattle.writer.specs.PutLaws.{put-one, putting-start, putting-more, putting-end}
+use Rattle.putting.specs.Put.{Putting}
+use Rattle.putting.specs.PutLaws.{put-one, putting-start, putting-more, putting-end}
 use Rattle.writer.specs.NameLaws.{underscored-more, underscored-end}
 use Rattle.writer.proofs.names.put_underscored.Statement.{statement}
 use Rattle.writer.proofs.names.put_underscored.Tie as tie
