@@ -22,7 +22,8 @@ use lib.ListN.{length, getD}
 use Rattle.trees.specs.Plain.{if_then_else_, bytes, byte}
 use Rattle.trees.specs.Consensus.{count}
 use Rattle.trees.specs.Written.{writtenName}
-use Rattle.trees.specs.Drawn.{branchTo, blank, drawnBranches}
+use Rattle.trees.specs.Drawn.{branchTo, blank}
+use Rattle.theorems.specs.DrawnBranches.{drawnBranches}
 
 unfoldable pub grownLines : List (List ℕ) → List (List ℕ) → List ℕ → ℕ → ℕ → List (List ℕ)
 unfolding drawnBranches

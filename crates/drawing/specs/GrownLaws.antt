@@ -13,7 +13,11 @@ use lib.ListN.{length}
 use borrow.Author.Tests.{eqb-true, eqb-false, eq-eqb, ne-eqb}
 use Rattle.trees.specs.Mask.{everyTaxon, without, lowest}
 use Rattle.trees.specs.Written.{widest}
-use Rattle.trees.specs.Drawn.{hung, blank, branch, drawnBranches, drawn}
+use Rattle.trees.specs.Names.{goodNames}
+use Rattle.trees.specs.Whole.{goodTree}
+use Rattle.trees.specs.Drawn.{hung, blank, branch, drawn}
+use Rattle.theorems.specs.DrawnBranches.{grouped, drawnBranches, drawnBy, drawn-step}
+use Rattle.theorems.specs.DrawnGroupLaws.{drawn-branches}
 use Rattle.writer.specs.Branch.{childMask, Ready, Step}
 use Rattle.writer.specs.BranchLaws.{mask-leaf, mask-inner, child-ok, child-less, rest-ready, rest-less, first-step}
 use Rattle.drawing.specs.Drawing.{grownLines, leafLine, groupBranch}
@@ -21,52 +25,26 @@ use Rattle.drawing.specs.TextLaws.{hung-length, branch-length}
 
 -- ---- one step, with f more
 
--- a child that is a group, and behind it the others
-abbrev group : List (List ℕ) → ℕ → List (List ℕ) → List (List ℕ) → List (List ℕ)
-group ts x ls rest = branch (hung (groupBranch ts x) (blank (groupBranch ts x)) ls) rest
-
 module _ (ns ts : List (List ℕ)) (s : List ℕ) where
-  abbrev drawnBy : Bool → Bool → ℕ → ℕ → ℕ → ℕ → ℕ → List (List ℕ)
-  drawnBy true c f m r i x = []
-  drawnBy false true f m r i x = branch (leafLine ns i ∷ []) (drawnBranches f ns ts s m (without r (2 ^ i)))
-  drawnBy false false f m r i x = group ts x (drawnBranches f ns ts s x x) (drawnBranches f ns ts s m (without r x))
-
-  drawn-step : (f m r : ℕ) → drawnBranches (suc f) ns ts s m r ≡ drawnBy (eqb r 0) (eqb (widest m (lowest r) s) 0) f m r (lowest r) (widest m (lowest r) s)
-  unfolding drawnBranches
-  drawn-step f m r = go (eqb r 0) (eqb (widest m (lowest r) s) 0)
-    where
-      go : (b c : Bool)
-          → elim b as (λ _. List (List ℕ)) [
-            | true ↦ []
-            | false ↦
-                elim c as (λ _. List (List ℕ)) [
-                  | true ↦ branch (leafLine ns (lowest r) ∷ []) (drawnBranches f ns ts s m (without r (2 ^ lowest r)))
-                  | false ↦ group ts (widest m (lowest r) s) (drawnBranches f ns ts s (widest m (lowest r) s) (widest m (lowest r) s)) (drawnBranches f ns ts s m (without r (widest m (lowest r) s)))
-                ]
-          ] ≡ drawnBy b c f m r (lowest r) (widest m (lowest r) s)
-      go true c = refl
-      go false true = refl
-      go false false = refl
-
   drawn-none : (f m r : ℕ) → r ≡ 0 → drawnBranches (suc f) ns ts s m r ≡ []
   drawn-none f m r z =
-      drawn-step f m r
-      ∙ ap (λ (b : Bool). drawnBy b (eqb (widest m (lowest r) s) 0) f m r (lowest r) (widest m (lowest r) s)) (eq-eqb r 0 z)
+      drawn-step ns ts s f m r
+      ∙ ap (λ (b : Bool). drawnBy ns ts s b (eqb (widest m (lowest r) s) 0) f m r (lowest r) (widest m (lowest r) s)) (eq-eqb r 0 z)
 
   module _ {n m r i x : ℕ} (k : Step n ns s m r i x) where
-    drawn-by : (f : ℕ) → drawnBranches (suc f) ns ts s m r ≡ drawnBy (eqb r 0) (eqb x 0) f m r i x
-    drawn-by f = rw (k .wide, k .smallest) (drawn-step f m r)
+    drawn-by : (f : ℕ) → drawnBranches (suc f) ns ts s m r ≡ drawnBy ns ts s (eqb r 0) (eqb x 0) f m r i x
+    drawn-by f = rw (k .wide, k .smallest) (drawn-step ns ts s f m r)
 
     drawn-leaf : (f : ℕ) → x ≡ 0 → drawnBranches (suc f) ns ts s m r ≡ branch (leafLine ns i ∷ []) (drawnBranches f ns ts s m (without r (childMask i x)))
     drawn-leaf f z =
-        drawn-by f ∙ ap₂ (λ (b c : Bool). drawnBy b c f m r i x) (ne-eqb r 0 (k .some)) (eq-eqb x 0 z)
+        drawn-by f ∙ ap₂ (λ (b c : Bool). drawnBy ns ts s b c f m r i x) (ne-eqb r 0 (k .some)) (eq-eqb x 0 z)
         ∙ ap (λ (c : ℕ). branch (leafLine ns i ∷ []) (drawnBranches f ns ts s m (without r c))) (sym (mask-leaf i x z))
 
     drawn-inner : (f : ℕ) → (x ≡ 0 → ⊥)
-        → drawnBranches (suc f) ns ts s m r ≡ group ts x (drawnBranches f ns ts s x x) (drawnBranches f ns ts s m (without r (childMask i x)))
+        → drawnBranches (suc f) ns ts s m r ≡ grouped ts x (drawnBranches f ns ts s x x) (drawnBranches f ns ts s m (without r (childMask i x)))
     drawn-inner f z =
-        drawn-by f ∙ ap₂ (λ (b c : Bool). drawnBy b c f m r i x) (ne-eqb r 0 (k .some)) (ne-eqb x 0 z)
-        ∙ ap (λ (c : ℕ). group ts x (drawnBranches f ns ts s x x) (drawnBranches f ns ts s m (without r c))) (sym (mask-inner i x z))
+        drawn-by f ∙ ap₂ (λ (b c : Bool). drawnBy ns ts s b c f m r i x) (ne-eqb r 0 (k .some)) (ne-eqb x 0 z)
+        ∙ ap (λ (c : ℕ). grouped ts x (drawnBranches f ns ts s x x) (drawnBranches f ns ts s m (without r c))) (sym (mask-inner i x z))
 
 -- ---- steps enough
 
@@ -88,7 +66,7 @@ module _ (n : ℕ) (ns ts : List (List ℕ)) (s : List ℕ) where
           drawn-leaf ns ts s k f z ∙ ap (branch (leafLine ns i ∷ [])) rest ∙ sym (drawn-leaf ns ts s k g z)
       go false e =
           let z = eqb-false x 0 e in
-          drawn-inner ns ts s k f z ∙ ap₂ (group ts x) (ih x x (child-ok k .ready z) (child-less k z)) rest ∙ sym (drawn-inner ns ts s k g z)
+          drawn-inner ns ts s k f z ∙ ap₂ (grouped ts x) (ih x x (child-ok k .ready z) (child-less k z)) rest ∙ sym (drawn-inner ns ts s k g z)
 
   enough : (f g m r : ℕ) → Ready n ns s m r → m + r < f → m + r < g → drawnBranches f ns ts s m r ≡ drawnBranches g ns ts s m r
   unfolding Alike
@@ -133,9 +111,10 @@ module _ (ts : List (List ℕ)) where
   unfolding grownLines
   lines-some {n} {ns} {s} {m} {r} p h = some-lines n ns ts s (suc (m + r)) m r p h (omega arith)
 
-  pub lines-root : (ns : List (List ℕ)) (s : List ℕ) → drawn ns ts s ≡ grownLines ns ts s (everyTaxon (length ns)) (everyTaxon (length ns))
-  unfolding drawn grownLines
-  lines-root ns s = refl
+  pub lines-root : (n : ℕ) (ns : List (List ℕ)) (s : List ℕ) → goodNames n ns ≡ true → goodTree n s ≡ true
+      → drawn ns ts s ≡ grownLines ns ts s (everyTaxon (length ns)) (everyTaxon (length ns))
+  unfolding grownLines
+  lines-root n ns s names good = drawn-branches n ns ts s names good
 
   module _ {n : ℕ} {ns : List (List ℕ)} {s : List ℕ} {m r i x : ℕ} (k : Step n ns s m r i x) where
     rest-grown : drawnBranches (m + r) ns ts s m (without r (childMask i x)) ≡ grownLines ns ts s m (without r (childMask i x))
@@ -152,4 +131,4 @@ module _ (ts : List (List ℕ)) where
     unfolding grownLines
     lines-inner z =
         drawn-inner ns ts s k (m + r) z
-        ∙ ap₂ (group ts x) (enough n ns ts s (m + r) (suc (x + x)) x x (child-ok k .ready z) (child-less k z) (omega arith)) rest-grown
+        ∙ ap₂ (grouped ts x) (enough n ns ts s (m + r) (suc (x + x)) x x (child-ok k .ready z) (child-less k z) (omega arith)) rest-grown

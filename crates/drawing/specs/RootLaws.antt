@@ -49,6 +49,10 @@ module _ (s : List ℕ) (w : wholeAt s ≡ true) where
   unfolding openingAt
   splits-good = majority-good (numbersAt s .taxa) ts (trees-good s w)
 
+  splits-held : goodTree (numbersAt s .taxa) (majority ts) ≡ true
+  unfolding openingAt
+  splits-held = splits-good
+
   pub drawing-ready : {a : ℕ} {ms : List ℕ} → a ≡ everyTaxon (numbersAt s .taxa) → ms ≡ majority ts → Ready (numbersAt s .taxa) (namesAt s) ms a a
   drawing-ready {a} e q = rw q (root-ready s (whole-at-facts s w .head .opening-good) (majority ts) splits-good a e)
 
@@ -86,4 +90,5 @@ module _ (s : List ℕ) (w : wholeAt s ≡ true) where
       → Put l at (drawnText [] (grownLines (namesAt s) ts ms a a)) after e → Put l at (bytesOf (drawnLines (heldAt s))) after e
   root-put {a} e z {ms} q p =
       let f : a ≡ everyTaxon (length (namesAt s)) = e ∙ ap everyTaxon (sym (names-length s)) in
-      put-as (rw (q, f) (ap (drawnText []) (sym (lines-root ts (namesAt s) (majority ts)))) ∙ text-root (drawn (namesAt s) ts (majority ts)) ∙ ap bytesOf (sym (lines-are z))) p
+      let r = drawing-ready e q in
+      put-as (rw (q, f) (ap (drawnText []) (sym (lines-root ts (numbersAt s .taxa) (namesAt s) (majority ts) (r .names) splits-held))) ∙ text-root (drawn (namesAt s) ts (majority ts)) ∙ ap bytesOf (sym (lines-are z))) p

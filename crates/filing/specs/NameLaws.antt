@@ -16,7 +16,8 @@ use lib.Seq.{drop-cons}
 use borrow.Author.Tests.{lt-ltb, le-ltb, eq-eqb, ne-eqb}
 use Rattle.trees.specs.Plain.{if_then_else_}
 use Rattle.trees.specs.Text.{turned, withByte, parts}
-use Rattle.filing.specs.Names.{namesIn, taxaOf, spacesAt}
+use Rattle.trees.specs.Names.{nameCount}
+use Rattle.filing.specs.Names.{taxaOf, spacesAt}
 
 module _ (q : Bool) (b : ℕ) where
   pub space-quoted : q ≡ true → 0 ≡ spacesAt q b
@@ -52,8 +53,8 @@ names-step q b s = go (not q && eqb b 32)
     go true = omega arith
     go false = omega (arith, with-length b (parts 32 (turned q b) s))
 
-pub names-all : (s : List ℕ) → length (parts 32 false (drop 0 s)) ≡ namesIn s
-unfolding namesIn
+pub names-all : (s : List ℕ) → length (parts 32 false (drop 0 s)) ≡ nameCount s
+unfolding nameCount
 names-all s = refl
 
 pub names-more : (q : Bool) (s : List ℕ) (i : ℕ) → i < length s → (n : ℕ) (r : Bool) → n ≡ spacesAt q (getD s i 0) → r ≡ turned q (getD s i 0)

@@ -10,24 +10,23 @@ use lib.ListN.{length, getD, drop, drop-of-length-le}
 use lib.Seq.{drop-cons}
 use borrow.Author.Tests.{lt-ltb, le-ltb}
 use Rattle.trees.specs.Plain.{if_then_else_, keep}
-use Rattle.trees.specs.Batch.{isRefusal}
-use Rattle.filing.specs.Verdicts.{refusalsIn}
+use Rattle.trees.specs.Batch.{isRefusal, refusedIn}
 
 module _ (v : List ℕ) (i : ℕ) where
-  rest-cons : i < length v → refusalsIn (drop i v) ≡ length (if isRefusal (getD v i 0) then getD v i 0 ∷ keep isRefusal (drop (i + 1) v) else keep isRefusal (drop (i + 1) v))
-  unfolding refusalsIn keep
+  rest-cons : i < length v → refusedIn (drop i v) ≡ length (if isRefusal (getD v i 0) then getD v i 0 ∷ keep isRefusal (drop (i + 1) v) else keep isRefusal (drop (i + 1) v))
+  unfolding refusedIn keep
   rest-cons h = rw (drop-cons v i 0 h, add-one i)
 
-  rest-is : refusalsIn (drop (i + 1) v) ≡ length (keep isRefusal (drop (i + 1) v))
-  unfolding refusalsIn keep
+  rest-is : refusedIn (drop (i + 1) v) ≡ length (keep isRefusal (drop (i + 1) v))
+  unfolding refusedIn keep
   rest-is = refl
 
-  pub verdict-refused : i < length v → getD v i 0 < 256 → refusalsIn (drop i v) ≡ suc (refusalsIn (drop (i + 1) v))
+  pub verdict-refused : i < length v → getD v i 0 < 256 → refusedIn (drop i v) ≡ suc (refusedIn (drop (i + 1) v))
   verdict-refused h e = rest-cons h ∙ rw (lt-ltb (getD v i 0) 256 e, rest-is) refl
 
-  pub verdict-accepted : i < length v → 256 ≤ getD v i 0 → refusalsIn (drop i v) ≡ refusalsIn (drop (i + 1) v)
+  pub verdict-accepted : i < length v → 256 ≤ getD v i 0 → refusedIn (drop i v) ≡ refusedIn (drop (i + 1) v)
   verdict-accepted h e = rest-cons h ∙ rw (le-ltb (getD v i 0) 256 e, rest-is) refl
 
-  pub verdicts-none : length v ≤ i → refusalsIn (drop i v) ≡ 0
-  unfolding refusalsIn keep
+  pub verdicts-none : length v ≤ i → refusedIn (drop i v) ≡ 0
+  unfolding refusedIn keep
   verdicts-none h = rw (drop-of-length-le v h)

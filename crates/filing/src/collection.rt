@@ -7,7 +7,8 @@ ghost use mathlib.Core.Path.{_≡_};
 ghost use Prim.Native.Nat.{_+_, _≤_};
 ghost use Rattle.io.specs.Counts.{Counts};
 ghost use Rattle.trees.specs.Text.{turned};
-ghost use Rattle.filing.specs.Names.{namesIn, taxaOf, spacesAt};
+ghost use Rattle.trees.specs.Names.{nameCount};
+ghost use Rattle.filing.specs.Names.{taxaOf, spacesAt};
 
 // The rooms, and as many hash places as they allow.
 const TREE_ROOM: u32 = 1024;
@@ -59,7 +60,7 @@ fn open_line(path: &[u8], lanes: u32, names: &[u8], lent: &mut [u8]) -> u32
 // How many names the line has, one more than its spaces outside quotes; 0, where they are more than there can be taxa.
 fn taxa_in(line: &[u8]) -> u32
     ensures { λ r. ⌜ r ≤ 64 ⌝ }
-    ensures { λ r. ⌜ r ≡ taxaOf (namesIn (now (line .entry))) ⌝ }
+    ensures { λ r. ⌜ r ≡ taxaOf (nameCount (now (line .entry))) ⌝ }
 {
     let mut spaces = 0;
     let mut quoted = false;

@@ -8,7 +8,7 @@ use libc::STDERR_FILENO;
 ghost use mathlib.Core.Path.{_≡_};
 ghost use Rattle.io.specs.Counts.{Counts};
 ghost use Rattle.answers.specs.Answers.{finishGiven};
-ghost use Rattle.filing.specs.Verdicts.{refusalsIn, refusalOf};
+ghost use Rattle.trees.specs.Batch.{refusedIn, refusedAfter};
 
 // The least verdict that is no refusal: an accepted tree's number is given with 256 added.
 const TAKEN: u32 = 256;
@@ -62,7 +62,7 @@ pub fn put_verdicts(
     verdicts: &[u32],
     before: Waiting,
 ) -> Told
-    ensures { λ r. ⌜ r .refused ≡ refusalsIn (now (verdicts .entry)) ⌝ }
+    ensures { λ r. ⌜ r .refused ≡ refusedIn (now (verdicts .entry)) ⌝ }
 {
     let mut waiting = before;
     let mut refused = 0;
@@ -100,7 +100,7 @@ pub fn put_closing(
     answer: Finish,
     before: Waiting,
 ) -> Told
-    ensures { λ r. ⌜ r .refused ≡ refusalOf (finishGiven answer) ⌝ }
+    ensures { λ r. ⌜ r .refused ≡ refusedAfter 0 (finishGiven answer) ⌝ }
 {
     match answer {
         Finish::Done => Told {

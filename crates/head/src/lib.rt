@@ -190,6 +190,15 @@ fn find_name(
     Found::Nothing
 }
 
+// Whether taxon i has this name.
+pub fn has_name(s: &[u8], i: Taxon, name: &[u8]) -> bool
+    requires { ⌜ headBytes ≤ length (now s) ⌝ }
+    requires { ⌜ i .0 < 64 ⌝ }
+    ensures { λ r. ⌜ r ≡ sameBytes (nameAt (now (s .entry)) (i .0)) (now (name .entry)) ⌝ }
+{
+    name_is(s, i.0 as usize, name, 0, name.len())
+}
+
 // Whether the name of taxon i is the bytes of the text from b up to e.
 fn name_is(s: &[u8], i: usize, text: &[u8], b: usize, e: usize) -> bool
     requires { ⌜ headBytes ≤ length (now s) ⌝ }

@@ -11,7 +11,7 @@
 --   words       decimal-once
 --   records     mask-of-once, place-of-once, identifier-of-once, insert-record-once, put-record-once
 --   head        taxa-once, lanes-once, tree-room-once, split-room-once, places-once, kept-once, first-constant-once,
---               second-constant-once, find-taxon-once, key-of-once, same-runs-once
+--               second-constant-once, find-taxon-once, has-name-once, key-of-once, same-runs-once
 --   opening     numbers-in-range-once, constants-good-once, read-names-once, names-good-once, store-size-once, write-head-once
 --   layout      trees-held-once, splits-held-once, lane-from-once, tree-from-once, masks-from-once, identifiers-from-once, counts-
 --               from-once, links-from-once, order-from-once, places-from-once, branches-from-once, lengths-from-once, number16-once
@@ -73,6 +73,7 @@ use Rattle.head.proofs.kept.Reads as kept
 use Rattle.head.proofs.first_constant.Reads as first-constant
 use Rattle.head.proofs.second_constant.Reads as second-constant
 use Rattle.head.proofs.find_taxon.Reads as find-taxon
+use Rattle.head.proofs.has_name.Reads as has-name
 use Rattle.head.proofs.key_of.Reads as key-of
 use Rattle.head.proofs.same_runs.Reads as same-runs
 use Rattle.opening.proofs.numbers_in_range.Reads as numbers-in-range
@@ -272,6 +273,9 @@ second-constant-once k x q r y z a b = both a b
 
 pub find-taxon-once : AnswerOnce find-taxon.Post
 find-taxon-once k x q r y z a b = both (a .0) (b .0)
+
+pub has-name-once : AnswerOnce has-name.Post
+has-name-once k x q r y z a b = both a b
 
 pub key-of-once : AnswerOnce key-of.Post
 key-of-once k x q r y z a b = both (a .0) (b .0)

@@ -19,6 +19,7 @@ use denote.Ref.{now}
 use Rattle.trees.specs.Plain.{Answer, refused, gives}
 use Rattle.trees.specs.Opening.{Opening}
 use Rattle.trees.specs.Held.{Held, opened, closing}
+use Rattle.trees.specs.Batch.{refusedIn, refusedAfter}
 use Rattle.theorems.specs.OwnLaneLaws.{closing-opening}
 use Rattle.answers.specs.declared.Finish.{Finish}
 use Rattle.answers.specs.declared.Finish.the-variants as finish
@@ -34,7 +35,6 @@ use Rattle.summary.specs.declared.LinePart.{LinePart}
 use Rattle.summary.specs.declared.Summing.{Summing}
 use Rattle.summary.specs.declared.Summing.the-variants as summing
 use Rattle.summary.specs.declared.Taken.{Taken}
-use Rattle.summary.specs.Summary.{refusedIn, refusedAfter}
 use Rattle.summary.specs.FirstLine.{Kept, keptOf, keptOpening}
 use Rattle.summary.specs.Texts.{capped, textsFed, textsCount, TextsAs, closedCount, ClosedAs}
 use Rattle.summary.specs.PartLaws.{counted, holds-then}

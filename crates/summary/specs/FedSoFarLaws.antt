@@ -16,7 +16,7 @@ use Rattle.trees.specs.Plain.{Answer, refused, gives}
 use Rattle.trees.specs.Text.{openAfter, hasEnd}
 use Rattle.trees.specs.Opening.{Opening}
 use Rattle.trees.specs.Held.{Held, holding, Fed, opened, laneOf, withLane, openIn, longer, closing}
-use Rattle.trees.specs.Batch.{textsIn, isRefusal, Batched, batching}
+use Rattle.trees.specs.Batch.{textsIn, isRefusal, Batched, batching, refusedIn, refusedAfter}
 use Rattle.theorems.specs.ListLaws.{keep-most}
 use Rattle.theorems.specs.PieceLaws.{set-replicate, getD-all}
 use Rattle.answers.specs.declared.Number.{Number}
@@ -32,7 +32,6 @@ use Rattle.feeding.specs.Texts.{textsAt}
 use Rattle.feeding.specs.CutLaws.{LaneThere, fed-open, joined, batching-opening}
 use Rattle.summary.specs.declared.Summing.{Summing}
 use Rattle.summary.specs.declared.Summing.the-variants as summing
-use Rattle.summary.specs.Summary.{refusedIn, refusedAfter}
 use Rattle.summary.specs.Texts.{capped, textsFed, TextsAs, closedCount, ClosedAs}
 use Rattle.summary.specs.TextsLaws.{capped-more}
 use Rattle.summary.specs.PartLaws.{lane-whole, texts-most, counted, refused-append, fed-more}

@@ -17,9 +17,10 @@ use lib.ListN.{length, take, set}
 use Rattle.trees.specs.Plain.{if_then_else_, member, byte, Answer}
 use Rattle.trees.specs.Text.{turned, openAfter}
 use Rattle.trees.specs.Opening.{Opening}
+use Rattle.trees.specs.Names.{nameCount}
 use Rattle.summary.specs.declared.LinePart.{LinePart}
 use Rattle.summary.specs.declared.Taken.{Taken}
-use Rattle.summary.specs.Summary.{firstLine, nameCount, namesOpening}
+use Rattle.summary.specs.Summary.{firstLine, namesOpening}
 
 pub record Kept : Type 0 where
   pub used : ℕ

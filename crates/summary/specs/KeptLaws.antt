@@ -16,13 +16,13 @@ use lib.Seq.{take-all, take-append-le, take-suc-set, set-out, length-take-le}
 use borrow.Author.Tests.{lt-ltb, le-ltb, eqb-true}
 use Rattle.trees.specs.Plain.{if_then_else_, every}
 use Rattle.trees.specs.Text.{isLabelByte, isQuotedByte, turned, openAfter, withByte, parts, isQuoted, isLabel, spaced, unquoted, readAs}
-use Rattle.trees.specs.Names.{nameOf, namesIn, isName, different, goodNames}
+use Rattle.trees.specs.Names.{nameOf, namesIn, isName, different, goodNames, nameCount}
 use Rattle.trees.specs.Opening.{opening}
 use Rattle.theorems.specs.ListLaws.{and-left, and-right, less-or-not}
 use Rattle.theorems.specs.QuoteLaws.{open-append}
 use Rattle.theorems.specs.NameLaws.{isName-some, isName-short}
 use Rattle.theorems.specs.LabelLaws.{plain-reads, QuotedLabel, label-cases}
-use Rattle.summary.specs.Summary.{nameCount, summaryNumbers, namesOpening, summaryOpening}
+use Rattle.summary.specs.Summary.{summaryNumbers, namesOpening, summaryOpening}
 use Rattle.summary.specs.FirstLine.{Kept, few, Keeps, spacesWith, usedWith, keptWith, keptAfter, keptOpening}
 use Rattle.summary.specs.OpeningLaws.{many-names}
 

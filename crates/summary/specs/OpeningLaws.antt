@@ -18,7 +18,7 @@ use lib.Seq.{take-all}
 use borrow.Author.Tests.{le-leb, lt-leb}
 use Rattle.theorems.specs.ListLaws.{less-or-not}
 use Rattle.trees.specs.Plain.{if_then_else_, Answer, refused, gives}
-use Rattle.trees.specs.Names.{namesIn, goodNames}
+use Rattle.trees.specs.Names.{namesIn, goodNames, nameCount}
 use Rattle.trees.specs.Opening.{Opening, storeSize, between, inRange, goodConstants, opening}
 use Rattle.answers.specs.declared.Finish.{Finish}
 use Rattle.answers.specs.declared.Finish.the-variants as finish
@@ -32,7 +32,7 @@ use Rattle.opening.specs.GivenLaws.{range-not-taxa}
 use Rattle.table.specs.Promises.{OpenedAs}
 use Rattle.answers.specs.FrontLaws.{copied-more, copied-all}
 use Rattle.table.specs.OpenLaws.{not-in-range, refused-as}
-use Rattle.summary.specs.Summary.{nameCount, summaryNumbers, firstConstant, secondConstant, namesOpening, summaryOpening, summaryBytes}
+use Rattle.summary.specs.Summary.{summaryNumbers, firstConstant, secondConstant, namesOpening, summaryOpening, summaryBytes}
 use Rattle.summary.specs.FirstLine.{Kept, keptOpening}
 
 -- ---- constants

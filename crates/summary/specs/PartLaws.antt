@@ -23,7 +23,7 @@ use Rattle.trees.specs.Plain.{if_then_else_, keep, Answer, refused, gives}
 use Rattle.trees.specs.Opening.{Numbers}
 use Rattle.trees.specs.Text.{turned, endsText, openAfter}
 use Rattle.trees.specs.Held.{Held, laneOf, openIn}
-use Rattle.trees.specs.Batch.{textsIn, isRefusal, Batched, batching, batch}
+use Rattle.trees.specs.Batch.{textsIn, isRefusal, Batched, batching, batch, refusedIn}
 use Rattle.theorems.specs.ListLaws.{keep-append}
 use Rattle.answers.specs.declared.Number.{Number}
 use Rattle.answers.specs.declared.Number.the-variants as number
@@ -40,7 +40,6 @@ use Rattle.feeding.specs.Feeding.{batchOf, BatchedAs}
 use Rattle.feeding.specs.BatchLaws.{none-front, none-back}
 use Rattle.feeding.specs.Texts.{textsAt}
 use Rattle.feeding.specs.CutLaws.{LaneThere, joined, batching-opening, batching-open, batching-append}
-use Rattle.summary.specs.Summary.{refusedIn}
 use Rattle.summary.specs.Texts.{part, capped, textsFed, textsCount, TextsAs}
 use Rattle.summary.specs.TextsLaws.{capped-more}
 

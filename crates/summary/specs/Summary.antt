@@ -1,12 +1,9 @@
 -- The summary program: what `treesum` prints for an input.
 --
 --   firstLine s, behindLine s     the first line of s, and what stands behind its end
---   nameCount line                how many names the first line has: one more than its spaces outside quotes
 --   firstConstant, secondConstant     the constants of taxon i
 --   namesOpening n list lent      the opening of n taxa with a name list, in `lent` bytes, or its refusal
 --   summaryOpening line lent      the opening that the first line asks for
---   refusedIn vs                  how many of the verdicts vs of a batch are refusals
---   refusedAfter n a              n refused texts, and one more where the closing's answer a is a refusal
 --   summaryLines o texts          the lines printed behind an accepted opening
 --   printedLines a texts          the lines printed where the opening is a, or its refusal
 --   linesFor input                all lines that are printed
@@ -17,11 +14,11 @@ use mathlib.Core.Bool.{false}
 use mathlib.Core.List.{List, [], _∷_}
 use lib.Dec.{eqb}
 use lib.ListN.{length}
-use Rattle.trees.specs.Plain.{if_then_else_, keep, bytes, byte, Answer, refused, gives}
-use Rattle.trees.specs.Text.{parts}
+use Rattle.trees.specs.Plain.{if_then_else_, bytes, byte, Answer, refused, gives}
 use Rattle.trees.specs.Opening.{Numbers, Opening, opening}
 use Rattle.trees.specs.Held.{opened, closing}
-use Rattle.trees.specs.Batch.{textsIn, isRefusal, Batched, batching}
+use Rattle.trees.specs.Batch.{textsIn, refusedIn, refusedAfter, Batched, batching}
+use Rattle.trees.specs.Names.{nameCount}
 use Rattle.head.specs.Head.{upTo}
 use Rattle.putting.specs.Lines.{bytesOf}
 use Rattle.sheet.specs.Sheet.{sheetLines, refusalLine}
@@ -34,11 +31,6 @@ firstLine (b ∷ s) = if eqb b (byte "\n") then [] else b ∷ firstLine s
 unfoldable pub behindLine : List ℕ → List ℕ
 behindLine [] = []
 behindLine (b ∷ s) = if eqb b (byte "\n") then s else behindLine s
-
--- "the names are counted as spaces plus one", by "quoted names, whose spaces neither part names nor are counted"
-unfoldable pub nameCount : List ℕ → ℕ
-unfolding parts
-nameCount line = length (parts (byte " ") false line)
 
 -- "one lane, closed at the end, 48 trees, 256 splits"; two places a split; no lengths are kept: "if not (as in `treesum`), all is as before"
 unfoldable pub summaryNumbers : ℕ → Numbers
@@ -64,15 +56,6 @@ summaryOpening line lent = namesOpening (nameCount line) line lent
 -- the bytes that such a store takes: 4,096 + 4,616 + 128 · 48 + 24 · 256 + 2 · 512
 abbrev pub summaryBytes : ℕ
 summaryBytes = 22024
-
-unfoldable pub refusedIn : List ℕ → ℕ
-unfolding keep
-refusedIn vs = length (keep isRefusal vs)
-
--- "a refused closing included"
-unfoldable pub refusedAfter : ℕ → Answer (Unit {0}) → ℕ
-refusedAfter n (refused k) = suc n
-refusedAfter n (gives x) = n
 
 -- the sheet of what is held when all texts are fed to lane 0 and it is closed
 unfoldable pub closedSheet : Batched → List (List ℕ)

@@ -24,7 +24,7 @@ use lib.ListN.{length, drop}
 use Rattle.trees.specs.Plain.{member, byte, Answer, refused, gives}
 use Rattle.trees.specs.Opening.{Opening}
 use Rattle.trees.specs.Held.{opened, laneOf, openIn, closing}
-use Rattle.trees.specs.Batch.{textsIn, batching, Batched}
+use Rattle.trees.specs.Batch.{textsIn, batching, Batched, refusedIn, refusedAfter}
 use Rattle.answers.specs.declared.Finish.{Finish}
 use Rattle.answers.specs.declared.Finish.the-variants as finish
 use Rattle.answers.specs.declared.Number.{Number}
@@ -43,7 +43,7 @@ use Rattle.summary.specs.declared.LinePart.{LinePart}
 use Rattle.summary.specs.declared.Summing.{Summing}
 use Rattle.summary.specs.declared.Summing.the-variants as summing
 use Rattle.summary.specs.declared.Taken.{Taken}
-use Rattle.summary.specs.Summary.{firstLine, behindLine, summaryBytes, summaryOpening, refusedIn, refusedAfter, linesFor}
+use Rattle.summary.specs.Summary.{firstLine, behindLine, summaryBytes, summaryOpening, linesFor}
 use Rattle.summary.specs.FirstLine.{Kept, Keeps, keptOf, TakenAs, keptOpening}
 use Rattle.summary.specs.Texts.{capped, textsFed, TextsAs, ClosedAs}
 

@@ -14,7 +14,7 @@ use mathlib.Core.List.{List}
 use lib.Dec.{ltb}
 use Rattle.trees.specs.Plain.{if_then_else_, Answer, gives}
 use Rattle.trees.specs.Held.{Held, laneOf, openIn, closing}
-use Rattle.trees.specs.Batch.{textsIn, noneAccepted, Batched, batching}
+use Rattle.trees.specs.Batch.{textsIn, noneAccepted, Batched, batching, refusedIn, refusedAfter}
 use Rattle.answers.specs.declared.Number.{Number}
 use Rattle.answers.specs.Answers.{numberGiven}
 use Rattle.layout.specs.Store.{heldAt}
@@ -22,7 +22,6 @@ use Rattle.layout.specs.WholeStore.{wholeAt}
 use Rattle.store.specs.Lent.{ifWhole, Holds}
 use Rattle.feeding.specs.Feeding.{SameOutside}
 use Rattle.feeding.specs.Texts.{textsAt}
-use Rattle.summary.specs.Summary.{refusedIn, refusedAfter}
 
 abbrev pub part : ℕ
 part = 4096

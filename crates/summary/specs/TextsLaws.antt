@@ -17,7 +17,7 @@ use borrow.Author.Tests.{lt-ltb, le-ltb}
 use Rattle.theorems.specs.ListLaws.{less-or-not}
 use Rattle.trees.specs.Plain.{if_then_else_, keep, Answer, refused, gives}
 use Rattle.trees.specs.Held.{Closed, closing}
-use Rattle.trees.specs.Batch.{isRefusal}
+use Rattle.trees.specs.Batch.{isRefusal, refusedIn, refusedAfter}
 use Rattle.answers.specs.declared.Number.the-variants as number
 use Rattle.answers.specs.declared.Refusal.the-variants as why
 use Rattle.answers.specs.declared.Finish.{Finish}
@@ -31,7 +31,6 @@ use Rattle.store.specs.Lent.{Holds}
 use Rattle.store.specs.LentLaws.{not-whole, when-whole}
 use Rattle.feeding.specs.Feeding.{reached, closedOf}
 use Rattle.feeding.specs.Feeding as feeding
-use Rattle.summary.specs.Summary.{refusedIn, refusedAfter}
 use Rattle.summary.specs.Texts.{capped, closedCount, ClosedAs}
 
 -- ---- one verdict after another

@@ -4,8 +4,8 @@
 ghost use mathlib.Core.Path.{_≡_};
 ghost use Prim.Native.Nat.{_+_, _≤_};
 ghost use lib.ListN.{length, take};
+ghost use Rattle.trees.specs.Batch.{refusedIn, refusedAfter};
 ghost use Rattle.answers.specs.Answers.{finishGiven};
-ghost use Rattle.summary.specs.Summary.{refusedIn, refusedAfter};
 ghost use Rattle.summary.specs.Texts.{part, capped, TextsAs, ClosedAs};
 use answers::Finish;
 use answers::Lane;

@@ -42,8 +42,8 @@ use Rattle.layout.specs.OrderLaws.{mask-same}
 use Rattle.store.specs.RecordedAtLaws.{trees-length, tree-at, member-at, recorded-length, recorded-mask}
 use Rattle.store.specs.LentLaws.{when-whole}
 use Rattle.table.specs.Asked.{splitLengthsAsked}
-use Rattle.table.specs.declared.lengths.Branch.{Branch}
-use Rattle.table.specs.declared.lengths.Branch.the-variants.{Lacking, Having}
+use Rattle.table.specs.declared.branches.Branch.{Branch}
+use Rattle.table.specs.declared.branches.Branch.the-variants.{Lacking, Having}
 use Rattle.table.specs.SplitLengths.{branchFound, inTree, goOn, lengthsLeft, rowLengths}
 
 -- ---- what is left of the lengths

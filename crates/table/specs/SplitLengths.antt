@@ -17,8 +17,8 @@ use Rattle.trees.specs.Questions.{ifGiven, lengthFor, lengthsFor}
 use Rattle.doubles.specs.Stored.{branchGiven}
 use Rattle.weighing.specs.Summed.{withLength}
 use Rattle.layout.specs.Store.{maskAt, heldAt}
-use Rattle.table.specs.declared.lengths.Branch.{Branch}
-use Rattle.table.specs.declared.lengths.Branch.the-variants.{Lacking, Having}
+use Rattle.table.specs.declared.branches.Branch.{Branch}
+use Rattle.table.specs.declared.branches.Branch.the-variants.{Lacking, Having}
 
 unfoldable pub branchFound : Branch → Option Length
 unfolding branchGiven

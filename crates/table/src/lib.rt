@@ -3,11 +3,11 @@
 //
 // What the calls mean is said in crate trees, `specs/Opening.antt` and `specs/Questions.antt`, what they
 // answer in crate answers, and what lent bytes hold in crate layout, `specs/Store.antt`.
-mod lengths;
+mod branches;
 mod opening_calls;
 mod questions;
 
-pub use lengths::split_lengths;
+pub use branches::split_lengths;
 pub use opening_calls::open;
 pub use opening_calls::size;
 pub use questions::one_split;

@@ -1,8 +1,7 @@
 -- Each group of a tree is drawn once: on the branch to it stands how many trees have it.
 --
---   picture ns ts t          the lines of the nodes t, where the branch to each inner node has the number of the trees ts that have its taxa
 --   groupsOn ns t            the taxa of each inner node, from top to bottom
---   drawn-picture            what is drawn is the picture of the written tree
+--   drawn-branches           what is drawn is what code finds by masks
 --   groups-drawn-exactly     the groups on its branches are exactly the splits that it was made of
 --   groups-drawn-once        and none stands on two branches
 use Prim.Native.Nat.{ℕ, zero, suc, _+_, _^_, _≤_, _<_}
@@ -15,16 +14,16 @@ use mathlib.Core.List.{List, [], _∷_, _++_}
 use mathlib.Core.Option.{none}
 use lib.Bits.{bitXor}
 use lib.Dec.{eqb}
+use lib.ListN.{length}
 use borrow.Author.Tests.{eqb-true, eqb-false}
 use Rattle.trees.specs.Plain.{bytes}
 use Rattle.trees.specs.Mask.{everyTaxon, without, lowest}
 use Rattle.trees.specs.Tree.{Nodes, nil, leaf, inner, children}
 use Rattle.trees.specs.Names.{goodNames}
 use Rattle.trees.specs.Splits.{taxa}
-use Rattle.trees.specs.Consensus.{count}
 use Rattle.trees.specs.Written.{widest, branches, treeOf}
 use Rattle.trees.specs.Whole.{goodTree}
-use Rattle.trees.specs.Drawn.{hung, branchTo, blank, branch, drawnBranches, drawn}
+use Rattle.trees.specs.Drawn.{branch, picture, drawn}
 use Rattle.theorems.specs.ListLaws.{Mem, mem-left, mem-right, mem-cases}
 use Rattle.theorems.specs.BitLaws.{On, Sub, Dis, on-xor, sub-le, less-sub, less-dis, less-lt}
 use Rattle.theorems.specs.OnesLaws.{pos-of-ones}
@@ -36,16 +35,7 @@ use Rattle.theorems.specs.BranchLaws.{labelOf, Closed, on-pos, lt-or-eq,
 use Rattle.theorems.specs.TreeOfLaws.{branchesBy, branches-step, Made, made}
 use Rattle.theorems.specs.WrittenLaws.{split-below}
 use Rattle.theorems.specs.InTurnLaws.{InTurn, turn-append}
-use Rattle.theorems.specs.DrawnLaws.{drawnBy, drawn-step}
-
--- the lines ls behind a branch to a group, above the lines ks
-abbrev grouped : List (List ℕ) → ℕ → List (List ℕ) → List (List ℕ) → List (List ℕ)
-grouped ts x ls ks = branch (hung (branchTo (count ts x)) (blank (branchTo (count ts x))) ls) ks
-
-unfoldable pub picture : List (List ℕ) → List (List ℕ) → Nodes → List (List ℕ)
-picture ns ts nil = []
-picture ns ts (leaf w e r) = branch ((bytes "- " ++ w) ∷ []) (picture ns ts r)
-picture ns ts (inner c e r) = grouped ts (taxa ns c) (picture ns ts c) (picture ns ts r)
+use Rattle.theorems.specs.DrawnBranches.{grouped, drawnBranches, drawnBy, drawn-step}
 
 unfoldable pub groupsOn : List (List ℕ) → Nodes → List ℕ
 groupsOn ns nil = []
@@ -182,15 +172,19 @@ module _ (n : ℕ) (ns ts : List (List ℕ)) (s : List ℕ) (names : goodNames n
 
   -- ---- the written tree
 
-  root-pictured : Pictured ns ts s (everyTaxon n) (everyTaxon n) (drawn ns ts s) (children (treeOf ns s))
-  unfolding Drew Closed drawn treeOf children
+  abbrev all : ℕ
+  all = everyTaxon (length ns)
+
+  root-pictured : Pictured ns ts s (everyTaxon n) (everyTaxon n) (drawnBranches (suc (all + all)) ns ts s all all) (children (treeOf ns s))
+  unfolding Drew Closed treeOf children
   root-pictured =
       subst (λ (k : ℕ). Pictured ns ts s (everyTaxon n) (everyTaxon n) (drawnBranches (suc (everyTaxon k + everyTaxon k)) ns ts s (everyTaxon k) (everyTaxon k)) (branches (suc (everyTaxon k + everyTaxon k)) ns s (everyTaxon k) (everyTaxon k)))
       (sym (good-count n ns names))
       (drew (suc (everyTaxon n + everyTaxon n)) (everyTaxon n) (everyTaxon n) (omega arith) (λ i h. h) (λ i h. h) (λ y h l. inl (proper-sub n y (split-proper n ns s names good y h))))
 
-  pub drawn-picture : drawn ns ts s ≡ picture ns ts (children (treeOf ns s))
-  drawn-picture = root-pictured .same
+  pub drawn-branches : drawn ns ts s ≡ drawnBranches (suc (everyTaxon (length ns) + everyTaxon (length ns))) ns ts s (everyTaxon (length ns)) (everyTaxon (length ns))
+  unfolding drawn
+  drawn-branches = sym (root-pictured .same)
 
   pub groups-drawn-exactly : (m : ℕ) → Mem m (groupsOn ns (children (treeOf ns s))) ↔ Mem m s
   groups-drawn-exactly m =

@@ -112,4 +112,5 @@ pub mod InTurnLaws
 pub mod TaxaInLaws
 pub mod StandInLaws
 pub mod DrawnLaws
+pub mod DrawnBranches
 pub mod DrawnGroupLaws

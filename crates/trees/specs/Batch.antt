@@ -4,6 +4,8 @@
 --   verdictNumber a       a verdict as a number: the refusal's, or 256 more than the tree's
 --   isRefusal v           the verdict v is a refusal's number
 --   noneAccepted vs       so are all the verdicts vs
+--   refusedIn vs          how many of the verdicts vs are refusals
+--   refusedAfter n a      n refused texts, and one more where the closing's answer a is a refusal
 --   Batched               the verdicts, and what is held afterwards
 --   batching n h l p      feeding the piece p to lane l again and again, each time the rest: n texts, and what is behind them
 --   batch h l p room      the same as a call, with room for so many verdicts
@@ -12,7 +14,7 @@ use mathlib.Core.Bool.{Bool}
 use mathlib.Core.List.{List, [], _∷_}
 use lib.Dec.{ltb}
 use lib.ListN.{length, drop}
-use Rattle.trees.specs.Plain.{if_then_else_, every, Answer, refused, gives}
+use Rattle.trees.specs.Plain.{if_then_else_, every, keep, Answer, refused, gives}
 use Rattle.trees.specs.Text.{turned, endsText}
 use Rattle.trees.specs.Held.{Held, Progress, moreWanted, accepted, laneOf, openIn, feeding}
 
@@ -36,6 +38,15 @@ isRefusal v = ltb v 256
 unfoldable pub noneAccepted : List ℕ → Bool
 unfolding every
 noneAccepted vs = every isRefusal vs
+
+unfoldable pub refusedIn : List ℕ → ℕ
+unfolding keep
+refusedIn vs = length (keep isRefusal vs)
+
+-- "a refused closing included"
+unfoldable pub refusedAfter : ℕ → Answer (Unit {0}) → ℕ
+refusedAfter n (refused k) = suc n
+refusedAfter n (gives x) = n
 
 pub record Batched : Type 0 where
   pub verdicts : List ℕ

@@ -3,18 +3,17 @@
 --
 --   hung a b ls           the lines ls, with a before the first and b before each other
 --   branchTo k            the branch to a group that k trees have
---   drawnBranches ..      the lines of the children of a node with the taxa m, from those that have the taxa r, as `branches` of Written has them
---   drawn ns ts s         the lines of the tree of the splits s, over the names ns; they are counted in the trees ts
-use Prim.Native.Nat.{ℕ, zero, suc, _+_, _^_}
-use mathlib.Core.Bool.{true, false}
+--   branch ls rest        a branch of a node, with the lines ls, and the lines of the branches that follow
+--   picture ns ts t       the lines of the nodes t, over the names ns; groups are counted in the trees ts
+--   drawn ns ts s         the lines of the tree of the splits s
+use Prim.Native.Nat.{ℕ}
 use mathlib.Core.List.{List, [], _∷_, _++_, map}
-use lib.Dec.{eqb}
-use lib.ListN.{length, getD}
 use Rattle.trees.specs.Plain.{bytes, byte}
-use Rattle.trees.specs.Mask.{everyTaxon, without, lowest}
 use Rattle.trees.specs.Decimal.{digitsOf}
+use Rattle.trees.specs.Tree.{Nodes, nil, leaf, inner, children}
+use Rattle.trees.specs.Splits.{taxa}
 use Rattle.trees.specs.Consensus.{count}
-use Rattle.trees.specs.Written.{writtenName, widest}
+use Rattle.trees.specs.Written.{treeOf}
 
 unfoldable pub hung : List ℕ → List ℕ → List (List ℕ) → List (List ℕ)
 hung a b [] = []
@@ -34,29 +33,20 @@ unfoldable pub below : List (List ℕ) → List ℕ
 below [] = byte " " ∷ []
 below (l ∷ ls) = byte "|" ∷ []
 
--- a branch of a node, and behind it the lines of the branches that follow
 unfoldable pub branch : List (List ℕ) → List (List ℕ) → List (List ℕ)
 unfolding hung below
 branch ls rest = hung (byte "+" ∷ []) (below rest) ls ++ rest
 
--- f is more than enough steps
-unfoldable pub drawnBranches : ℕ → List (List ℕ) → List (List ℕ) → List ℕ → ℕ → ℕ → List (List ℕ)
-unfolding hung branchTo blank branch bytes count lowest widest without writtenName
-drawnBranches zero ns ts s m r = []
-drawnBranches (suc f) ns ts s m r =
-    let i = lowest r in
-    let x = widest m i s in
-    let k = branchTo (count ts x) in
-    elim (eqb r 0) [
-      | true ↦ []
-      | false ↦
-          elim (eqb x 0) [
-            | true ↦ branch ((bytes "- " ++ writtenName (getD ns i [])) ∷ []) (drawnBranches f ns ts s m (without r (2 ^ i)))
-            | false ↦ branch (hung k (blank k) (drawnBranches f ns ts s x x)) (drawnBranches f ns ts s m (without r x))
-          ]
-    ]
+-- "one line a strain": a leaf has its label, an inner node the lines of its children behind its branch
+unfoldable pub picture : List (List ℕ) → List (List ℕ) → Nodes → List (List ℕ)
+unfolding hung branchTo blank branch bytes taxa count
+picture ns ts nil = []
+picture ns ts (leaf w e r) = branch ((bytes "- " ++ w) ∷ []) (picture ns ts r)
+picture ns ts (inner c e r) =
+    let k = branchTo (count ts (taxa ns c)) in
+    branch (hung k (blank k) (picture ns ts c)) (picture ns ts r)
 
--- "one line a strain"
+-- "the majority tree drawn": the written one
 unfoldable pub drawn : List (List ℕ) → List (List ℕ) → List ℕ → List (List ℕ)
-unfolding drawnBranches everyTaxon
-drawn ns ts s = let all = everyTaxon (length ns) in drawnBranches (suc (all + all)) ns ts s all all
+unfolding picture treeOf children
+drawn ns ts s = picture ns ts (children (treeOf ns s))

@@ -2,6 +2,7 @@
 --
 --   taxonOf ns w      the taxon that the label w names, or nothing
 --   namesIn s         the names of a name list: what the parts of s between its spaces read as
+--   nameCount s       how many they are: one more than its spaces outside quotes
 --   isName w          a name, as it is read: 1 to 32 bytes
 --   different ws      no name comes twice
 --   goodNames n ns    n different names
@@ -34,6 +35,11 @@ nameOf w = if isLabel w then readAs w else []
 unfoldable pub namesIn : List ℕ → List (List ℕ)
 unfolding parts nameOf
 namesIn s = map nameOf (parts (byte " ") false s)
+
+-- "the names are counted as spaces plus one", by "quoted names, whose spaces neither part names nor are counted"
+unfoldable pub nameCount : List ℕ → ℕ
+unfolding parts
+nameCount line = length (parts (byte " ") false line)
 
 -- "bytes of a taxon name", the most
 abbrev pub mostName : ℕ

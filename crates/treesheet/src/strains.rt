@@ -59,29 +59,12 @@ fn named_so(name: &[u8], taxa: u32, lent: &[u8]) -> u32
 {
     let mut i = 0;
     while i < taxa {
-        if has_name(lent, i as usize, name) {
+        if head::has_name(lent, Taxon(i), name) {
             return i;
         }
         i += 1;
     }
     UNKNOWN
-}
-
-// Whether strain i has this name: the collection keeps its length, and its bytes behind it.
-fn has_name(lent: &[u8], i: usize, name: &[u8]) -> bool
-    requires { ⌜ i < 64 ⌝ }
-    requires { ⌜ 4096 ≤ length (now lent) ⌝ }
-{
-    let b = 17 + 33 * i;
-    let e = b + wide(lent[b - 1]);
-    filing::same(&lent[b..e], name)
-}
-
-// A byte as a number of places.
-fn wide(x: u8) -> usize
-    ensures { λ r. ⌜ r < 256 ⌝ }
-{
-    x as usize
 }
 
 // The strain that has this label in the sheet.

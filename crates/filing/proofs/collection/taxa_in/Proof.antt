@@ -5,13 +5,14 @@ use native.Mathlib.Omega.{arith}
 use lib.ListN.{length, drop}
 use borrow.Author.Needs.{needs}
 use Rattle.trees.specs.Text.{parts}
-use Rattle.filing.specs.Names.{namesIn, taxaOf}
+use Rattle.trees.specs.Names.{nameCount}
+use Rattle.filing.specs.Names.{taxaOf}
 use Rattle.filing.specs.NameLaws.{names-all, names-more, names-last}
 use Rattle.filing.proofs.collection.taxa_in.Statement.{statement}
 use Rattle.filing.proofs.collection.taxa_in.Tie as tie
 
 abbrev Inv-loop : tie.InvT-loop
-Inv-loop line spaces₀ quoted₀ i₀ spaces quoted i = (i ≤ length line) × (spaces ≤ i) × (spaces + length (parts 32 quoted (drop i line)) ≡ namesIn line)
+Inv-loop line spaces₀ quoted₀ i₀ spaces quoted i = (i ≤ length line) × (spaces ≤ i) × (spaces + length (parts 32 quoted (drop i line)) ≡ nameCount line)
 
 abbrev μ-loop : tie.MeasureT-loop
 μ-loop line spaces₀ quoted₀ i₀ spaces quoted i = length line - i
@@ -30,7 +31,7 @@ returns : tie.Need-returns Inv-loop μ-loop
 returns c =
     let l = c .before .before .loop in
     let s = c .before .before .before .before .args .line .now in
-    let e : l .spaces + 1 ≡ namesIn s = omega (arith, names-last (l .quoted) s (l .i) (omega arith), l .inv .2) in
+    let e : l .spaces + 1 ≡ nameCount s = omega (arith, names-last (l .quoted) s (l .i) (omega arith), l .inv .2) in
     (c .one-more .ensures .0, c .one-more .ensures .1 ∙ ap taxaOf e)
 
 pub taxa-in-spec : {M : Type 1} → statement M

@@ -5,14 +5,14 @@ use mathlib.Core.Logic.{⊎-elim}
 use native.Mathlib.Omega.{arith}
 use lib.ListN.{length, drop}
 use borrow.Author.Needs.{needs}
-use Rattle.filing.specs.Verdicts.{refusalsIn}
+use Rattle.trees.specs.Batch.{refusedIn}
 use Rattle.filing.specs.VerdictLaws.{verdict-refused, verdict-accepted, verdicts-none}
 use Rattle.filing.proofs.telling.put_verdicts.Statement.{statement}
 use Rattle.filing.proofs.telling.put_verdicts.Tie as tie
 
 abbrev Inv-loop : tie.InvT-loop
 Inv-loop out₀ name first verdicts waiting₀ refused₀ i₀ out waiting refused i =
-    (length out ≡ length out₀) × (i ≤ length verdicts) × (refused ≤ i) × (refused + refusalsIn (drop i verdicts) ≡ refusalsIn verdicts)
+    (length out ≡ length out₀) × (i ≤ length verdicts) × (refused ≤ i) × (refused + refusedIn (drop i verdicts) ≡ refusedIn verdicts)
 
 abbrev μ-loop : tie.MeasureT-loop
 μ-loop out₀ name first verdicts waiting₀ refused₀ i₀ out waiting refused i = length verdicts - i

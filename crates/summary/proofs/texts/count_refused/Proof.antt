@@ -5,7 +5,7 @@ use mathlib.Core.Logic.{⊎-elim}
 use native.Mathlib.Omega.{arith}
 use lib.ListN.{length, take, drop}
 use lib.Seq.{length-take-le, getD-take}
-use Rattle.summary.specs.Summary.{refusedIn}
+use Rattle.trees.specs.Batch.{refusedIn}
 use Rattle.summary.specs.TextsLaws.{verdict-refused, verdict-accepted, verdicts-none}
 use Rattle.summary.proofs.texts.count_refused.Statement.{statement}
 use Rattle.summary.proofs.texts.count_refused.Tie as tie

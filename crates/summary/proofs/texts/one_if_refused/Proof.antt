@@ -1,8 +1,8 @@
 -- `summary::texts::one_if_refused` meets its contract. Assumes nothing.
 use mathlib.Core.Path.{sym, ap}
 use borrow.Author.Needs.{needs}
+use Rattle.trees.specs.Batch.{refusedAfter}
 use Rattle.answers.specs.Answers.{finishGiven}
-use Rattle.summary.specs.Summary.{refusedAfter}
 use Rattle.summary.proofs.texts.one_if_refused.Statement.{statement}
 use Rattle.summary.proofs.texts.one_if_refused.Tie as tie
 

@@ -1,4 +1,4 @@
--- `table::lengths::row_lengths` meets its contract. The loop's invariant: the three so far and the trees from i on decide. Assumes nothing.
+-- `table::branches::row_lengths` meets its contract. The loop's invariant: the three so far and the trees from i on decide. Assumes nothing.
 use Prim.Native.Nat.{_+_, _≤_, _-_}
 use native.Mathlib.Omega.{arith}
 use mathlib.Core.Path.{_≡_, refl, sym, ap, _∙_}
@@ -11,8 +11,8 @@ use Rattle.answers.specs.AnswerLaws.{lengths-refused, lengths-given}
 use Rattle.rows.specs.ReadLaws.{long}
 use Rattle.table.specs.SplitLengths.{goOn, lengthsLeft, rowLengths}
 use Rattle.table.specs.SplitLengthLaws.{none-met, tree-lacking, tree-absent, tree-given, trees-over}
-use Rattle.table.proofs.lengths.row_lengths.Statement.{statement}
-use Rattle.table.proofs.lengths.row_lengths.Tie as tie
+use Rattle.table.proofs.branches.row_lengths.Statement.{statement}
+use Rattle.table.proofs.branches.row_lengths.Tie as tie
 
 abbrev Inv-loop : tie.InvT-loop
 Inv-loop s row trees lengths₀ met₀ i₀ lengths met i = (i ≤ trees) × (goOn met (sumsGiven lengths) (lengthsLeft s row i) ≡ rowLengths s row)

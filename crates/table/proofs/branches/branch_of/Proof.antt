@@ -1,4 +1,4 @@
--- `table::lengths::branch_of` meets its contract. The loop's invariant: what stands in the tree's list from j on decides. Assumes nothing.
+-- `table::branches::branch_of` meets its contract. The loop's invariant: what stands in the tree's list from j on decides. Assumes nothing.
 use Prim.Native.Nat.{_≤_, _-_}
 use mathlib.Core.Path.{_≡_, sym, ap, _∙_}
 use mathlib.Core.Option.{some}
@@ -8,8 +8,8 @@ use Rattle.layout.specs.Store.{maskAt, listAt, treeAt, branchesAt}
 use Rattle.layout.specs.WholeFacts.{whole-at-facts}
 use Rattle.table.specs.SplitLengths.{branchFound, inTree}
 use Rattle.table.specs.SplitLengthLaws.{here, further, nowhere, each-branch, few-splits, branch-good, by-rows}
-use Rattle.table.proofs.lengths.branch_of.Statement.{statement}
-use Rattle.table.proofs.lengths.branch_of.Tie as tie
+use Rattle.table.proofs.branches.branch_of.Statement.{statement}
+use Rattle.table.proofs.branches.branch_of.Tie as tie
 
 abbrev Inv-loop : tie.InvT-loop
 Inv-loop s i row from n j₀ j =

@@ -1,4 +1,4 @@
--- `table::lengths::split_lengths` meets its contract. Assumes nothing.
+-- `table::branches::split_lengths` meets its contract. Assumes nothing.
 use native.Mathlib.Omega.{arith}
 use mathlib.Core.Path.{sym, _∙_}
 use borrow.Author.Needs.{needs}
@@ -8,8 +8,8 @@ use Rattle.store.specs.LentLaws.{not-whole}
 use Rattle.rows.specs.ReadLaws.{long, row-below}
 use Rattle.layout.specs.WholeFacts.{whole-at-facts}
 use Rattle.table.specs.SplitLengthLaws.{lengths-missing, lengths-not-kept, lengths-found}
-use Rattle.table.proofs.lengths.split_lengths.Statement.{statement}
-use Rattle.table.proofs.lengths.split_lengths.Tie as tie
+use Rattle.table.proofs.branches.split_lengths.Statement.{statement}
+use Rattle.table.proofs.branches.split_lengths.Tie as tie
 
 returns-2 : tie.Need-returns-2
 returns-2 c =

@@ -1,9 +1,9 @@
--- `table::lengths::with_length` meets its contract. Assumes nothing.
+-- `table::branches::with_length` meets its contract. Assumes nothing.
 use borrow.Author.Needs.{needs}
 use mathlib.Core.Path.{_∙_, sym}
 use Rattle.theorems.specs.ListLaws.{if-true, if-false}
-use Rattle.table.proofs.lengths.with_length.Statement.{statement}
-use Rattle.table.proofs.lengths.with_length.Tie as tie
+use Rattle.table.proofs.branches.with_length.Statement.{statement}
+use Rattle.table.proofs.branches.with_length.Tie as tie
 
 pub with-length-spec : {M : Type 1} → statement M
 with-length-spec =
