@@ -27,6 +27,7 @@ pub mod Texts
 pub mod TextLaws
 pub mod CopyLaws
 pub mod KeptLaws
+pub mod Named
 pub mod Verdicts
 pub mod VerdictLaws
 pub mod LineTextLaws
