@@ -28,6 +28,8 @@ pub mod TextLaws
 pub mod CopyLaws
 pub mod KeptLaws
 pub mod Named
+pub mod Keyed
+pub mod NamingLaws
 pub mod Verdicts
 pub mod VerdictLaws
 pub mod LineTextLaws
