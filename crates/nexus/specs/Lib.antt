@@ -30,6 +30,7 @@ pub mod KeptLaws
 pub mod Named
 pub mod Keyed
 pub mod NamingLaws
+pub mod RenamedLaws
 pub mod Verdicts
 pub mod VerdictLaws
 pub mod LineTextLaws

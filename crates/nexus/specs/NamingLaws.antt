@@ -8,14 +8,15 @@ use Prim.Native.Nat.{ℕ, suc, _+_, _-_, _*_, _≤_, _<_}
 use native.Mathlib.Numerals.{add-one}
 use native.Mathlib.Omega.{arith}
 use mathlib.Core.Path.{_≡_, refl, sym, ap, ap₂, subst, _∙_}
-use mathlib.Core.Bool.{Bool, true, false, _||_}
+use mathlib.Core.Bool.{Bool, true, false, _||_, _&&_}
 use mathlib.Core.Logic.{⊎-elim}
 use mathlib.Core.List.{List, [], _∷_, _++_, map, append-nil}
 use lib.Dec.{eqb}
 use lib.ListN.{length, getD, set, drop, length-set, length-append, length-drop, drop-of-length-le}
 use lib.Seq.{slice, getD-set-same, getD-set-other}
-use Rattle.trees.specs.Plain.{every, member}
-use Rattle.trees.specs.Text.{apostrophe}
+use borrow.Author.Tests.{eqb-false, ne-eqb, not-true}
+use Rattle.trees.specs.Plain.{every, member, byte}
+use Rattle.trees.specs.Text.{semicolon, apostrophe}
 use Rattle.trees.specs.Held.{mostText}
 use Rattle.trees.specs.Nexus.{Pair, uncommented}
 use Rattle.trees.specs.NexusCall.{nameOf, keysOf}
@@ -37,13 +38,15 @@ use Rattle.nexus.specs.Keyed.{Bare, NameAt, NamesAs}
 no-quote : (w : List ℕ) → every plain w ≡ true → member apostrophe w ≡ false
 unfolding every member
 no-quote [] e = refl
-no-quote (b ∷ w) e = quoteless b (and-left (plain b) (every plain w) e) (no-quote w (and-right (plain b) (every plain w) e))
-  where
-    quoteless : (b : ℕ) → plain b ≡ true → {t : Bool} → t ≡ false → (eqb 39 b || t) ≡ false
-    quoteless b p f = ?
+no-quote (b ∷ w) e =
+    let p = and-left (plain b) (every plain w) e in
+    let q : other apostrophe b ≡ true = and-right (other (byte "[") b) (other apostrophe b) (and-right (other semicolon b) (other (byte "[") b && other apostrophe b) p) in
+    let n : eqb apostrophe b ≡ false = ne-eqb apostrophe b (λ x. eqb-false b apostrophe (not-true (eqb b apostrophe) q) (sym x)) in
+    ap (λ (t : Bool). t || member apostrophe w) n ∙ no-quote w (and-right (plain b) (every plain w) e)
 
 module _ (s : List ℕ) (i : ℕ) (k : Skipped s 0 i) (r : ℕ) (p : PlainEnd s i r) where
   pub bare-here : length s ≤ r → length s - i ≤ mostText → Bare s i
+  unfolding uncommented
   bare-here h m = record {
     short = omega (arith, length-drop i s);
     quoteless = no-quote (drop i s) all-plain;
@@ -57,7 +60,6 @@ module _ (s : List ℕ) (i : ℕ) (k : Skipped s 0 i) (r : ℕ) (p : PlainEnd s 
       all-plain = subst (λ l. every plain l ≡ true) whole (run-every s i r p)
 
       as-it-is : uncommented false (drop i s) ≡ drop i s
-      unfolding uncommented
       as-it-is = ap (uncommented false) (sym (append-nil (drop i s))) ∙ plain-append plain refl refl (drop i s) [] all-plain ∙ append-nil (drop i s)
 
 -- ---- names

@@ -1,4 +1,6 @@
+use native.Mathlib.Omega.{arith}
 use borrow.Author.Needs.{needs}
+use Rattle.nexus.specs.NamingLaws.{bare-here}
 use Rattle.nexus.proofs.keyed.bare_from.Statement.{statement}
 use Rattle.nexus.proofs.keyed.bare_from.Tie as tie
 use Rattle.nexus.proofs.keyed.bare_from.Reads as reads
@@ -20,7 +22,7 @@ add-result c = search needs
 
 -- src/keyed.rt:28:9
 returns : tie.Need-returns
-returns c = ?
+returns c = λ h. absurd (omega arith)
 
 -- src/keyed.rt:30:20
 sub-if2 : tie.Need-sub-if2
@@ -32,11 +34,11 @@ add-result-2 c = search needs
 
 -- src/keyed.rt:31:9
 returns-2 : tie.Need-returns-2
-returns-2 c = ?
+returns-2 c = λ h. absurd (omega arith)
 
 -- src/keyed.rt:23:1
 returns-3 : tie.Need-returns-3
-returns-3 c = ?
+returns-3 c = λ h. bare-here _ _ (c .before .before .before .before .skip .ensures) _ (c .before .before .before .past-plain .ensures) (omega arith) (omega arith)
 
 pub bare-from-spec : {M : Type 1} → statement M
 bare-from-spec =

@@ -1,3 +1,10 @@
+use Prim.Native.Nat.{_-_, _≤_}
+use native.Mathlib.Omega.{arith}
+use mathlib.Core.Path.{_≡_, refl}
+use borrow.Author.Needs.{needs}
+use lib.ListN.{length}
+use Rattle.nexus.specs.Commands.{pairsIn}
+use Rattle.nexus.specs.NamingLaws.{Naming, naming-none, naming-more, naming-done, naming-over}
 use Rattle.nexus.proofs.keyed.name_leaves.Statement.{statement}
 use Rattle.nexus.proofs.keyed.name_leaves.Tie as tie
 use Rattle.nexus.proofs.keyed.name_leaves.Reads as reads
@@ -6,10 +13,10 @@ use Rattle.nexus.proofs.keys.find_key.Reads as find-key-reads
 use Rattle.nexus.proofs.keys.name_at.Reads as name-at-reads
 
 abbrev Inv-loop : tie.InvT-loop
-Inv-loop list n places starts links text k tokens names₀ bytes₀ j₀ names bytes j = ?
+Inv-loop list n places starts links text k tokens names₀ bytes₀ j₀ names bytes j = Naming (pairsIn list n places) list text tokens j bytes names × (j ≤ k) × (length names ≡ 130)
 
 abbrev μ-loop : tie.MeasureT-loop
-μ-loop list n places starts links text k tokens names₀ bytes₀ j₀ names bytes j = ?
+μ-loop list n places starts links text k tokens names₀ bytes₀ j₀ names bytes j = k - j
 
 -- src/keyed.rt:56:5
 loop-holds : tie.Need-loop-holds Inv-loop μ-loop
