@@ -28,6 +28,7 @@ pub mod TextLaws
 pub mod CopyLaws
 pub mod KeptLaws
 pub mod Named
+pub mod NamedTextLaws
 pub mod Verdicts
 pub mod VerdictLaws
 pub mod LineTextLaws
