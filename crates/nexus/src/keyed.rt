@@ -2,7 +2,7 @@
 // front alone. Most trees of most files are such, and writing and reading their plain texts would take a third of the time.
 ghost use mathlib.Core.Path.{_≡_};
 ghost use mathlib.Core.Bool.{false};
-ghost use Prim.Native.Nat.{_≤_};
+ghost use Prim.Native.Nat.{_*_, _≤_};
 ghost use lib.ListN.{length};
 ghost use Rattle.trees.specs.NexusCall.{keysOf};
 ghost use Rattle.head.specs.Index.{Indexed};
@@ -44,11 +44,12 @@ pub(crate) fn name_leaves(
     text: &[u8],
     k: usize,
     tokens: &[u16; TOKENS],
-    names: &mut [u16; TOKENS],
+    names: &mut [u16],
 ) -> usize
     requires { ⌜ Placed (now list) n (now places) ⌝ }
     requires { ⌜ Indexed (keysOf (pairsIn (now list) n (now places))) (now starts) (now links) ⌝ }
     requires { ⌜ (k ≤ mostKeyed) × Tokens (now text) (now tokens) k ⌝ }
+    requires { ⌜ 2 * mostKeyed ≤ length (now names) ⌝ }
     ensures { λ r. ⌜ NamesAs (pairsIn (now (list .entry)) n (now (places .entry))) (now (list .entry)) (now (text .entry)) (now (tokens .entry)) k r (now (names .exit)) ⌝ }
 {
     let mut bytes = 0;

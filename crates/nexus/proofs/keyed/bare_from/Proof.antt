@@ -1,44 +1,33 @@
+-- `nexus::keyed::bare_from` meets its contract. Assumes nothing.
 use native.Mathlib.Omega.{arith}
 use borrow.Author.Needs.{needs}
 use Rattle.nexus.specs.NamingLaws.{bare-here}
 use Rattle.nexus.proofs.keyed.bare_from.Statement.{statement}
 use Rattle.nexus.proofs.keyed.bare_from.Tie as tie
-use Rattle.nexus.proofs.keyed.bare_from.Reads as reads
-use Rattle.nexus.proofs.keyed.bare_from.Lts as lts
-use Rattle.nexus.proofs.commands.past_plain.Reads as past-plain-reads
-use Rattle.nexus.proofs.comments.skip.Reads as skip-reads
 
--- src/keyed.rt:26:9
 skip-requires : tie.Need-skip-requires
 skip-requires c κs = search needs
 
--- src/keyed.rt:27:8
 past-plain-requires : tie.Need-past-plain-requires
 past-plain-requires c κs = search needs
 
--- src/keyed.rt:28:16
 add-result : tie.Need-add-result
 add-result c = search needs
 
--- src/keyed.rt:28:9
 returns : tie.Need-returns
 returns c = λ h. absurd (omega arith)
 
--- src/keyed.rt:30:20
 sub-if2 : tie.Need-sub-if2
 sub-if2 c = search needs
 
--- src/keyed.rt:31:16
 add-result-2 : tie.Need-add-result-2
 add-result-2 c = search needs
 
--- src/keyed.rt:31:9
 returns-2 : tie.Need-returns-2
 returns-2 c = λ h. absurd (omega arith)
 
--- src/keyed.rt:23:1
 returns-3 : tie.Need-returns-3
-returns-3 c = λ h. bare-here _ _ (c .before .before .before .before .skip .ensures) _ (c .before .before .before .past-plain .ensures) (omega arith) (omega arith)
+returns-3 c = λ h. bare-here _ _ (c .before .before .before .skip .ensures) _ (c .before .before .past-plain .ensures) (omega arith) (omega arith)
 
 pub bare-from-spec : {M : Type 1} → statement M
 bare-from-spec =

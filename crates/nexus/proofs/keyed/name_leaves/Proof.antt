@@ -1,154 +1,88 @@
-use Prim.Native.Nat.{_-_, _≤_}
+-- `nexus::keyed::name_leaves` meets its contract. The loop's invariant: the names of the first j leaves are noted. Assumes nothing.
+use Prim.Native.Nat.{_-_, _*_, _≤_}
 use native.Mathlib.Omega.{arith}
 use mathlib.Core.Path.{_≡_, refl}
-use borrow.Author.Needs.{needs}
-use lib.ListN.{length}
+use lib.ListN.{length, length-set}
 use Rattle.nexus.specs.Commands.{pairsIn}
 use Rattle.nexus.specs.NamingLaws.{Naming, naming-none, naming-more, naming-done, naming-over}
 use Rattle.nexus.proofs.keyed.name_leaves.Statement.{statement}
 use Rattle.nexus.proofs.keyed.name_leaves.Tie as tie
-use Rattle.nexus.proofs.keyed.name_leaves.Reads as reads
-use Rattle.nexus.proofs.keyed.name_leaves.Lts as lts
-use Rattle.nexus.proofs.keys.find_key.Reads as find-key-reads
-use Rattle.nexus.proofs.keys.name_at.Reads as name-at-reads
 
 abbrev Inv-loop : tie.InvT-loop
-Inv-loop list n places starts links text k tokens names₀ bytes₀ j₀ names bytes j = Naming (pairsIn list n places) list text tokens j bytes names × (j ≤ k) × (length names ≡ 130)
+Inv-loop list n places starts links text k tokens names₀ bytes₀ j₀ names bytes j =
+    Naming (pairsIn list n places) list text tokens j bytes names × (j ≤ k) × (length names ≡ length names₀)
 
 abbrev μ-loop : tie.MeasureT-loop
 μ-loop list n places starts links text k tokens names₀ bytes₀ j₀ names bytes j = k - j
 
--- src/keyed.rt:56:5
-loop-holds : tie.Need-loop-holds Inv-loop μ-loop
-loop-holds c = ?
-
--- src/keyed.rt:57:24
-mul-b : tie.Need-mul-b Inv-loop μ-loop
-mul-b c = ?
-
--- src/keyed.rt:57:17
-mul-b-2 : tie.Need-mul-b-2 Inv-loop μ-loop
-mul-b-2 c = ?
-
--- src/keyed.rt:57:17
-element-copy-out-b : tie.Need-element-copy-out-b Inv-loop μ-loop
-element-copy-out-b c = ?
-
--- src/keyed.rt:57:17
 cast-b : tie.Need-cast-b Inv-loop μ-loop
-cast-b c = ?
+cast-b c =
+    let l = c .before .before in
+    let p = l .before .before .before .before .before .pre .1 .1 .0 .1 in
+    omega (arith, p .begins (l .loop .j) (c .before .loop-test .taken), p .ends (l .loop .j) (c .before .loop-test .taken))
 
--- src/keyed.rt:58:24
-mul-e : tie.Need-mul-e Inv-loop μ-loop
-mul-e c = ?
-
--- src/keyed.rt:58:24
-add-e : tie.Need-add-e Inv-loop μ-loop
-add-e c = ?
-
--- src/keyed.rt:58:17
-mul-e-2 : tie.Need-mul-e-2 Inv-loop μ-loop
-mul-e-2 c = ?
-
--- src/keyed.rt:58:17
-element-copy-out-e : tie.Need-element-copy-out-e Inv-loop μ-loop
-element-copy-out-e c = ?
-
--- src/keyed.rt:58:17
 cast-e : tie.Need-cast-e Inv-loop μ-loop
-cast-e c = ?
+cast-e c =
+    let l = c .before .before .before in
+    let p = l .before .before .before .before .before .pre .1 .1 .0 .1 in
+    omega (arith, p .ends (l .loop .j) (c .before .before .loop-test .taken))
 
--- src/keyed.rt:59:13
 find-key-requires : tie.Need-find-key-requires Inv-loop μ-loop
-find-key-requires c κs = ?
+find-key-requires c κs =
+    let l = c .before .before .before in
+    let p = l .before .before .before .before .before .pre in
+    let below = c .before .before .loop-test .taken in
+    (p .0, (p .1 .0, (p .1 .1 .0 .1 .begins _ below, p .1 .1 .0 .1 .ends _ below)))
 
--- src/keyed.rt:61:13
-returns : tie.Need-returns Inv-loop μ-loop
-returns c = ?
-
--- src/keyed.rt:63:42
-sub-name-at : tie.Need-sub-name-at Inv-loop μ-loop
-sub-name-at c = ?
-
--- src/keyed.rt:63:13
 name-at-requires : tie.Need-name-at-requires Inv-loop μ-loop
-name-at-requires c κs = ?
+name-at-requires c κs =
+    let p = c .before .before .before .before .before .before .before .before .before .before .pre .0 in
+    omega (arith, p .reach, c .before .find-key .ensures .1, c .if1 .left)
 
--- src/keyed.rt:65:13
-returns-2 : tie.Need-returns-2 Inv-loop μ-loop
-returns-2 c = ?
-
--- src/keyed.rt:67:12
-sub-if3 : tie.Need-sub-if3 Inv-loop μ-loop
-sub-if3 c = ?
-
--- src/keyed.rt:67:32
 sub-if3-2 : tie.Need-sub-if3-2 Inv-loop μ-loop
-sub-if3-2 c = ?
+sub-if3-2 c =
+    let p = c .before .before .before .before .before .before .before .before .before .before .before .before .before .before .pre .0 in
+    let f = c .before .before .before .before .before .find-key in
+    let t = c .before .before .before .name-at .ensures in
+    let z = c .before .before .before .before .if1 .left in
+    let n = p .names (f .result - 1) (omega (arith, f .ensures .1)) in
+    omega (arith, t .0, t .1, n .0)
 
--- src/keyed.rt:68:13
-returns-3 : tie.Need-returns-3 Inv-loop μ-loop
-returns-3 c = ?
-
--- src/keyed.rt:70:24
 cast-names : tie.Need-cast-names Inv-loop μ-loop
-cast-names c = ?
+cast-names c =
+    let p = c .before .before .before .before .before .before .before .before .before .before .before .before .before .before .before .before .pre .0 in
+    let f = c .before .before .before .before .before .before .before .find-key in
+    let t = c .before .before .before .before .before .name-at .ensures in
+    let z = c .before .before .before .before .before .before .if1 .left in
+    let n = p .names (f .result - 1) (omega (arith, f .ensures .1)) in
+    omega (arith, t .0, t .1, n .0, c .before .before .before .if2 .left)
 
--- src/keyed.rt:70:15
-mul-names : tie.Need-mul-names Inv-loop μ-loop
-mul-names c = ?
-
--- src/keyed.rt:70:9
-mul-names-2 : tie.Need-mul-names-2 Inv-loop μ-loop
-mul-names-2 c = ?
-
--- src/keyed.rt:70:9
-element-write-names : tie.Need-element-write-names Inv-loop μ-loop
-element-write-names c = ?
-
--- src/keyed.rt:71:28
-cast-names-2 : tie.Need-cast-names-2 Inv-loop μ-loop
-cast-names-2 c = ?
-
--- src/keyed.rt:71:15
-mul-names-3 : tie.Need-mul-names-3 Inv-loop μ-loop
-mul-names-3 c = ?
-
--- src/keyed.rt:71:15
-add-names : tie.Need-add-names Inv-loop μ-loop
-add-names c = ?
-
--- src/keyed.rt:71:9
-mul-names-4 : tie.Need-mul-names-4 Inv-loop μ-loop
-mul-names-4 c = ?
-
--- src/keyed.rt:71:9
-element-write-names-2 : tie.Need-element-write-names-2 Inv-loop μ-loop
-element-write-names-2 c = ?
-
--- src/keyed.rt:72:18
 sub-bytes : tie.Need-sub-bytes Inv-loop μ-loop
-sub-bytes c = ?
+sub-bytes c =
+    let p = c .before .before .before .before .before .before .before .before .before .before .before .before .before .before .before .before .before .before .pre .0 in
+    let f = c .before .before .before .before .before .before .before .before .before .find-key in
+    let t = c .before .before .before .before .before .before .before .name-at .ensures in
+    let z = c .before .before .before .before .before .before .before .before .if1 .left in
+    let n = p .names (f .result - 1) (omega (arith, f .ensures .1)) in
+    omega (arith, t .0, t .1, n .0)
 
--- src/keyed.rt:72:9
-add-bytes : tie.Need-add-bytes Inv-loop μ-loop
-add-bytes c = ?
-
--- src/keyed.rt:73:9
-add-j : tie.Need-add-j Inv-loop μ-loop
-add-j c = ?
-
--- src/keyed.rt:56:5
-loop-less : tie.Need-loop-less Inv-loop μ-loop
-loop-less c = ?
-
--- src/keyed.rt:56:5
 loop-again : tie.Need-loop-again Inv-loop μ-loop
-loop-again c = ?
-
--- src/keyed.rt:38:1
-returns-4 : tie.Need-returns-4 Inv-loop μ-loop
-returns-4 c = ?
+loop-again c =
+    let l = c .before .before .before .before .before .before .before .before .before .before .before .before .before in
+    let x = l .before .before .before .before .before in
+    let v = l .loop .inv in
+    let below = c .before .before .before .before .before .before .before .before .before .before .before .before .loop-test .taken in
+    let p = x .pre .0 in
+    let k = x .pre .1 .1 .0 .1 in
+    let f = c .before .before .before .before .before .before .before .before .before .find-key in
+    let t = c .before .before .before .before .before .before .before .name-at .ensures in
+    let z = c .before .before .before .before .before .before .before .before .if1 .left in
+    let n = p .names (f .result - 1) (omega (arith, f .ensures .1)) in (
+      naming-more _ _ _ _ _ _ _ _ (v .0) (omega (arith, v .2, x .pre .1 .1)) _ _ refl refl (k .begins _ below) _ (f .ensures .0) z _ _ (t .0) (t .1)
+      (omega (arith, t .0, t .1, n .0)) (omega (arith, t .1, n .1)) (omega (arith, c .before .before .before .if3 .left)),
+      omega arith,
+      simp length-set (v .2),
+    )
 
 pub name-leaves-spec : {M : Type 1} → statement M
 name-leaves-spec =
@@ -156,36 +90,40 @@ name-leaves-spec =
     (tie.spec
     Inv-loop
     μ-loop
-    loop-holds
-    mul-b
-    mul-b-2
-    element-copy-out-b
+    (λ c. (naming-none _ _ _ _ _, omega arith, refl))
+    (λ c. omega arith)
+    (λ c. omega arith)
+    (λ c. omega arith)
     cast-b
-    mul-e
-    add-e
-    mul-e-2
-    element-copy-out-e
+    (λ c. omega arith)
+    (λ c. omega arith)
+    (λ c. omega arith)
+    (λ c. omega arith)
     cast-e
     find-key-requires
-    returns
-    sub-name-at
+    (λ c. c .before .before .before .before .before .loop .inv .2)
+    (λ c. naming-over _ _ _ _ _ _ _ (omega arith))
+    (λ c. omega arith)
     name-at-requires
-    returns-2
-    sub-if3
+    (λ c. c .before .before .before .before .before .before .before .before .loop .inv .2)
+    (λ c. naming-over _ _ _ _ _ _ _ (omega arith))
+    (λ c. omega (arith, c .before .before .before .before .before .before .before .before .loop .inv .0 .few))
     sub-if3-2
-    returns-3
+    (λ c. c .before .before .before .before .before .before .before .before .before .before .loop .inv .2)
+    (λ c. naming-over _ _ _ _ _ _ _ (omega arith))
     cast-names
-    mul-names
-    mul-names-2
-    element-write-names
-    cast-names-2
-    mul-names-3
-    add-names
-    mul-names-4
-    element-write-names-2
+    (λ c. omega arith)
+    (λ c. omega arith)
+    (λ c. omega (arith, c .before .before .before .before .before .before .before .before .before .before .before .loop .inv .2))
+    (λ c. omega (arith, c .before .before .before .before .if2 .left))
+    (λ c. omega arith)
+    (λ c. omega arith)
+    (λ c. omega arith)
+    (λ c. let l = c .before .before .before .before .before .before .before .before .before .before .before .before in omega (arith, l .loop .inv .2, length-set (l .loop .names) (2 * l .loop .j) (c .before .before .before .before .before .before .name-at .result .from)))
     sub-bytes
-    add-bytes
-    add-j
-    loop-less
+    (λ c. omega (arith, c .before .before .before .before .before .before .before .before .before .before .before .before .before .loop .inv .0 .few))
+    (λ c. omega arith)
+    (λ c. omega arith)
     loop-again
-    returns-4)
+    (λ c. c .before .loop .inv .2)
+    (λ c. naming-done _ _ _ _ _ _ _ _ (c .before .loop .inv .0) (omega arith)))
