@@ -31,6 +31,7 @@ pub mod Named
 pub mod Keyed
 pub mod NamingLaws
 pub mod RenamedLaws
+pub mod KeyedLaws
 pub mod NamedTextLaws
 pub mod Verdicts
 pub mod VerdictLaws
