@@ -9,6 +9,7 @@ pub mod LabelLaws
 pub mod SummingLaws
 pub mod SpanLaws
 pub mod TokenLaws
+pub mod ShapingLaws
 pub mod JudgeLaws
 pub mod ShapeLaws
 pub mod SymbolLaws

@@ -7,4 +7,5 @@ pub mod Words
 pub mod Noting
 pub mod Placing
 pub mod Sound
+pub mod Shaping
 pub mod Judge

@@ -8,9 +8,9 @@ ghost use Rattle.trees.specs.Held.{mostText};
 ghost use Rattle.newick.specs.Shape.{Ready, NodeReads, ChildrenReads, NodeRead, ShapeRead};
 
 // Two numbers for each leaf that is judged, and for each inner node of a tree of 64 taxa.
-pub(crate) const TOKENS: usize = 130;
+pub const TOKENS: usize = 130;
 
-pub(crate) const NODES: usize = 128;
+pub const NODES: usize = 128;
 
 // Where a reader stands: in the text, and how many leaves and inner nodes it has passed. A mark past the text is a fault of form.
 pub struct Mark {
@@ -20,7 +20,7 @@ pub struct Mark {
 }
 
 // The shape of a whole text: of leaf k the ends of its token at 2k of `tokens`, of inner node j its span of leaves at 2j of `nodes`.
-pub(crate) fn read_shape(text: &[u8], tokens: &mut [u16; TOKENS], nodes: &mut [u16; NODES]) -> Mark
+pub fn read_shape(text: &[u8], tokens: &mut [u16; TOKENS], nodes: &mut [u16; NODES]) -> Mark
     requires { ⌜ length (now text) ≤ mostText ⌝ }
     ensures { λ r. ⌜ ShapeRead (now (text .entry)) r (now (tokens .entry)) (now (nodes .entry)) (now (tokens .exit)) (now (nodes .exit)) ⌝ }
 {
