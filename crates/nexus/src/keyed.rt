@@ -1,22 +1,123 @@
 // A tree judged by its keys, its plain text unwritten, where that is enough: every leaf of it is a key, it has no quotes, and comments at its
 // front alone. Most trees of most files are such, and writing and reading their plain texts would take a third of the time.
 ghost use mathlib.Core.Path.{_≡_};
-ghost use mathlib.Core.Bool.{false};
-ghost use Prim.Native.Nat.{_*_, _≤_};
+ghost use mathlib.Core.Bool.{true, false};
+ghost use mathlib.Core.List.{List};
+ghost use Prim.Native.Nat.{ℕ, _*_, _≤_};
 ghost use lib.ListN.{length};
-ghost use Rattle.trees.specs.NexusCall.{keysOf};
+ghost use Rattle.trees.specs.Plain.{member};
+ghost use Rattle.trees.specs.Text.{apostrophe};
+ghost use Rattle.trees.specs.Held.{mostText};
+ghost use Rattle.trees.specs.Nexus.{uncommented};
+ghost use Rattle.trees.specs.NexusCall.{keysOf, replaced};
+ghost use Rattle.head.specs.Head.{openingAt, namesAt};
 ghost use Rattle.head.specs.Index.{Indexed};
+ghost use Rattle.layout.specs.WholeStore.{wholeAt};
 ghost use Rattle.newick.specs.Leaves.{Tokens};
 ghost use Rattle.nexus.specs.Commands.{pairsIn, Placed};
-ghost use Rattle.nexus.specs.Keyed.{mostKeyed, BareFrom, NamesAs};
+ghost use Rattle.nexus.specs.Named.{labelled};
+ghost use Rattle.nexus.specs.Keyed.{mostKeyed, BareFrom, NamesAs, Standing, KeyedAs};
 use crate::commands;
 use crate::comments;
 use crate::keys;
+use crate::verdicts;
+use answers::Progress;
 use head::KEYS;
 use layout::MOST_TEXT;
 use layout::RAN_OVER;
+use newick::NODES;
+use newick::TOKENS;
 
-const TOKENS: usize = 130;
+// How many leaves such a tree has at most: `mostKeyed` of specs/Keyed.antt.
+const MOST_KEYED: usize = 64;
+
+// What came of it: the verdict, or nothing, and then nothing is changed.
+pub(crate) enum Keyed {
+    Told(Progress),
+    Unsure,
+}
+
+// Judges the tree for which these bytes stand in a file, if it is such a tree and lengths are not kept.
+pub(crate) fn judge_keys(
+    s: &mut [u8],
+    starts: &[u8; KEYS],
+    links: &[u8; 64],
+    raw: &[u8],
+    list: &[u8],
+    pairs: usize,
+    places: &[usize],
+    firsts: &[u8; KEYS],
+    nexts: &[u8; 64],
+) -> Keyed
+    requires { ⌜ wholeAt (now s) ≡ true ⌝ }
+    requires { ⌜ Indexed (namesAt (now s)) (now starts) (now links) ⌝ }
+    requires { ⌜ Placed (now list) pairs (now places) ⌝ }
+    requires { ⌜ Indexed (keysOf (pairsIn (now list) pairs (now places))) (now firsts) (now nexts) ⌝ }
+    requires { ⌜ labelled (pairsIn (now list) pairs (now places)) ≡ true ⌝ }
+    ensures { λ r. ⌜ KeyedAs (now (s .entry)) (replaced (pairsIn (now (list .entry)) pairs (now (places .entry))) (uncommented false (now (raw .entry)))) r (now (s .exit)) ⌝ }
+{
+    if head::kept(s) != 0 {
+        return Keyed::Unsure;
+    }
+    let from = bare_from(raw);
+    let bytes = raw.len();
+    if bytes < from {
+        return Keyed::Unsure;
+    }
+    judge_bare(
+        s,
+        starts,
+        links,
+        &raw[from..],
+        bytes,
+        list,
+        pairs,
+        places,
+        firsts,
+        nexts,
+    )
+}
+
+// Judges the tree of a bare text that stands, behind blanks, for so many bytes at most.
+fn judge_bare(
+    s: &mut [u8],
+    starts: &[u8; KEYS],
+    links: &[u8; 64],
+    text: &[u8],
+    bytes: usize,
+    list: &[u8],
+    pairs: usize,
+    places: &[usize],
+    firsts: &[u8; KEYS],
+    nexts: &[u8; 64],
+) -> Keyed
+    requires { ⌜ (wholeAt (now s) ≡ true) × (openingAt (now s) .numbers .kept ≡ 0) ⌝ }
+    requires { ⌜ Indexed (namesAt (now s)) (now starts) (now links) ⌝ }
+    requires { ⌜ (length (now text) ≤ mostText) × (length (now text) ≤ bytes) × (member apostrophe (now text) ≡ false) ⌝ }
+    requires { ⌜ Placed (now list) pairs (now places) ⌝ }
+    requires { ⌜ Indexed (keysOf (pairsIn (now list) pairs (now places))) (now firsts) (now nexts) ⌝ }
+    requires { ⌜ labelled (pairsIn (now list) pairs (now places)) ≡ true ⌝ }
+    ensures { λ r. ⌜ ((u : List ℕ) → Standing u (now (text .entry)) bytes → KeyedAs (now (s .entry)) (replaced (pairsIn (now (list .entry)) pairs (now (places .entry))) u) r (now (s .exit))) ⌝ }
+{
+    let mut tokens = [0u16; TOKENS];
+    let mut nodes = [0u16; NODES];
+    let c = newick::read_shape(text, &mut tokens, &mut nodes);
+    if text.len() < c.at {
+        return Keyed::Unsure;
+    }
+    if MOST_KEYED < c.leaves {
+        return Keyed::Unsure;
+    }
+    let mut names = [0u16; TOKENS];
+    let n = name_leaves(list, pairs, places, firsts, nexts, text, c.leaves, &tokens, &mut names);
+    if MOST_TEXT < n {
+        return Keyed::Unsure;
+    }
+    if MOST_TEXT - n < bytes {
+        return Keyed::Unsure;
+    }
+    Keyed::Told(verdicts::judge_named(s, starts, links, list, c.leaves, c.inner, &names, &nodes))
+}
 
 // Where a tree's text begins behind blanks and comments, if neither quotes nor comments stand in it and it is no longer than a text may be; 1
 // more than the length, if not.

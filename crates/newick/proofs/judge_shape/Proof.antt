@@ -1,7 +1,7 @@
 -- `newick::judge_shape` meets its contract. Assumes nothing.
 use borrow.Author.Needs.{needs}
 use Rattle.newick.proofs.TaxonLaws.{prepared-opening}
-use Rattle.newick.proofs.ShapingLaws.{shaping-room}
+use Rattle.newick.specs.ShapingLaws.{shaping-room}
 use Rattle.newick.proofs.JudgeLaws.{judged-faulty, sound-read, judged-splits}
 use Rattle.newick.proofs.judge_shape.Statement.{statement}
 use Rattle.newick.proofs.judge_shape.Tie as tie

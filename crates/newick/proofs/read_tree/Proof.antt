@@ -1,7 +1,7 @@
 -- `newick::read_tree` meets its contract. Assumes nothing.
 use mathlib.Core.Path.{refl}
 use borrow.Author.Needs.{needs}
-use Rattle.newick.proofs.ShapingLaws.{shape-tokens, shape-read}
+use Rattle.newick.specs.ShapingLaws.{shape-tokens, shape-read}
 use Rattle.newick.proofs.JudgeLaws.{read-none}
 use Rattle.newick.proofs.read_tree.Statement.{statement}
 use Rattle.newick.proofs.read_tree.Tie as tie

@@ -2,6 +2,7 @@
 --
 --   shaping-room       the list of its spans is as long as before they were noted
 --   shape-tokens       of a text, the tokens of the first leaves lie in itself
+--   shape-itself       so do their labels
 --   shape-read         so it is read by its own labels
 use Prim.Native.Nat.{ℕ, _*_, _≤_, min}
 use native.Mathlib.Omega.{arith}
@@ -18,7 +19,7 @@ use Rattle.newick.specs.Shaping.{Shaping}
 use Rattle.newick.specs.declared.Tree.{Tree}
 use Rattle.newick.specs.declared.Tree.the-variants.{Faulty, Sound}
 use Rattle.newick.specs.declared.shape.Mark.{Mark}
-use Rattle.newick.proofs.TokenLaws.{tokens-lie, labels-first}
+use Rattle.newick.specs.TokenLaws.{tokens-lie, labels-first}
 
 pub shaping-room : (s w : List ℕ) (leaved : ℕ) (l : List ℕ) (n : ℕ) (m : List ℕ) → Shaping s w leaved l n m → length m ≡ spanRoom
 shaping-room s w leaved l n m x = ap length (x .spanned) ∙ length-sets (x .before) 0 (spans 0 (x .tree)) ∙ x .room
@@ -46,8 +47,11 @@ module _ (s : List ℕ) (c : Mark) (tokens nodes tokens′ nodes′ : List ℕ) 
     nested = shaped .nested;
   }
 
+  pub shape-itself : length nodes ≡ spanRoom → Shaping s s (c .leaves) tokens′ (c .inner) nodes′
+  shape-itself e = shape-over nodes nodes′ e (shaped .spanned)
+
   -- a fault of its leaves is one whatever list its spans stand in
   pub shape-read : (o : Opening) (r : Tree) (u : List ℕ) → ((m : List ℕ) → Shaping s s (c .leaves) tokens′ (c .inner) m → TreeRead o s r u m m) → TreeRead o s r u nodes nodes′
   unfolding TreeRead
   shape-read o (Faulty r) u p = p _ (shape-over (replicate spanRoom 0) _ (length-replicate {A = ℕ} spanRoom 0) refl)
-  shape-read o (Sound k n) u p = λ e. let x = shape-over nodes nodes′ e (shaped .spanned) in p nodes′ x (shaping-room s s (c .leaves) tokens′ (c .inner) nodes′ x)
+  shape-read o (Sound k n) u p = λ e. let x = shape-itself e in p nodes′ x (shaping-room s s (c .leaves) tokens′ (c .inner) nodes′ x)
