@@ -204,7 +204,7 @@ module _ (o : Opening) (g : GoodOpening o) (s w : List ℕ) (leaved : ℕ) (l : 
 
         pub read-sound : TreeRead o s (Sound k n) u m m
         unfolding TreeRead
-        read-sound size = record {
+        read-sound _ = record {
           tree = x .tree;
           reads = x .reads;
           no-fault = no-fault;

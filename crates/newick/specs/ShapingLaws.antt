@@ -35,6 +35,7 @@ module _ (s : List ℕ) (c : Mark) (tokens nodes tokens′ nodes′ : List ℕ) 
   pub shape-tokens : Tokens s tokens′ (min (c .leaves) mostLeaves)
   shape-tokens = tokens-lie s tokens tokens′ (shaped .labels) (shaped .tokened) (min (c .leaves) mostLeaves) (omega (arith, shaped .leaved)) (omega arith)
 
+  -- the text is a tree by its own labels, with its spans in any list that has room for them
   shape-over : (before m : List ℕ) → length before ≡ spanRoom → m ≡ sets before 0 (spans 0 tree) → Shaping s s (c .leaves) tokens′ (c .inner) m
   shape-over before m e p = record {
     tree = tree;

@@ -1,8 +1,10 @@
 // Reading a tree: the verdict on a text over an opening's names, and the records of an accepted text's splits: masks, places and
-// identifiers; where lengths are kept, the splits' lengths too.
+// identifiers; where lengths are kept, the splits' lengths too. The same in two steps: the shape of a text, and the verdict by labels that
+// stand elsewhere.
 //
 // The contracts cite `specs/Judge.antt` (`Prepared`, `JudgedAs`, `JudgedWith`); crate trees, `specs/Verdict.antt`, says what `judged`
 // and `judgedWith` are, crate records, `specs/Records.antt`, what the records of splits are, and `specs/Words.antt` a length as a word.
+// Of the two steps, `specs/Shape.antt` has `ShapeRead`, `specs/Leaves.antt` has `Tokens`, and `specs/Shaping.antt` has `Shaping`.
 use answers::Refusal;
 use head::KEYS;
 use leaves::MOST_LEAVES;
