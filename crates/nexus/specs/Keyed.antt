@@ -11,7 +11,7 @@ use Prim.Native.Nat.{ℕ, _+_, _*_, _≤_, _<_}
 use mathlib.Core.Path.{_≡_}
 use mathlib.Core.Bool.{false}
 use mathlib.Core.List.{List, map}
-use lib.ListN.{length, getD, drop}
+use lib.ListN.{length, getD}
 use lib.Seq.{slice}
 use Rattle.trees.specs.Plain.{member}
 use Rattle.trees.specs.Text.{apostrophe, isBlank, symbols}
@@ -21,6 +21,7 @@ use Rattle.trees.specs.NexusCall.{nameOf}
 use Rattle.newick.specs.Running.{labelsAt}
 use Rattle.nexus.specs.declared.keyed.Keyed.{Keyed}
 use Rattle.nexus.specs.declared.keyed.Keyed.the-variants.{Told, Unsure}
+use Rattle.nexus.specs.Places.{part}
 use Rattle.nexus.specs.Named.{bytesOf}
 use Rattle.nexus.specs.Verdicts.{Hands}
 
@@ -28,9 +29,9 @@ abbrev pub mostKeyed : ℕ
 mostKeyed = 64
 
 pub record Bare (s : List ℕ) (r : ℕ) : Type 0 where
-  pub short : length (drop r s) ≤ mostText
-  pub quoteless : member apostrophe (drop r s) ≡ false
-  pub behind : behindRun isBlank (uncommented false s) ≡ drop r s
+  pub short : length (part r (length s) s) ≤ mostText
+  pub quoteless : member apostrophe (part r (length s) s) ≡ false
+  pub behind : behindRun isBlank (uncommented false s) ≡ part r (length s) s
 
 abbrev pub BareFrom : List ℕ → ℕ → Type 0
 BareFrom s r = r ≤ length s → Bare s r

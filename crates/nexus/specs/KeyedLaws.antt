@@ -8,6 +8,7 @@
 --   names-first          the names that are noted are the labels of its leaves
 --   names-lie            and lie in the list
 --   keyed-tokens, keyed-shaping, keyed-short     the plain text has the shape of the text, and the names for labels, and is not too long
+--   behind-few           what stands behind a place is no longer
 --   bare-stands          what the bytes of a bare text stand for
 --   hands-refused, hands-room     the verdict on a plain text that is not written: it is refused, or gives splits
 use Prim.Native.Nat.{ℕ, zero, suc, _+_, _-_, _*_, _≤_, _<_, min}
@@ -17,7 +18,7 @@ use mathlib.Core.Bool.{Bool, true, false, _||_, not, _&&_, true≢false}
 use mathlib.Core.List.{List, [], _∷_, _++_, map, map-append}
 use mathlib.Core.Option.{some}
 use lib.Dec.{eqb}
-use lib.ListN.{length, getD, take, drop, length-map}
+use lib.ListN.{length, getD, take, length-map}
 use lib.Seq.{slice, sets, take-all}
 use borrow.Author.Tests.{ne-eqb}
 use Rattle.trees.specs.Plain.{if_then_else_, member, bytes, byte, refused, gives}
@@ -46,6 +47,8 @@ use Rattle.recording.specs.Recording.{Accepts}
 use Rattle.nexus.specs.Named.{labelled, named, freeTokens, renamed, bytesOf}
 use Rattle.nexus.specs.NamedTextLaws.{symbols-replaced, replaced-bytes}
 use Rattle.nexus.specs.RenamedLaws.{node-named, node-free, leaves-renamed, spans-renamed}
+use Rattle.nexus.specs.Places.{part}
+use Rattle.nexus.specs.PartLaws.{part-length}
 use Rattle.nexus.specs.Texts.{TextAs}
 use Rattle.nexus.specs.Verdicts.{Hands}
 use Rattle.nexus.specs.VerdictLaws.{text-refused, text-room, judges-refused, judges-room}
@@ -168,8 +171,7 @@ module _ (ps : List Pair) (good : labelled ps ≡ true) (list text tokens names 
 
     pub keyed-short : most ≤ mostText - n → length (replaced ps u) ≤ mostText
     keyed-short h =
-        omega
-        (
+        omega (
           arith,
           stands .few,
           named .bytes fits,
@@ -177,8 +179,11 @@ module _ (ps : List Pair) (good : labelled ps ≡ true) (list text tokens names 
           keyed-bytes ps good text u (stands .same) (stands .quoteless) (x .tree) (x .reads),
         )
 
+pub behind-few : (s : List ℕ) (i : ℕ) → i ≤ length s → length (part i (length s) s) ≤ length s
+behind-few s i h = omega (arith, part-length s i (length s) h (omega arith))
+
 -- the bytes of a tree in a file stand for its text
-pub bare-stands : (s : List ℕ) (i : ℕ) → Bare s i → Standing (uncommented false s) (drop i s) (length s)
+pub bare-stands : (s : List ℕ) (i : ℕ) → Bare s i → Standing (uncommented false s) (part i (length s) s) (length s)
 bare-stands s i b = record {
   same = symbols-behind (uncommented false s) ∙ ap symbols (b .behind);
   quoteless = quotes-behind (uncommented false s) (ap (member apostrophe) (b .behind) ∙ b .quoteless);

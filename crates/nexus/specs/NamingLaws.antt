@@ -12,7 +12,7 @@ use mathlib.Core.Bool.{Bool, true, false, _||_, _&&_}
 use mathlib.Core.Logic.{⊎-elim}
 use mathlib.Core.List.{List, [], _∷_, _++_, map, append-nil}
 use lib.Dec.{eqb}
-use lib.ListN.{length, getD, set, drop, length-set, length-append, length-drop, drop-of-length-le}
+use lib.ListN.{length, getD, set, drop, length-set, drop-of-length-le}
 use lib.Seq.{slice, getD-set-same, getD-set-other}
 use borrow.Author.Tests.{eqb-false, ne-eqb, not-true}
 use Rattle.trees.specs.Plain.{every, member, byte}
@@ -48,19 +48,20 @@ module _ (s : List ℕ) (i : ℕ) (k : Skipped s 0 i) (r : ℕ) (p : PlainEnd s 
   pub bare-here : length s ≤ r → length s - i ≤ mostText → Bare s i
   unfolding uncommented
   bare-here h m = record {
-    short = omega (arith, length-drop i s);
-    quoteless = no-quote (drop i s) all-plain;
-    behind = k .plain ∙ as-it-is;
+    short = omega (arith, part-length s i (length s) (k .within) (omega arith));
+    quoteless = no-quote (part i (length s) s) all-plain;
+    behind = k .plain ∙ ap (uncommented false) whole ∙ as-it-is;
   }
     where
-      whole : part i r s ≡ drop i s
-      whole = sym (part-rest s i r (p .past) ∙ ap (λ l. part i r s ++ l) (drop-of-length-le s h) ∙ append-nil (part i r s))
+      all-plain : every plain (part i (length s) s) ≡ true
+      all-plain = let e : r ≡ length s = omega (arith, p .within) in rw e at (run-every s i r p)
 
-      all-plain : every plain (drop i s) ≡ true
-      all-plain = subst (λ l. every plain l ≡ true) whole (run-every s i r p)
+      whole : drop i s ≡ part i (length s) s
+      whole = part-rest s i (length s) (k .within) ∙ ap (λ l. part i (length s) s ++ l) (drop-of-length-le s {i = length s} (omega arith)) ∙ append-nil (part i (length s) s)
 
-      as-it-is : uncommented false (drop i s) ≡ drop i s
-      as-it-is = ap (uncommented false) (sym (append-nil (drop i s))) ∙ plain-append plain refl refl (drop i s) [] all-plain ∙ append-nil (drop i s)
+      as-it-is : uncommented false (part i (length s) s) ≡ part i (length s) s
+      as-it-is =
+          ap (uncommented false) (sym (append-nil (part i (length s) s))) ∙ plain-append plain refl refl (part i (length s) s) [] all-plain ∙ append-nil (part i (length s) s)
 
 -- ---- names
 

@@ -109,7 +109,17 @@ fn judge_bare(
         return Keyed::Unsure;
     }
     let mut names = [0u16; TOKENS];
-    let n = name_leaves(list, pairs, places, firsts, nexts, text, c.leaves, &tokens, &mut names);
+    let n = name_leaves(
+        list,
+        pairs,
+        places,
+        firsts,
+        nexts,
+        text,
+        c.leaves,
+        &tokens,
+        &mut names,
+    );
     if MOST_TEXT < n {
         return Keyed::Unsure;
     }

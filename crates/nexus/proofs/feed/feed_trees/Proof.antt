@@ -20,7 +20,7 @@ feed-lines-requires : tie.Need-feed-lines-requires
 feed-lines-requires c κs =
     let back = c .before .before .before .before .before in
     let far = back .before .before .before .before .before in
-    let p = far .before .before .before .before .before .before .before .before .pre in (p .0, (back .before .before .before .before .build-index .ensures, (p .1 .0, (p .1 .1 .0, (p .1 .1 .1 .0, (back .before .index-keys .ensures, p .1 .1 .1 .1))))))
+    let p = far .before .before .before .before .before .before .before .before .pre in (p .0, (back .before .before .before .before .build-index .ensures, (p .1 .0, (p .1 .1 .0, (p .1 .1 .1 .0, (p .1 .1 .1 .1 .0, (back .before .index-keys .ensures, p .1 .1 .1 .1 .1)))))))
 
 same-length : tie.Need-same-length
 same-length c = search needs

@@ -79,7 +79,7 @@ loop-again c =
     let z = c .before .before .before .before .before .before .before .before .if1 .left in
     let n = p .names (f .result - 1) (omega (arith, f .ensures .1)) in (
       naming-more _ _ _ _ _ _ _ _ (v .0) (omega (arith, v .2, x .pre .1 .1)) _ _ refl refl (k .begins _ below) _ (f .ensures .0) z _ _ (t .0) (t .1)
-      (omega (arith, t .0, t .1, n .0)) (omega (arith, t .1, n .1)) (omega (arith, c .before .before .before .if3 .left)),
+          (omega (arith, t .0, t .1, n .0)) (omega (arith, t .1, n .1)) (omega (arith, c .before .before .before .if3 .left)),
       omega arith,
       simp length-set (v .2),
     )
