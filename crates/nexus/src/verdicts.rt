@@ -78,7 +78,7 @@ pub(crate) fn judge_named(
         &mut records,
     );
     match judged {
-        Judged::Refused(r) => Progress::Refused(r),
+        Judged::Refused(why) => Progress::Refused(why),
         Judged::Splits(k) => recording::accept(s, k, &records, &lengths),
     }
 }
