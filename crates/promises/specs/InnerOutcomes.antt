@@ -23,6 +23,7 @@ use Rattle.trees.specs.Opening.{Opening}
 use Rattle.trees.specs.Verdict.{Branches, judgedWith}
 use Rattle.theorems.specs.ListLaws.{Mem, less-or-not}
 use Rattle.theorems.specs.RisingLaws.{Rising}
+use Rattle.theorems.specs.GrammarLaws.{reading-sound, no-tree}
 use Rattle.answers.specs.Answers.{refusalNumber}
 use Rattle.answers.specs.AnswerLaws.{gives≢refused}
 use Rattle.records.specs.Records.{withRecords, putIn}
@@ -42,7 +43,7 @@ use Rattle.newick.specs.Running.{labelsAt}
 use Rattle.newick.specs.Leaves.{mostLeaves}
 use Rattle.newick.specs.Sound.{spanRoom}
 use Rattle.newick.specs.ShapingLaws.{shape-itself}
-use Rattle.newick.specs.declared.Mark.{Mark}
+use Rattle.newick.specs.declared.shape.Mark.{Mark}
 use Rattle.newick.specs.declared.Judged.{Judged}
 use Rattle.newick.specs.declared.Judged.the-variants.{Refused, Splits}
 use Rattle.feeding.specs.Judging.{JudgedIn}
@@ -145,7 +146,7 @@ judge-shape-once k x q r y z p a b = let s = p .1 .1 .0 in judged-both _ (s .0) 
 -- two readings of one text
 module _ (s : List ℕ) (q r : Mark) (tokens nodes t u v w : List ℕ) (a : ShapeRead s q tokens nodes t u) (b : ShapeRead s r tokens nodes v w) where
   fault-both : length s < q .at → length s < r .at
-  fault-both h = ⊎-elim (λ g. g) (λ g. let x = b .good g .1 .reads in let y = a .fault h in absurd cc) (less-or-not (length s) (r .at))
+  fault-both h = ⊎-elim (λ g. g) (λ g. let x = b .good g in absurd (no-tree s .0 (a .fault h) (x .0) (reading-sound s (x .0) (x .1 .reads)))) (less-or-not (length s) (r .at))
 
   shape-both : q .at ≤ length s → r .at ≤ length s → (q .leaves ≡ r .leaves) × (q .inner ≡ r .inner) × (u ≡ w)
   shape-both h g =
