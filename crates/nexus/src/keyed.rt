@@ -1,5 +1,5 @@
 // A tree judged by its keys, its plain text unwritten, where that is enough: every leaf of it is a key, it has no quotes, and comments at its
-// front alone. Most trees of most files are such, and writing and reading their plain texts would take a third of the time.
+// front alone. Of such a tree the plain text need not be written and read; docs/BENCH.md says what that saves.
 ghost use mathlib.Core.Path.{_≡_};
 ghost use mathlib.Core.Bool.{true, false};
 ghost use mathlib.Core.List.{List};
