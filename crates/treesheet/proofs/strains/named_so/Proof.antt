@@ -18,7 +18,6 @@ named-so-spec =
     Inv-loop
     μ-loop
     (λ c. (omega arith, omega arith))
-    (λ c. omega arith)
     (λ c κs. (omega arith, omega arith))
     (λ c. tt)
     (λ c. omega arith)
