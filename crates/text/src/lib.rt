@@ -204,7 +204,7 @@ pub fn past_length(text: &[u8], from: usize) -> usize
 }
 
 // Past digits, a point and the digits behind it, if there are any, with a comma or a closing bracket behind them; the text's length where
-// that does not stand there. Most lengths are such, and this is the quick way past them.
+// that does not stand there. The automaton need not go through such a length.
 fn past_decimal(text: &[u8], from: usize) -> usize
     requires { ⌜ from ≤ length (now text) ⌝ }
     ensures { λ r. ⌜ DecimalBehind (now (text .entry)) from r ⌝ }
