@@ -13,7 +13,7 @@
 --   hands-refused, hands-room     the verdict on a plain text that is not written: it is refused, or gives splits
 use Prim.Native.Nat.{ℕ, zero, suc, _+_, _-_, _*_, _≤_, _<_, min}
 use native.Mathlib.Omega.{arith}
-use mathlib.Core.Path.{_≡_, refl, sym, ap, ap₂, subst, _∙_}
+use mathlib.Core.Path.{_≡_, refl, sym, ap, ap₂, _∙_}
 use mathlib.Core.Bool.{Bool, true, false, _||_, not, _&&_, true≢false}
 use mathlib.Core.List.{List, [], _∷_, _++_, map, map-append}
 use mathlib.Core.Option.{some}
@@ -28,7 +28,7 @@ use Rattle.trees.specs.Held.{mostText, roomFor}
 use Rattle.trees.specs.Tree.{Nodes, leaves}
 use Rattle.trees.specs.Reading.{reading}
 use Rattle.trees.specs.Grammar.{IsNode}
-use Rattle.trees.specs.Nexus.{Pair, File, behindRun, uncommented, behindComment, IsPairs, no-pair, a-pair, Named, is-named, MayTranslate, no-list, a-list, is-trees, IsNexus, is-nexus}
+use Rattle.trees.specs.Nexus.{Pair, File, behindRun, uncommented, behindComment, IsPairs, no-pair, a-pair, is-named, MayTranslate, no-list, a-list, is-trees, IsNexus, is-nexus}
 use Rattle.trees.specs.NexusReading.{readFile}
 use Rattle.trees.specs.NexusCall.{nameOf, replaced}
 use Rattle.theorems.specs.ListLaws.{if-true, and-true, by-test, by-elim}
@@ -44,7 +44,7 @@ use Rattle.newick.specs.Running.{labelsAt}
 use Rattle.newick.specs.Leaves.{mostLeaves, Tokens}
 use Rattle.newick.specs.Shaping.{Shaping}
 use Rattle.recording.specs.Recording.{Accepts}
-use Rattle.nexus.specs.Named.{labelled, named, freeTokens, renamed, bytesOf}
+use Rattle.nexus.specs.Named.{labelled, renamed, bytesOf}
 use Rattle.nexus.specs.NamedTextLaws.{symbols-replaced, replaced-bytes}
 use Rattle.nexus.specs.RenamedLaws.{node-named, node-free, leaves-renamed, spans-renamed}
 use Rattle.nexus.specs.Places.{part}

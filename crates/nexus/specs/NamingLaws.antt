@@ -4,7 +4,7 @@
 --   Naming               the names of the first j tokens are noted, and have n bytes
 --   naming-none, naming-more, naming-done     none, one more, and all of them
 --   naming-over          a length that no text has
-use Prim.Native.Nat.{ℕ, suc, _+_, _-_, _*_, _≤_, _<_}
+use Prim.Native.Nat.{ℕ, _+_, _-_, _*_, _≤_, _<_}
 use native.Mathlib.Numerals.{add-one}
 use native.Mathlib.Omega.{arith}
 use mathlib.Core.Path.{_≡_, refl, sym, ap, ap₂, subst, _∙_}

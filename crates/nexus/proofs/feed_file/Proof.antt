@@ -3,16 +3,14 @@ use mathlib.Core.Path.{sym, ap, _∙_}
 use native.Mathlib.Omega.{arith}
 use borrow.Author.Needs.{needs}
 use borrow.Author.Tests.{not-true, not-false}
-use Rattle.trees.specs.Nexus.{Pair}
 use Rattle.trees.specs.Names.{different}
-use Rattle.trees.specs.NexusCall.{keysOf, replaced, handing}
+use Rattle.trees.specs.NexusCall.{keysOf}
 use Rattle.store.specs.LentLaws.{not-whole}
 use Rattle.opening.specs.GivenLaws.{failed, passed}
 use Rattle.nexus.specs.KeyedLaws.{file-labelled}
 use Rattle.nexus.specs.FedLaws.{nexus-refused, nexus-malformed, nexus-repeats, nexus-short, nexus-done}
 use Rattle.nexus.proofs.feed_file.Statement.{statement}
 use Rattle.nexus.proofs.feed_file.Tie as tie
-use Rattle.store.proofs.is_whole.Reads as is-whole-reads
 
 is-whole-requires : tie.Need-is-whole-requires
 is-whole-requires c κs = search needs

@@ -11,7 +11,6 @@ use Rattle.nexus.specs.Commands.{pairsIn}
 use Rattle.nexus.specs.FeedLaws.{small-finished, Going, going-none, going-index, going-more, gone}
 use Rattle.nexus.proofs.feed.feed_lines.Statement.{statement}
 use Rattle.nexus.proofs.feed.feed_lines.Tie as tie
-use Rattle.answers.proofs.verdict_number.Reads as verdict-number-reads
 
 abbrev Inv-loop : tie.InvT-loop
 Inv-loop s₀ starts links f from n list pairs places firsts nexts verdicts₀ text₀ at₀ i₀ s verdicts text at i =

@@ -1,12 +1,9 @@
 -- `nexus::feed::feed_trees` meets its contract: names and keys are indexed, and the lines fed. Assumes nothing.
-use mathlib.Core.Path.{refl, sym, ap, subst, _∙_}
-use native.Mathlib.Omega.{arith}
 use borrow.Author.Needs.{needs}
 use Rattle.layout.specs.WholeFacts.{whole-at-facts}
 use Rattle.feeding.specs.FedLaws.{few-taxa}
 use Rattle.nexus.proofs.feed.feed_trees.Statement.{statement}
 use Rattle.nexus.proofs.feed.feed_trees.Tie as tie
-use Rattle.head.proofs.build_index.Reads as build-index-reads
 
 build-index-requires : tie.Need-build-index-requires
 build-index-requires c κs =
