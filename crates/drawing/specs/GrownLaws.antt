@@ -3,7 +3,7 @@
 --   lines-none, lines-leaf, lines-inner     no child, a leaf and the others, a group and the others
 --   lines-some                              where there is a child, there is a line
 --   lines-root                              the lines of a whole tree
-use Prim.Native.Nat.{ℕ, zero, suc, _+_, _^_, _<_}
+use Prim.Native.Nat.{ℕ, zero, suc, _+_, _<_}
 use native.Mathlib.Omega.{arith}
 use mathlib.Core.Path.{_≡_, refl, sym, ap, ap₂, _∙_}
 use mathlib.Core.Bool.{Bool, true, false}

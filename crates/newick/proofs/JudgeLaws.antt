@@ -1,10 +1,9 @@
--- The verdict on a text, over a prepared head: one law for each way out of `read_tree` and `judge`.
+-- The verdict on a text, over a prepared head: one law for each way out of `read_leaves`, `read_tree`, `judge` and `judge_shape`.
 --
---   read-none           the text is no tree
---   summing-asks        it is one: the tokens of its first leaves lie in it
 --   read-wrong          a leaf is no taxon, or a taxon comes twice
 --   read-missing        a taxon is missing
 --   read-sound          no leaf has a fault, and no taxon is missing: the spans are in order
+--   read-none           the text is no tree
 --   judged-faulty, judged-splits     the verdict; the splits of the spans are those of the text
 use Prim.Native.Nat.{ℕ, zero, suc, _+_, _*_, _^_, _≤_, _<_, min}
 use native.Mathlib.Omega.{arith}
@@ -15,7 +14,7 @@ use mathlib.Core.Option.{none, some}
 use lib.Count.{ones}
 use lib.Dec.{eqb}
 use lib.ListN.{length, getD, take, drop, length-append, take-append-drop}
-use lib.Seq.{sets, sets-eq, take-all, take-append-seam}
+use lib.Seq.{sets-eq, take-all, take-append-seam}
 use borrow.Author.Tests.{eq-eqb, ne-eqb}
 use Rattle.trees.specs.Plain.{if_then_else_, refused, gives}
 use Rattle.trees.specs.Mask.{everyTaxon}
@@ -43,16 +42,16 @@ use Rattle.newick.specs.Splits.{inners}
 use Rattle.newick.specs.Sound.{SoundTree, spanRoom, TreeRead}
 use Rattle.newick.specs.declared.Tree.{Tree}
 use Rattle.newick.specs.declared.Tree.the-variants.{Faulty, Sound}
-use Rattle.newick.specs.Shape.{spans, Shaped, ShapeRead}
+use Rattle.newick.specs.Shape.{spans, ShapeRead}
+use Rattle.newick.specs.Shaping.{Shaping}
 use Rattle.newick.specs.Running.{labelsAt, labelTaxa, spanMasks}
-use Rattle.newick.specs.Leaves.{mostLeaves, Tokens, AllSummed, LeavesSummed}
+use Rattle.newick.specs.Leaves.{mostLeaves, AllSummed, LeavesSummed}
 use Rattle.newick.specs.declared.Judged.the-variants.{Refused, Splits}
 use Rattle.newick.specs.declared.shape.Mark.{Mark}
 use Rattle.newick.specs.declared.leaves.Summed.{Summed}
 use Rattle.newick.specs.declared.leaves.Summed.the-variants.{Wrong, Distinct}
 use Rattle.newick.proofs.ClusterLaws.{inners-splits}
 use Rattle.newick.proofs.LabelLaws.{leaves-taxa}
-use Rattle.newick.proofs.TokenLaws.{tokens-lie, labels-first}
 use Rattle.newick.proofs.SpanLaws.{innerNodes, Lies, spans-length, spans-few, spans-within, spans-inners}
 
 -- ---- the verdict by what is read
@@ -130,121 +129,96 @@ parts-apart ns xs vs zs z =
 ones-most : (n m : ℕ) → m < 2 ^ n → ones m ≤ n
 ones-most n m h = omega (arith, ones-part m (everyTaxon n) (below-sub n m h), every-ones n)
 
--- ---- a text that is a tree: its first k leaves are judged, which are all, or more than there are taxa
+-- ---- a tree whose shape was read: its first k leaves are judged, which are all, or more than there are taxa
 
-module _ (o : Opening) (g : GoodOpening o) (s l u : List ℕ) (t : Nodes) (k : ℕ) (is-read : reading s ≡ some t) (few : k ≡ min (length (leaves t)) mostLeaves) (first : (j : ℕ) → j ≤ k → labelsAt s l j ≡ take j (leaves t)) where
-  leaves-are : leaves t ≡ labelsAt s l k ++ drop k (leaves t)
-  leaves-are = sym (ap (λ z. z ++ drop k (leaves t)) (first k (omega arith)) ∙ take-append-drop k (leaves t))
+module _ (o : Opening) (g : GoodOpening o) (s w : List ℕ) (leaved : ℕ) (l : List ℕ) (n : ℕ) (m : List ℕ) (x : Shaping s w leaved l n m) (k : ℕ) (few : k ≡ min leaved mostLeaves) (u : List ℕ) where
+  first : (j : ℕ) → j ≤ k → labelsAt w l j ≡ take j (leaves (x .tree))
+  first j h = x .first j (omega arith)
 
-  tree-wrong : (r : Refusal) → LeavesSummed o s l k u (Wrong r) → judged (o .names) s ≡ refused (refusalNumber r)
-  unfolding LeavesSummed
-  tree-wrong r h = faulty (o .names) s t (refusalNumber r) (some-number r) is-read (ap (leafFault (o .names) 0) leaves-are ∙ h (drop k (leaves t)))
+  leaves-are : leaves (x .tree) ≡ labelsAt w l k ++ drop k (leaves (x .tree))
+  leaves-are = sym (ap (λ z. z ++ drop k (leaves (x .tree))) (first k (omega arith)) ∙ take-append-drop k (leaves (x .tree)))
 
-  module _ (a : AllSummed o s l k u) where
-    some-taxa : k ≤ 64
-    some-taxa =
-        omega
-        (arith, a .count, g .ranges .most-taxa, ones-most (o .numbers .taxa) _ (rw (a .masked k (omega arith)) at (a .running .each k (omega arith) .small)))
+  module _ (f : Summed) (p : LeavesSummed o w l k u f) where
+    pub read-wrong : (r : Refusal) → f ≡ Wrong r → TreeRead o s (Faulty r) u m m
+    unfolding TreeRead LeavesSummed
+    read-wrong r e =
+        faulty (o .names) s (x .tree) (refusalNumber r) (some-number r) (x .reads)
+        (ap (leafFault (o .names) 0) leaves-are ∙ (rw e at p) (drop k (leaves (x .tree))))
 
-    all-leaves : k ≡ length (leaves t)
-    all-leaves = let b = some-taxa in omega arith
+    module _ (e : f ≡ Distinct) where
+      summed : AllSummed o w l k u
+      unfolding LeavesSummed
+      summed = rw e at p
 
-    labels-are : labelsAt s l k ≡ leaves t
-    labels-are = let b = all-leaves in first k (omega arith) ∙ take-all k (leaves t) (omega arith)
+      some-taxa : k ≤ 64
+      some-taxa =
+          omega
+          (arith, summed .count, g .ranges .most-taxa, ones-most (o .numbers .taxa) _ (rw (summed .masked k (omega arith)) at (summed .running .each k (omega arith) .small)))
 
-    leaf-fault : leafFault (o .names) 0 (leaves t) ≡ (if eqb (getD u (wide * k) 0) (everyTaxon (o .numbers .taxa)) then 0 else 10)
-    unfolding leafFault
-    leaf-fault =
-        ap (leafFault (o .names) 0) (sym (append-nil (leaves t)) ∙ ap (λ z. z ++ []) (sym labels-are))
-        ∙ a .judged []
-        ∙ ap₂ (λ (x n : ℕ). if eqb x (everyTaxon n) then 0 else 10) (sym (a .masked k (omega arith))) (g .named .count)
+      all-leaves : k ≡ length (leaves (x .tree))
+      all-leaves = let b = some-taxa in omega (arith, x .count)
 
-    tree-missing : (getD u (wide * k) 0 ≡ everyTaxon (o .numbers .taxa) → ⊥) → judged (o .names) s ≡ refused 10
-    tree-missing h = faulty (o .names) s t 10 (omega arith) is-read (leaf-fault ∙ if-false 0 10 (ne-eqb (getD u (wide * k) 0) (everyTaxon (o .numbers .taxa)) h))
+      labels-are : labelsAt w l k ≡ leaves (x .tree)
+      labels-are = let b = all-leaves in first k (omega arith) ∙ take-all k (leaves (x .tree)) (omega arith)
 
-    module _ (every : getD u (wide * k) 0 ≡ everyTaxon (o .numbers .taxa)) (nodes nodes′ : List ℕ) (room : length nodes ≡ 128) (spanned : nodes′ ≡ sets nodes 0 (spans 0 t)) (n : ℕ) (nested : 2 * n ≡ length (spans 0 t)) where
-      no-fault : leafFault (o .names) 0 (leaves t) ≡ 0
-      no-fault = leaf-fault ∙ if-true 0 10 (eq-eqb (getD u (wide * k) 0) (everyTaxon (o .numbers .taxa)) every)
+      leaf-fault : leafFault (o .names) 0 (leaves (x .tree)) ≡ (if eqb (getD u (wide * k) 0) (everyTaxon (o .numbers .taxa)) then 0 else 10)
+      unfolding leafFault
+      leaf-fault =
+          ap (leafFault (o .names) 0) (sym (append-nil (leaves (x .tree))) ∙ ap (λ z. z ++ []) (sym labels-are))
+          ∙ summed .judged []
+          ∙ ap₂ (λ (y i : ℕ). if eqb y (everyTaxon i) then 0 else 10) (sym (summed .masked k (omega arith))) (g .named .count)
 
-      count : n ≡ innerNodes t
-      count = omega (arith, spans-length 0 t)
+      pub read-missing : (getD u (wide * k) 0 ≡ everyTaxon (o .numbers .taxa) → ⊥) → TreeRead o s (Faulty why.MissingTaxon) u m m
+      unfolding TreeRead refusalNumber
+      read-missing h =
+          faulty (o .names) s (x .tree) 10 (omega arith) (x .reads) (leaf-fault ∙ if-false 0 10 (ne-eqb (getD u (wide * k) 0) (everyTaxon (o .numbers .taxa)) h))
 
-      fits : 2 * n ≤ 128
-      fits = omega (arith, spans-few (reading-sound s t is-read), count, all-leaves, some-taxa)
+      module _ (every : getD u (wide * k) 0 ≡ everyTaxon (o .numbers .taxa)) where
+        no-fault : leafFault (o .names) 0 (leaves (x .tree)) ≡ 0
+        no-fault = leaf-fault ∙ if-true 0 10 (eq-eqb (getD u (wide * k) 0) (everyTaxon (o .numbers .taxa)) every)
 
-      lie : nodes′ ≡ spans 0 t ++ drop (0 + length (spans 0 t)) nodes
-      lie = let b = fits in spanned ∙ sets-eq (spans 0 t) nodes 0 (omega arith)
+        count : n ≡ innerNodes (x .tree)
+        count = omega (arith, x .nested, spans-length 0 (x .tree))
 
-      gathering-room : n ≤ 64
-      gathering-room = let b = fits in omega arith
+        fits : 2 * n ≤ 128
+        fits = omega (arith, spans-few (reading-sound s (x .tree) (x .reads)), count, all-leaves, some-taxa)
 
-      gathering-lies : (j : ℕ) → j < n → Lies nodes′ k j
-      gathering-lies j h =
-          let q = spans-within nodes′ 0 t [] (drop (0 + length (spans 0 t)) nodes) 0 refl lie j (omega arith) (omega (arith, count)) in
-          (q .0, omega (arith, q .1, all-leaves))
+        lie : m ≡ spans 0 (x .tree) ++ drop (0 + length (spans 0 (x .tree))) (x .before)
+        lie = let b = fits in x .spanned ∙ sets-eq (spans 0 (x .tree)) (x .before) 0 (omega (arith, x .nested, x .room))
 
-      masked : (xs zs : List (List ℕ)) → leaves t ≡ xs ++ zs → getD u (wide * length xs) 0 ≡ labelTaxa (o .names) xs
-      masked xs zs e =
-          let b : length xs ≤ k = omega (arith, all-leaves, ap length e, length-append xs zs) in
-          a .masked (length xs) b ∙ ap (labelTaxa (o .names)) (first (length xs) b ∙ ap (take (length xs)) e ∙ take-append-seam xs zs)
+        gathering-lies : (j : ℕ) → j < n → Lies m k j
+        gathering-lies j h =
+            let q = spans-within m 0 (x .tree) [] (drop (0 + length (spans 0 (x .tree))) (x .before)) 0 refl lie j (omega arith) (omega (arith, count)) in
+            (q .0, omega (arith, q .1, all-leaves))
 
-      tree-masks : spanMasks u nodes′ n ≡ inners (o .names) t
-      tree-masks =
-          ap (spanMasks u nodes′) count
-          ∙ spans-inners (o .names) t u nodes′ (drop (0 + length (spans 0 t)) nodes) lie masked
-          (λ xs vs zs e. parts-apart (o .names) xs vs zs (ap (leafFault (o .names) 0) (sym e) ∙ no-fault))
+        masked : (xs zs : List (List ℕ)) → leaves (x .tree) ≡ xs ++ zs → getD u (wide * length xs) 0 ≡ labelTaxa (o .names) xs
+        masked xs zs q =
+            let b : length xs ≤ k = omega (arith, all-leaves, ap length q, length-append xs zs) in
+            summed .masked (length xs) b ∙ ap (labelTaxa (o .names)) (first (length xs) b ∙ ap (take (length xs)) q ∙ take-append-seam xs zs)
 
-      tree-sound : SoundTree o s k n u nodes′
-      tree-sound = record {
-        tree = t;
-        reads = is-read;
-        no-fault = no-fault;
-        sums = (some-taxa, a .running, every);
-        spans = (gathering-room, record { rises = λ j h. gathering-lies j h .0; within = λ j h. gathering-lies j h .1 });
-        masks = tree-masks;
-      }
+        tree-masks : spanMasks u m n ≡ inners (o .names) (x .tree)
+        tree-masks =
+            ap (spanMasks u m) count
+            ∙ spans-inners (o .names) (x .tree) u m (drop (0 + length (spans 0 (x .tree))) (x .before)) lie masked
+            (λ xs vs zs q. parts-apart (o .names) xs vs zs (ap (leafFault (o .names) 0) (sym q) ∙ no-fault))
 
--- ---- by what was read of the text, over a head
-
-module _ (o : Opening) (s : List ℕ) (c : Mark) (tokens nodes tokens′ nodes′ : List ℕ) (h : ShapeRead s c tokens nodes tokens′ nodes′) where
-  pub read-none : length s < c .at → (u l l′ : List ℕ) → TreeRead o s (Faulty why.BadForm) u l l′
-  unfolding TreeRead refusalNumber
-  read-none b u l l′ = unread (o .names) s (h .fault b)
-
-  module _ (room : length tokens ≡ 130) (b : c .at ≤ length s) (k : ℕ) (few : k ≡ min (c .leaves) mostLeaves) where
-    tree : Nodes
-    tree = h .good b .0
-
-    shaped : Shaped s tree c tokens nodes tokens′ nodes′
-    unfolding tree
-    shaped = h .good b .1
-
-    fewest : k ≡ min (length (leaves tree)) mostLeaves
-    fewest = few ∙ ap (λ (n : ℕ). min n mostLeaves) (shaped .leaved)
-
-    first : (j : ℕ) → j ≤ k → labelsAt s tokens′ j ≡ take j (leaves tree)
-    first = let e = fewest in labels-first s tokens tokens′ (shaped .labels) (shaped .tokened) k (omega arith) (omega arith)
-
-    pub summing-asks : (k ≤ mostLeaves) × Tokens s tokens′ k
-    summing-asks = let e = fewest in (omega arith, tokens-lie s tokens tokens′ (shaped .labels) (shaped .tokened) k (omega arith) (omega arith))
-
-    module _ (g : GoodOpening o) (u : List ℕ) (f : Summed) (l : LeavesSummed o s tokens′ k u f) where
-      pub read-wrong : (r : Refusal) → f ≡ Wrong r → (a b : List ℕ) → TreeRead o s (Faulty r) u a b
-      unfolding TreeRead
-      read-wrong r e a b = tree-wrong o g s tokens′ u tree k (shaped .reads) fewest first r (subst (LeavesSummed o s tokens′ k u) e l)
-
-      module _ (e : f ≡ Distinct) where
-        summed : AllSummed o s tokens′ k u
-        unfolding LeavesSummed
-        summed = rw e at l
-
-        pub read-missing : (getD u (wide * k) 0 ≡ everyTaxon (o .numbers .taxa) → ⊥) → (a b : List ℕ) → TreeRead o s (Faulty why.MissingTaxon) u a b
-        unfolding TreeRead refusalNumber
-        read-missing n a b = tree-missing o g s tokens′ u tree k (shaped .reads) fewest first summed n
-
-        pub read-sound : getD u (wide * k) 0 ≡ everyTaxon (o .numbers .taxa) → TreeRead o s (Sound k (c .inner)) u nodes nodes′
+        pub read-sound : TreeRead o s (Sound k n) u m m
         unfolding TreeRead
-        read-sound every size = tree-sound o g s tokens′ u tree k (shaped .reads) fewest first summed every nodes nodes′ size (shaped .spanned) (c .inner) (shaped .nested)
+        read-sound _ = record {
+          tree = x .tree;
+          reads = x .reads;
+          no-fault = no-fault;
+          sums = (some-taxa, summed .running, every);
+          spans = (let b = fits in omega arith, record { rises = λ j h. gathering-lies j h .0; within = λ j h. gathering-lies j h .1 });
+          masks = tree-masks;
+        }
+
+-- ---- a text, by what was read of its shape
+
+pub read-none : (o : Opening) (s : List ℕ) (c : Mark) (tokens nodes tokens′ nodes′ : List ℕ) → ShapeRead s c tokens nodes tokens′ nodes′ → length s < c .at
+    → (u l l′ : List ℕ) → TreeRead o s (Faulty why.BadForm) u l l′
+unfolding TreeRead refusalNumber
+read-none o s c tokens nodes tokens′ nodes′ h b u l l′ = unread (o .names) s (h .fault b)
 
 -- ---- from there to the verdict
 

@@ -8,7 +8,6 @@ pub mod TaxonLaws
 pub mod LabelLaws
 pub mod SummingLaws
 pub mod SpanLaws
-pub mod TokenLaws
 pub mod JudgeLaws
 pub mod ShapeLaws
 pub mod SymbolLaws

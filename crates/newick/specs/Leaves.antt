@@ -1,7 +1,7 @@
 -- What the leaves of a text come to, judged from left to right.
 --
 --   mostLeaves               how many leaves are judged at most: one more than there are taxa has a fault among them
---   Tokens s l k             the first k tokens in l lie in the text s
+--   Tokens s l k             the first k tokens in l lie in the bytes s
 --   LeafNew, LeafAdded       one more leaf, with the label w, behind leaves with the taxa m
 --   AllSummed                the first k leaves name different taxa, and their running sums stand in u
 --   LeavesSummed             what they come to: 8 or 9, whatever leaves stand behind them, or all this

@@ -7,4 +7,7 @@ pub mod Words
 pub mod Noting
 pub mod Placing
 pub mod Sound
+pub mod TokenLaws
+pub mod Shaping
+pub mod ShapingLaws
 pub mod Judge

@@ -1,6 +1,6 @@
 -- Running sums over the leaves of a text: record j is of the first j leaves.
 --
---   labelsAt s l k      the labels of the first k leaves of the text s: label j stands from the number 2 * j of l up to the number behind it
+--   labelsAt s l k      the first k labels in the bytes s: label j stands from the number 2 * j of l up to the number behind it
 --   labelTaxa ns ws     the taxa that the labels ws name
 --   Running o k s       the records 0 to k of s are hashed, and each mask lies within those behind it
 --   spanMasks s l n     of the first n spans in l: the taxa of the record where the span ends that are not in the record where it begins

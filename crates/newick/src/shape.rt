@@ -1,16 +1,17 @@
 // Reading the shape of a text: its nodes, with the places of the leaves' tokens and the spans of the inner nodes noted in lent lists.
 ghost use mathlib.Core.Path.{_≡_};
-ghost use mathlib.Core.List.{[], _∷_};
-ghost use Prim.Native.Nat.{_+_, _*_, _^_, _≤_, _<_};
+ghost use mathlib.Core.List.{List, [], _∷_};
+ghost use Prim.Native.Nat.{ℕ, _+_, _*_, _^_, _≤_, _<_};
 ghost use lib.ListN.{length, set};
 ghost use lib.Seq.{sets};
 ghost use Rattle.trees.specs.Held.{mostText};
+ghost use Rattle.text.specs.Read.{kindAt, Skipped};
 ghost use Rattle.newick.specs.Shape.{Ready, NodeReads, ChildrenReads, NodeRead, ShapeRead};
 
 // Two numbers for each leaf that is judged, and for each inner node of a tree of 64 taxa.
-pub(crate) const TOKENS: usize = 130;
+pub const TOKENS: usize = 130;
 
-pub(crate) const NODES: usize = 128;
+pub const NODES: usize = 128;
 
 // Where a reader stands: in the text, and how many leaves and inner nodes it has passed. A mark past the text is a fault of form.
 pub struct Mark {
@@ -20,7 +21,7 @@ pub struct Mark {
 }
 
 // The shape of a whole text: of leaf k the ends of its token at 2k of `tokens`, of inner node j its span of leaves at 2j of `nodes`.
-pub(crate) fn read_shape(text: &[u8], tokens: &mut [u16; TOKENS], nodes: &mut [u16; NODES]) -> Mark
+pub fn read_shape(text: &[u8], tokens: &mut [u16; TOKENS], nodes: &mut [u16; NODES]) -> Mark
     requires { ⌜ length (now text) ≤ mostText ⌝ }
     ensures { λ r. ⌜ ShapeRead (now (text .entry)) r (now (tokens .entry)) (now (nodes .entry)) (now (tokens .exit)) (now (nodes .exit)) ⌝ }
 {
@@ -60,20 +61,8 @@ pub(crate) fn read_node(
 {
     let from = c.at;
     let at = text::skip_blanks(text, from);
-    let e = text::label_end(text, at);
-    if text.len() < e {
-        return fault(text);
-    }
-    if at < e {
-        note(tokens, c.leaves, at, e);
-        return Mark {
-            at: text::past_length(text, e),
-            leaves: c.leaves + 1,
-            inner: c.inner,
-        };
-    }
     if !text::has_byte(text, at, b'(') {
-        return fault(text);
+        return read_leaf(text, c, at, tokens);
     }
     if depth == 0 {
         return fault(text);
@@ -84,6 +73,27 @@ pub(crate) fn read_node(
         inner: c.inner,
     };
     read_nodes(text, inside, depth - 1, tokens, nodes)
+}
+
+// The leaf at `at`, behind blanks, where no bracket opens.
+fn read_leaf(text: &[u8], c: Mark, at: usize, tokens: &mut [u16; TOKENS]) -> Mark
+    requires { ⌜ Ready (now text) c ⌝ }
+    requires { ⌜ Skipped (now text) (c .at) at × (kindAt (now text) at ≡ 2 → ⊥) ⌝ }
+    ensures { λ r. ⌜ ((depth : ℕ) (nodes : List ℕ) → NodeRead (NodeReads (now (text .entry)) depth (c .at)) (now (text .entry)) c r (now (tokens .entry)) nodes (now (tokens .exit)) nodes) ⌝ }
+{
+    let e = text::label_end(text, at);
+    if text.len() < e {
+        return fault(text);
+    }
+    if e == at {
+        return fault(text);
+    }
+    note(tokens, c.leaves, at, e);
+    Mark {
+        at: text::past_length(text, e),
+        leaves: c.leaves + 1,
+        inner: c.inner,
+    }
 }
 
 // The children behind an opening bracket, with commas between, the closing bracket, and what may follow it.

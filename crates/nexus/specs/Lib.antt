@@ -29,7 +29,13 @@ pub mod CopyLaws
 pub mod KeptLaws
 pub mod Verdicts
 pub mod VerdictLaws
+pub mod Named
+pub mod NamedTextLaws
+pub mod RenamedLaws
+pub mod Keyed
+pub mod NamingLaws
 pub mod LineTextLaws
 pub mod FeedLaws
+pub mod KeyedLaws
 pub mod Fed
 pub mod FedLaws

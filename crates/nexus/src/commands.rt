@@ -36,7 +36,7 @@ fn closing(b: u8) -> u8
 }
 
 // Past the bytes from `from` on that neither end a command nor begin a comment or a run in quotes.
-fn past_plain(s: &[u8], from: usize) -> usize
+pub(crate) fn past_plain(s: &[u8], from: usize) -> usize
     requires { ⌜ from ≤ length (now s) ⌝ }
     ensures { λ r. ⌜ PlainEnd (now (s .entry)) from r ⌝ }
 {

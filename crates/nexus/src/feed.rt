@@ -10,8 +10,11 @@ ghost use Rattle.head.specs.Head.{namesAt};
 ghost use Rattle.head.specs.Index.{Indexed};
 ghost use Rattle.layout.specs.WholeStore.{wholeAt};
 ghost use Rattle.nexus.specs.Commands.{pairsIn, Placed};
+ghost use Rattle.nexus.specs.Named.{labelled};
 ghost use Rattle.nexus.specs.Verdicts.{LineAt, LinesAt, Hands, FeedsLines};
 use crate::commands;
+use crate::keyed;
+use crate::keyed::Keyed;
 use crate::keys;
 use crate::lines;
 use crate::lines::Line;
@@ -37,6 +40,7 @@ pub(crate) fn feed_trees(
     requires { ⌜ from ≤ length (now f) ⌝ }
     requires { ⌜ LinesAt (now f) from n ⌝ }
     requires { ⌜ Placed (now list) pairs (now places) ⌝ }
+    requires { ⌜ labelled (pairsIn (now list) pairs (now places)) ≡ true ⌝ }
     requires { ⌜ n ≤ length (now verdicts) ⌝ }
     ensures { λ r. ⌜ FeedsLines (pairsIn (now (list .entry)) pairs (now (places .entry))) (now (f .entry)) from n (now (s .entry)) (now (verdicts .entry)) (now (s .exit)) (now (verdicts .exit)) ⌝ }
 {
@@ -82,6 +86,7 @@ fn feed_lines(
     requires { ⌜ from ≤ length (now f) ⌝ }
     requires { ⌜ LinesAt (now f) from n ⌝ }
     requires { ⌜ Placed (now list) pairs (now places) ⌝ }
+    requires { ⌜ labelled (pairsIn (now list) pairs (now places)) ≡ true ⌝ }
     requires { ⌜ Indexed (keysOf (pairsIn (now list) pairs (now places))) (now firsts) (now nexts) ⌝ }
     requires { ⌜ n ≤ length (now verdicts) ⌝ }
     ensures { λ r. ⌜ FeedsLines (pairsIn (now (list .entry)) pairs (now (places .entry))) (now (f .entry)) from n (now (s .entry)) (now (verdicts .entry)) (now (s .exit)) (now (verdicts .exit)) ⌝ }
@@ -111,7 +116,8 @@ fn feed_lines(
     }
 }
 
-// Feeds one tree, by the bytes that stand in the file for it; its plain text is written into a buffer that every tree uses.
+// Feeds one tree, by the bytes that stand in the file for it: by its keys, if that is enough; else its plain text is written into a buffer that
+// every tree uses.
 fn feed_text(
     s: &mut [u8],
     starts: &[u8; KEYS],
@@ -127,13 +133,20 @@ fn feed_text(
     requires { ⌜ wholeAt (now s) ≡ true ⌝ }
     requires { ⌜ Indexed (namesAt (now s)) (now starts) (now links) ⌝ }
     requires { ⌜ Placed (now list) pairs (now places) ⌝ }
+    requires { ⌜ labelled (pairsIn (now list) pairs (now places)) ≡ true ⌝ }
     requires { ⌜ Indexed (keysOf (pairsIn (now list) pairs (now places))) (now firsts) (now nexts) ⌝ }
     requires { ⌜ length (now text) ≡ mostText ⌝ }
     ensures { λ r. ⌜ Hands (now (s .entry)) (replaced (pairsIn (now (list .entry)) pairs (now (places .entry))) (uncommented false (now (raw .entry)))) r (now (s .exit)) ⌝ }
     ensures { λ r. ⌜ length (now (text .exit)) ≡ mostText ⌝ }
 {
-    let n = plain::write_text(list, pairs, places, firsts, nexts, raw, text);
-    verdicts::judge_text(s, starts, links, text, n)
+    let k = keyed::judge_keys(s, starts, links, raw, list, pairs, places, firsts, nexts);
+    match k {
+        Keyed::Told(p) => p,
+        Keyed::Unsure => {
+            let n = plain::write_text(list, pairs, places, firsts, nexts, raw, text);
+            verdicts::judge_text(s, starts, links, text, n)
+        }
+    }
 }
 
 // Where the text of the tree stands whose line begins at `at`.

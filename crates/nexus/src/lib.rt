@@ -12,6 +12,7 @@ mod blocks;
 mod commands;
 mod comments;
 mod feed;
+mod keyed;
 mod keys;
 mod lines;
 mod pairs;

@@ -5,22 +5,25 @@
 --   build-index-once                          the index of the names, in every entry that is used
 --   shorten-once                              the short lists of the trees, in every place that is used
 --   write-eight-once                          eight rows of distances
---   judge-once                                the verdict on a text, and the list of records
+--   judge-once, judge-shape-once              the verdict on a text, and the list of records
+--   read-shape-once                           the shape of a text: whether it is a tree, how many leaves and inner nodes it has, their spans and labels
 --   judge-lengths-once, judge-text-once       the verdict where lengths are kept, and where they may be; both lists
 --   write-tree-once                           a tree written
-use Prim.Native.Nat.{ℕ, _+_, _*_, _/_, _%_, _≤_, _<_}
+use Prim.Native.Nat.{ℕ, _+_, _*_, _/_, _%_, _≤_, _<_, min}
 use native.Mathlib.Omega.{arith}
 use mathlib.Core.Path.{_≡_, refl, sym, ap, subst, _∙_}
 use mathlib.Core.Logic.{⊎-elim}
 use mathlib.Core.List.{List, [], _∷_, _++_}
 use lib.ListN.{length, getD, take, drop, List·getD-append}
-use lib.Seq.{length-take-le, getD-at, getD-take}
+use lib.Seq.{sets, length-take-le, getD-at, getD-take}
 use denote.Ref.{now}
 use Rattle.trees.specs.Plain.{Answer, refused, gives}
+use Rattle.trees.specs.Tree.{Nodes, leaves}
 use Rattle.trees.specs.Opening.{Opening}
 use Rattle.trees.specs.Verdict.{Branches, judgedWith}
 use Rattle.theorems.specs.ListLaws.{Mem, less-or-not}
 use Rattle.theorems.specs.RisingLaws.{Rising}
+use Rattle.theorems.specs.GrammarLaws.{reading-sound, no-tree}
 use Rattle.answers.specs.Answers.{refusalNumber}
 use Rattle.answers.specs.AnswerLaws.{gives≢refused}
 use Rattle.records.specs.Records.{withRecords, putIn}
@@ -35,6 +38,12 @@ use Rattle.layout.specs.Store.{treesHeldAt}
 use Rattle.distances.specs.Short.{rowsIn}
 use Rattle.newick.specs.Words.{withWords}
 use Rattle.newick.specs.Judge.{JudgedAs, JudgedWith}
+use Rattle.newick.specs.Shape.{spans, ShapeRead}
+use Rattle.newick.specs.Running.{labelsAt}
+use Rattle.newick.specs.Leaves.{mostLeaves}
+use Rattle.newick.specs.Sound.{spanRoom}
+use Rattle.newick.specs.ShapingLaws.{shape-itself}
+use Rattle.newick.specs.declared.shape.Mark.{Mark}
 use Rattle.newick.specs.declared.Judged.{Judged}
 use Rattle.newick.specs.declared.Judged.the-variants.{Refused, Splits}
 use Rattle.feeding.specs.Judging.{JudgedIn}
@@ -46,10 +55,12 @@ use Rattle.head.proofs.build_index.Reads as build-index
 use Rattle.distances.proofs.shorten.Reads as shorten
 use Rattle.distances.proofs.write_eight.Reads as write-eight
 use Rattle.newick.proofs.judge.Reads as judge
+use Rattle.newick.proofs.judge_shape.Reads as judge-shape
+use Rattle.newick.proofs.read_shape.Reads as read-shape
 use Rattle.newick.proofs.judge_lengths.Reads as judge-lengths
 use Rattle.feeding.proofs.judge_text.Reads as judge-text
 use Rattle.writer.proofs.write_tree.Reads as write-tree
-use Rattle.promises.specs.Once.{Once, OnceIf, arg1, arg2, arg3, arg4, arg5, arg6}
+use Rattle.promises.specs.Once.{Once, OnceIf, arg1, arg2, arg3, arg4, arg5, arg6, arg9}
 use Rattle.promises.specs.Calls.{refusalIn}
 use Rattle.promises.specs.Outcomes.{refusal-one, valueOr, both}
 
@@ -126,6 +137,46 @@ judged-both o s (Splits j) (Splits k) u v w x y =
 
 pub judge-once : Once judge.Post (λ x q r y z. (q ≡ r) × (now (arg5 y) ≡ now (arg5 z)))
 judge-once k x q r y z a b = judged-both _ _ q r _ _ _ a b
+
+pub judge-shape-once : OnceIf judge-shape.Pre judge-shape.Post (λ x q r y z. (q ≡ r) × (now (arg9 y) ≡ now (arg9 z)))
+judge-shape-once k x q r y z p a b = let s = p .1 .1 .0 in judged-both _ (s .0) q r _ _ _ (a (s .0) (s .1)) (b (s .0) (s .1))
+
+-- ---- a shape read
+
+-- two readings of one text
+module _ (s : List ℕ) (q r : Mark) (tokens nodes t u v w : List ℕ) (a : ShapeRead s q tokens nodes t u) (b : ShapeRead s r tokens nodes v w) where
+  fault-both : length s < q .at → length s < r .at
+  fault-both h = ⊎-elim (λ g. g) (λ g. let x = b .good g in absurd (no-tree s .0 (a .fault h) (x .0) (reading-sound s (x .0) (x .1 .reads)))) (less-or-not (length s) (r .at))
+
+  shape-both : q .at ≤ length s → r .at ≤ length s → (q .leaves ≡ r .leaves) × (q .inner ≡ r .inner) × (u ≡ w)
+  shape-both h g =
+      let x = a .good h in
+      let y = b .good g in
+      let c = x .1 .reads in
+      let d = y .1 .reads in
+      let e : x .0 ≡ y .0 = cc in (
+        x .1 .leaved ∙ ap (λ (n : Nodes). length (leaves n)) e ∙ sym (y .1 .leaved),
+        omega (arith, x .1 .nested, y .1 .nested, ap (λ (n : Nodes). length (spans 0 n)) e),
+        x .1 .spanned ∙ ap (λ (n : Nodes). sets nodes 0 (spans 0 n)) e ∙ sym (y .1 .spanned),
+      )
+
+  labels-both : q .at ≤ length s → r .at ≤ length s → length tokens ≡ 2 * mostLeaves → length nodes ≡ spanRoom
+      → (j : ℕ) → j ≤ min (q .leaves) mostLeaves → labelsAt s t j ≡ labelsAt s v j
+  labels-both h g m n j l =
+      let x = shape-itself s q tokens nodes t u a h m n in
+      let y = shape-itself s r tokens nodes v w b g m n in
+      let c = x .reads in
+      let d = y .reads in
+      let e : x .tree ≡ y .tree = cc in
+      x .first j l ∙ ap (λ (o : Nodes). take j (leaves o)) e ∙ sym (y .first j (omega (arith, shape-both h g .0)))
+
+pub read-shape-once : Once read-shape.Post
+    (λ x q r y z. (length (now (arg1 x)) < q .at → length (now (arg1 x)) < r .at)
+    × (q .at ≤ length (now (arg1 x)) → r .at ≤ length (now (arg1 x))
+    → ((q .leaves ≡ r .leaves) × (q .inner ≡ r .inner) × (now (arg3 y) ≡ now (arg3 z)))
+    × (length (now (arg2 x)) ≡ 2 * mostLeaves → length (now (arg3 x)) ≡ spanRoom
+    → (j : ℕ) → j ≤ min (q .leaves) mostLeaves → labelsAt (now (arg1 x)) (now (arg2 y)) j ≡ labelsAt (now (arg1 x)) (now (arg2 z)) j)))
+read-shape-once k x q r y z a b = (fault-both _ q r _ _ _ _ _ _ a b, λ h g. (shape-both _ q r _ _ _ _ _ _ a b h g, labels-both _ q r _ _ _ _ _ _ a b h g))
 
 -- a text with its lengths, of which the verdict is j
 module _ (o : Opening) (j : Answer Branches) (u v : List ℕ) where

@@ -8,12 +8,11 @@
 --   printedLines a texts          the lines printed where the opening is a, or its refusal
 --   linesFor input                all lines that are printed
 --   summary input                 and their bytes, one behind another
-use Prim.Native.Nat.{ℕ, suc, _*_, _%_, _^_}
+use Prim.Native.Nat.{ℕ, _*_, _%_, _^_}
 use mathlib.Core.Path.{_≡_, refl}
 use mathlib.Core.Bool.{false}
 use mathlib.Core.List.{List, [], _∷_}
 use lib.Dec.{eqb}
-use lib.ListN.{length}
 use Rattle.trees.specs.Plain.{if_then_else_, bytes, byte, Answer, refused, gives}
 use Rattle.trees.specs.Opening.{Numbers, Opening, opening}
 use Rattle.trees.specs.Held.{opened, closing}

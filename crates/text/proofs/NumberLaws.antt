@@ -1,4 +1,4 @@
--- The loops of `past_digits` and `past_number`.
+-- The loops of `past_digits` and `past_number`, and what `past_decimal` finds.
 --
 --   Digits s i r        digits from i up to r
 --   Walked s b i q      the bytes from b up to i are label bytes, and a length with them has come to q
@@ -22,12 +22,12 @@ use Rattle.theorems.specs.ListLaws.{and-right, less-or-not}
 use Rattle.theorems.specs.LabelLaws.{quote-kind}
 use Rattle.theorems.specs.TextLaws.{byKind, symbols-step}
 use Rattle.text.specs.Automaton.{byteClass, move, run, isEnd}
-use Rattle.text.specs.Read.{kindAt, NoBlank, hasByte, hasLabelByte, symbolsAt, RunEnd, DigitsEnd, Unmeasured, NumberBehind}
-use Rattle.text.specs.PlaceLaws.{front-not, run-front}
+use Rattle.text.specs.Read.{kindAt, NoBlank, hasByte, hasLabelByte, symbolsAt, RunEnd, DigitsEnd, Unmeasured, NumberBehind, DecimalBehind}
+use Rattle.text.specs.PlaceLaws.{IsMark, is-comma, is-close, front-not, run-front, byte-there}
 use Rattle.text.specs.SliceLaws.{slice-more}
 use Rattle.text.proofs.ByteLaws.{at}
 use Rattle.text.proofs.SymbolLaws.{each-more}
-use Rattle.text.proofs.TokenLaws.{StrayFirst, no-label-there, quote-there, token-at, run-label, run-stops, run-odd, quote-at}
+use Rattle.text.proofs.TokenLaws.{StrayFirst, no-label-there, quote-there, byte-stands, other-there, token-at, run-label, run-stops, run-odd, quote-at}
 use Rattle.text.proofs.PastLaws.{parted-label, colon-front}
 use Rattle.text.proofs.AutomatonLaws.{run-length, quote-length}
 
@@ -214,3 +214,46 @@ module _ (s : List ℕ) (b : ℕ) where
 
 pub not-end : (q : ℕ) → (q ≡ 2 → ⊥) → (q ≡ 4 → ⊥) → (q ≡ 7 → ⊥) → isEnd q ≡ false
 not-end q f g h = simp (ne-eqb q 2 f, ne-eqb q 4 g, ne-eqb q 7 h)
+
+-- ---- digits, a point and digits
+
+module _ (s : List ℕ) (b : ℕ) where
+  -- no decimal
+  pub decimal-none : DecimalBehind s b (length s)
+  decimal-none = record { within = omega arith; number = λ l. absurd (omega arith) }
+
+  module _ (p r : ℕ) (d : DigitsEnd s b 0 p) (some-digits : p ≡ b → ⊥) (point : hasByte s p 46 ≡ true) (e : DigitsEnd s (p + 1) 0 r) where
+    to-point : Walked s b p 2
+    unfolding move
+    to-point =
+        let l : b < p = omega (arith, d .past, some-digits) in
+        let m : b < length s = omega (arith, d .within) in
+        let x : isDigit (getD s b 0) ≡ true = d .each b (omega arith) l .1 in
+        let n : DigitsEnd s (b + 1) 0 p = record { past = omega arith; within = d .within; each = λ j u v. d .each j (omega arith) v } in
+        walked-turn s b b 0 0 2 p (walked-none s b (omega arith)) m (digit-label (getD s b 0) x) (sym (digit-class (getD s b 0) x)) refl (omega arith) n
+
+    past-point : Walked s b (p + 1) 4
+    unfolding move byteClass isLabelByte
+    past-point =
+        let h = byte-stands s p 46 point in
+        walked-byte s b p 2 4 to-point (h .0) (ap isLabelByte (h .1)) (ap (λ (x : ℕ). move 2 (byteClass x)) (sym (h .1))) (omega arith)
+
+    decimal-walked : Walked s b r 4
+    unfolding move
+    decimal-walked =
+        let y : p + 1 + (r - (p + 1)) ≡ r = omega (arith, e .past) in
+        subst (λ (x : ℕ). Walked s b x 4) y (walked-digits s b (r - (p + 1)) (p + 1) 4 (omega arith) past-point (λ j u v. e .each j u (omega arith) .1) (omega (arith, e .within)))
+
+    decimal-behind : (n x : ℕ) → IsMark n x → 1 < n → isLabelByte x ≡ false → eqb x apostrophe ≡ false → hasByte s r x ≡ true → DecimalBehind s b r
+    decimal-behind n x k o f g h =
+        let q = other-there s r x h f g in
+        let z : kindAt s r ≡ n = byte-there s r k h in
+        record { within = e .within; number = λ l. (number-good s b r 4 decimal-walked (q .0) (q .1) refl, λ y. omega arith) }
+
+    pub decimal-comma : hasByte s r 44 ≡ true → DecimalBehind s b r
+    unfolding isLabelByte
+    decimal-comma = decimal-behind 4 44 is-comma (omega arith) refl refl
+
+    pub decimal-close : hasByte s r 41 ≡ true → DecimalBehind s b r
+    unfolding isLabelByte
+    decimal-close = decimal-behind 3 41 is-close (omega arith) refl refl

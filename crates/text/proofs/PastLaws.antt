@@ -17,7 +17,7 @@ use Rattle.trees.specs.Reading.{readLength, readLabel, readClosing}
 use Rattle.theorems.specs.ListLaws.{less-or-not}
 use Rattle.theorems.specs.QuoteLaws.{open-append, no-quote-open}
 use Rattle.theorems.specs.LabelLaws.{label-closed, quote-kind}
-use Rattle.text.specs.Read.{kindNo, kindAt, NoBlank, symbolsAt, Skipped, LabelEnd, Parted, Unmeasured, NumberBehind, Behind, ClosingBehind}
+use Rattle.text.specs.Read.{kindNo, kindAt, NoBlank, symbolsAt, Skipped, LabelEnd, Parted, Unmeasured, NumberBehind, DecimalBehind, Behind, ClosingBehind}
 use Rattle.text.specs.PlaceLaws.{front, front-not, mark-at, kind-there, behind}
 use Rattle.text.specs.SliceLaws.{slice-parts, every-slice}
 
@@ -128,6 +128,12 @@ module _ (s : List ℕ) (i : ℕ) where
           (parted-join s a (a + 1) r (omega arith) (omega (arith, q .past, n .good l .1, w .past)) (w .within) (parted-mark s a 5 h (omega arith) (omega arith))
           (parted-join s (a + 1) b r (q .past) (omega (arith, n .good l .1, w .past)) (w .within) (parted-skip s (a + 1) b q)
           (parted-join s b e r (n .good l .1) (w .past) (w .within) (n .good l .2) (parted-skip s e r w))))
+
+  -- with no blank behind it
+  pub length-decimal : (a b r : ℕ) → Skipped s i a → kindAt s a ≡ 5 → Skipped s (a + 1) b → DecimalBehind s b r → r < length s → Behind readLength s i r
+  length-decimal a b r p h q d l =
+      let n = d .number l in
+      length-past a b r r p h q (n .0) (d .within) (record { past = omega arith; within = d .within; tokens = refl; each = λ j u v. absurd (omega arith); stop = n .1 })
 
   -- ---- a label or nothing
   pub label-past : (a e r : ℕ) → Skipped s i a → LabelEnd s a e → e ≤ length s → Behind readLength s e r → Behind readLabel s i r

@@ -154,13 +154,26 @@ module _ (w : List ℕ) where
 
 -- ---- what `label_end` answers
 
-pub quote-there : (s : List ℕ) (e : ℕ) → hasByte s e apostrophe ≡ true → (e < length s) × (getD s e 0 ≡ apostrophe)
+pub byte-stands : (s : List ℕ) (e x : ℕ) → hasByte s e x ≡ true → (e < length s) × (getD s e 0 ≡ x)
 unfolding hasByte
-quote-there s e = go (ltb e (length s)) refl
+byte-stands s e x = go (ltb e (length s)) refl
   where
-    go : (t : Bool) → ltb e (length s) ≡ t → (if t then eqb (getD s e 0) apostrophe else false) ≡ true → (e < length s) × (getD s e 0 ≡ apostrophe)
-    go true l q = (ltb-true e (length s) l, eqb-true (getD s e 0) apostrophe q)
+    go : (t : Bool) → ltb e (length s) ≡ t → (if t then eqb (getD s e 0) x else false) ≡ true → (e < length s) × (getD s e 0 ≡ x)
+    go true l q = (ltb-true e (length s) l, eqb-true (getD s e 0) x q)
     go false l q = absurd (true≢false (sym q))
+
+pub quote-there : (s : List ℕ) (e : ℕ) → hasByte s e apostrophe ≡ true → (e < length s) × (getD s e 0 ≡ apostrophe)
+quote-there s e = byte-stands s e apostrophe
+
+-- the byte x, which is neither a label byte nor an apostrophe
+pub other-there : (s : List ℕ) (e x : ℕ) → hasByte s e x ≡ true → isLabelByte x ≡ false → eqb x apostrophe ≡ false → (hasLabelByte s e ≡ false) × (hasByte s e apostrophe ≡ false)
+unfolding hasByte hasLabelByte
+other-there s e x h n m =
+    let p = byte-stands s e x h in
+    let l : ltb e (length s) ≡ true = lt-ltb e (length s) (p .0) in (
+      ap (λ (t : Bool). if t then isLabelByte (getD s e 0) else false) l ∙ ap isLabelByte (p .1) ∙ n,
+      ap (λ (t : Bool). if t then eqb (getD s e 0) apostrophe else false) l ∙ ap (λ (y : ℕ). eqb y apostrophe) (p .1) ∙ m,
+    )
 
 module _ (s : List ℕ) (r : ℕ) where
   pub label-there : hasLabelByte s r ≡ true → (r < length s) × (isLabelByte (getD s r 0) ≡ true)

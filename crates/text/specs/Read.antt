@@ -11,6 +11,7 @@
 --   QuotedEnd, LabelEnd    the ends of a label in quotes, of any label; the end is past the text where what stands there is no label
 --   DigitsEnd          the end of a run of digits
 --   NumberBehind       a length behind a colon
+--   DecimalBehind      one that ends before the text and with no blank behind it, or nothing said
 --   Parted s i r       no symbol of s from i on reaches over r
 --   Unmeasured         a node, by its length
 --   Behind F, ClosingBehind     what may follow some nodes, read from i up to r, and the length in it; r is past the text where it is a fault
@@ -106,6 +107,11 @@ Unmeasured = Option (List ℕ) → Nodes
 pub record NumberBehind (s : List ℕ) (i r : ℕ) : Type 0 where
   pub good : r ≤ length s → ((t : Unmeasured) → readLength t (colon ∷ symbolsAt s i) ≡ some (t (some (slice i r s)), symbolsAt s r)) × (i ≤ r) × Parted s i r
   pub fault : length s < r → (r ≡ length s + 1) × ((t : Unmeasured) → readLength t (colon ∷ symbolsAt s i) ≡ none)
+
+-- behind a colon: if r is before the text's end, the token from i up to r is a length, and no blank stands at r
+pub record DecimalBehind (s : List ℕ) (i r : ℕ) : Type 0 where
+  pub within : r ≤ length s
+  pub number : r < length s → NumberBehind s i r × NoBlank s r
 
 -- F is what may follow the node t: the length x or none, up to r, where no blank stands, or a fault
 pub record Behind (F : Unmeasured → List Symbol → Read) (s : List ℕ) (i r : ℕ) : Type 0 where

@@ -8,7 +8,7 @@ ghost use lib.Dec.{eqb};
 ghost use Rattle.trees.specs.Text.{apostrophe, isBlank, isLabelByte, isQuotedByte, turned as turnedBy, kind};
 ghost use Rattle.trees.specs.Length.{isDigit};
 ghost use Rattle.trees.specs.Reading.{readLength, readLabel};
-ghost use Rattle.text.specs.Read.{kindNo, NoBlank, hasByte, hasLabelByte, hasQuotedByte, Skipped, RunEnd, QuotedEnd, LabelEnd, DigitsEnd, NumberBehind, Behind, ClosingBehind};
+ghost use Rattle.text.specs.Read.{kindNo, NoBlank, hasByte, hasLabelByte, hasQuotedByte, Skipped, RunEnd, QuotedEnd, LabelEnd, DigitsEnd, NumberBehind, DecimalBehind, Behind, ClosingBehind};
 ghost use Rattle.text.specs.Automaton.{byteClass, move as moveNo};
 
 mod ends;
@@ -192,11 +192,38 @@ pub fn past_length(text: &[u8], from: usize) -> usize
         return colon;
     }
     let b = skip_blanks(text, colon + 1);
+    let d = past_decimal(text, b);
+    if d < text.len() {
+        return d;
+    }
     let e = past_number(text, b);
     if text.len() < e {
         return e;
     }
     skip_blanks(text, e)
+}
+
+// Past digits, a point and the digits behind it, if there are any, with a comma or a closing bracket behind them; the text's length where
+// that does not stand there. The automaton need not go through such a length.
+fn past_decimal(text: &[u8], from: usize) -> usize
+    requires { ⌜ from ≤ length (now text) ⌝ }
+    ensures { λ r. ⌜ DecimalBehind (now (text .entry)) from r ⌝ }
+{
+    let point = past_digits(text, from, 0);
+    if point == from {
+        return text.len();
+    }
+    if !has_byte(text, point, b'.') {
+        return text.len();
+    }
+    let behind = past_digits(text, point + 1, 0);
+    if has_byte(text, behind, b',') {
+        return behind;
+    }
+    if has_byte(text, behind, b')') {
+        return behind;
+    }
+    text.len()
 }
 
 // Past the token at `from`, if it is a length; 1 more than the text's length if not. Digits, the most of a length, are passed in runs.

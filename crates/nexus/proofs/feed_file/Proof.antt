@@ -3,15 +3,14 @@ use mathlib.Core.Path.{sym, ap, _∙_}
 use native.Mathlib.Omega.{arith}
 use borrow.Author.Needs.{needs}
 use borrow.Author.Tests.{not-true, not-false}
-use Rattle.trees.specs.Nexus.{Pair}
 use Rattle.trees.specs.Names.{different}
-use Rattle.trees.specs.NexusCall.{keysOf, replaced, handing}
+use Rattle.trees.specs.NexusCall.{keysOf}
 use Rattle.store.specs.LentLaws.{not-whole}
 use Rattle.opening.specs.GivenLaws.{failed, passed}
+use Rattle.nexus.specs.KeyedLaws.{file-labelled}
 use Rattle.nexus.specs.FedLaws.{nexus-refused, nexus-malformed, nexus-repeats, nexus-short, nexus-done}
 use Rattle.nexus.proofs.feed_file.Statement.{statement}
 use Rattle.nexus.proofs.feed_file.Tie as tie
-use Rattle.store.proofs.is_whole.Reads as is-whole-reads
 
 is-whole-requires : tie.Need-is-whole-requires
 is-whole-requires c κs = search needs
@@ -121,7 +120,7 @@ feed-trees-requires c κs =
     let far = back .before .before .before .before .before in
     let w = passed _ _ (far .before .before .before .before .before .is-whole .ensures) (far .before .before .before .before .if1 .left) in
     let g = far .before .before .read-file .ensures .good (not-false _ (back .before .before .before .before .if2 .left)) in
-    (w, (g .2 .there, (record { texts = g .0 .texts; count = g .2 .trees; read = g .2 .lines }, (g .2 .placed, omega (arith, c .before .before .before .before .if4 .left)))))
+    (w, (g .2 .there, (record { texts = g .0 .texts; count = g .2 .trees; read = g .2 .lines }, (g .2 .placed, (rw (← (g .2 .pairs)) (file-labelled _ _ (g .1)), omega (arith, c .before .before .before .before .if4 .left))))))
 
 same-length-5 : tie.Need-same-length-5
 same-length-5 c = search needs

@@ -6,7 +6,7 @@ use mathlib.Core.Path.{sym, _∙_}
 use lib.ListN.{length}
 use borrow.Author.Tests.{not-true, not-false}
 use Rattle.text.specs.PlaceLaws.{there, is-open, is-comma, byte-there, byte-else}
-use Rattle.newick.proofs.ShapeLaws.{read-leaf, read-stray, read-other, read-deep, inside-less, inside-ready, read-bracket, Sofar, sofar-none, sofar-less, sofar-ready, sofar-more, turn-less, last-stop, last-small, children-fault, children-read}
+use Rattle.newick.proofs.ShapeLaws.{read-deep, inside-less, inside-ready, read-bracket, Sofar, sofar-none, sofar-less, sofar-ready, sofar-more, turn-less, last-stop, last-small, children-fault, children-read}
 use borrow.Fn.Kinds.{In}
 use borrow.Fn.PlainCycle.{Measures, is, falls, and}
 use Rattle.newick.proofs.shape.read_node.Reads as read-node
@@ -17,10 +17,9 @@ use Rattle.newick.proofs.shape.read_nodes.Kinds as read-nodes-kinds
 use Rattle.newick.proofs.shape.+read_node+read_nodes.Lts-read_nodes as read-nodes-lts
 use Rattle.newick.proofs.shape.fault.Reads as fault-reads
 use Rattle.newick.proofs.shape.note.Reads as note-reads
+use Rattle.newick.proofs.shape.read_leaf.Reads as read-leaf-reads
 use Rattle.text.proofs.has_byte.Reads as has-byte-reads
-use Rattle.text.proofs.label_end.Reads as label-end-reads
 use Rattle.text.proofs.past_closing.Reads as past-closing-reads
-use Rattle.text.proofs.past_length.Reads as past-length-reads
 use Rattle.text.proofs.skip_blanks.Reads as skip-blanks-reads
 use Rattle.newick.proofs.shape.+read_node+read_nodes.{statement}
 use Rattle.newick.proofs.shape.+read_node+read_nodes.Tie.{close}
@@ -47,7 +46,7 @@ read-nodes-below t =
     and 3 read-nodes-kinds.ps (falls 3 read-nodes-kinds.ps _<_ μ-read-nodes t) read-nodes.Pre
 
 abbrev read-node-calls : ℕ → read-node-lts.Claims
-read-node-calls t = (skip-blanks-reads.Asked, skip-blanks-reads.Learnt, label-end-reads.Asked, label-end-reads.Learnt, fault-reads.Asked, fault-reads.Learnt, note-reads.Asked, note-reads.Learnt, past-length-reads.Asked, past-length-reads.Learnt, has-byte-reads.Asked, has-byte-reads.Learnt, read-nodes-below t, read-nodes.Post)
+read-node-calls t = (skip-blanks-reads.Asked, skip-blanks-reads.Learnt, has-byte-reads.Asked, has-byte-reads.Learnt, read-leaf-reads.Asked, read-leaf-reads.Learnt, fault-reads.Asked, fault-reads.Learnt, read-nodes-below t, read-nodes.Post)
 
 abbrev read-nodes-calls : ℕ → read-nodes-lts.Claims
 read-nodes-calls t = (read-node-below t, read-node.Post, has-byte-reads.Asked, has-byte-reads.Learnt, past-closing-reads.Asked, past-closing-reads.Learnt, fault-reads.Asked, fault-reads.Learnt, note-reads.Asked, note-reads.Learnt)
@@ -55,53 +54,32 @@ read-nodes-calls t = (read-node-below t, read-node.Post, has-byte-reads.Asked, h
 read-node-skip-blanks-requires : (t : ℕ) → read-node-lts.Need-skip-blanks-requires (read-node-calls t) (read-node-at t) read-node.Post
 read-node-skip-blanks-requires t c κs = c .before .pre .1 .within
 
-read-node-label-end-requires : (t : ℕ) → read-node-lts.Need-label-end-requires (read-node-calls t) (read-node-at t) read-node.Post
-read-node-label-end-requires t c κs = c .skip-blanks .ensures .within
+read-node-has-byte-requires : (t : ℕ) → read-node-lts.Need-has-byte-requires (read-node-calls t) (read-node-at t) read-node.Post
+read-node-has-byte-requires t c κs = tt
+
+read-node-read-leaf-requires : (t : ℕ) → read-node-lts.Need-read-leaf-requires (read-node-calls t) (read-node-at t) read-node.Post
+read-node-read-leaf-requires t c κs = (c .before .before .before .before .before .pre .1, (c .before .before .before .skip-blanks .ensures, byte-else _ _ is-open (sym (c .before .before .has-byte .ensures) ∙ not-true _ (c .before .if1 .taken))))
+
+read-node-returns : (t : ℕ) → read-node-lts.Need-returns (read-node-calls t) (read-node-at t) read-node.Post
+read-node-returns t c = c .read-leaf .ensures _ _
 
 read-node-fault-requires : (t : ℕ) → read-node-lts.Need-fault-requires (read-node-calls t) (read-node-at t) read-node.Post
 read-node-fault-requires t c κs = tt
 
-read-node-returns : (t : ℕ) → read-node-lts.Need-returns (read-node-calls t) (read-node-at t) read-node.Post
-read-node-returns t c = read-stray _ _ _ _ _ _ _ _ (c .before .before .before .skip-blanks .ensures) (c .before .before .label-end .ensures) (c .before .if1 .taken) (c .fault .ensures)
-
-read-node-note-requires : (t : ℕ) → read-node-lts.Need-note-requires (read-node-calls t) (read-node-at t) read-node.Post
-read-node-note-requires t c κs = let r = c .before .before .before .before .before .before .pre .1 in (omega (arith, r .few-leaves, r .within, r .short), omega (arith, c .before .before .before .before .skip-blanks .ensures .within, r .short), omega (arith, c .before .before .if1 .left, r .short))
-
-read-node-past-length-requires : (t : ℕ) → read-node-lts.Need-past-length-requires (read-node-calls t) (read-node-at t) read-node.Post
-read-node-past-length-requires t c κs = c .before .before .before .if1 .left
-
-read-node-add-t16 : (t : ℕ) → read-node-lts.Need-add-t16 (read-node-calls t) (read-node-at t) read-node.Post
-read-node-add-t16 t c = let r = c .before .before .before .before .before .before .before .before .before .pre .1 in omega (arith, r .few-leaves, r .within, r .short)
-
 read-node-returns-2 : (t : ℕ) → read-node-lts.Need-returns-2 (read-node-calls t) (read-node-at t) read-node.Post
-read-node-returns-2 t c = read-leaf _ _ _ _ _ _ _ _ _ (c .before .before .before .before .before .before .before .before .before .pre .1) (c .before .before .before .before .before .before .before .skip-blanks .ensures) (c .before .before .before .before .before .before .label-end .ensures) (c .before .before .before .before .before .if1 .left) (c .before .before .before .before .if2 .taken) (c .before .before .note .ensures) (c .before .past-length .ensures)
-
-read-node-has-byte-requires : (t : ℕ) → read-node-lts.Need-has-byte-requires (read-node-calls t) (read-node-at t) read-node.Post
-read-node-has-byte-requires t c κs = tt
-
-read-node-fault-requires-2 : (t : ℕ) → read-node-lts.Need-fault-requires-2 (read-node-calls t) (read-node-at t) read-node.Post
-read-node-fault-requires-2 t c κs = tt
-
-read-node-returns-3 : (t : ℕ) → read-node-lts.Need-returns-3 (read-node-calls t) (read-node-at t) read-node.Post
-read-node-returns-3 t c = read-other _ _ _ _ _ _ _ _ (c .before .before .before .before .before .before .skip-blanks .ensures) (c .before .before .before .before .before .label-end .ensures) (c .before .before .before .if2 .left) (byte-else _ _ is-open (sym (c .before .before .has-byte .ensures) ∙ not-true _ (c .before .if3 .taken))) (c .fault2 .ensures)
-
-read-node-fault-requires-3 : (t : ℕ) → read-node-lts.Need-fault-requires-3 (read-node-calls t) (read-node-at t) read-node.Post
-read-node-fault-requires-3 t c κs = tt
-
-read-node-returns-4 : (t : ℕ) → read-node-lts.Need-returns-4 (read-node-calls t) (read-node-at t) read-node.Post
-read-node-returns-4 t c = read-deep _ _ _ _ _ _ _ (c .before .before .before .before .before .before .before .skip-blanks .ensures) (byte-there _ _ is-open (sym (c .before .before .before .has-byte .ensures) ∙ not-false _ (c .before .before .if3 .left))) (c .before .if4 .taken) (c .fault3 .ensures)
+read-node-returns-2 t c = read-deep _ _ _ _ _ _ _ (c .before .before .before .before .skip-blanks .ensures) (byte-there _ _ is-open (sym (c .before .before .before .has-byte .ensures) ∙ not-false _ (c .before .before .if1 .left))) (c .before .if2 .taken) (c .fault .ensures)
 
 read-node-add-read-nodes : (t : ℕ) → read-node-lts.Need-add-read-nodes (read-node-calls t) (read-node-at t) read-node.Post
-read-node-add-read-nodes t c = let r = c .before .before .before .before .before .before .before .before .pre .1 in omega (arith, c .before .before .before .before .before .before .skip-blanks .ensures .within, r .short)
+read-node-add-read-nodes t c = let r = c .before .before .before .before .before .pre .1 in omega (arith, c .before .before .before .skip-blanks .ensures .within, r .short)
 
 read-node-sub-read-nodes : (t : ℕ) → read-node-lts.Need-sub-read-nodes (read-node-calls t) (read-node-at t) read-node.Post
-read-node-sub-read-nodes t c = pos-of-ne-zero (c .if4 .left)
+read-node-sub-read-nodes t c = pos-of-ne-zero (c .if2 .left)
 
 read-node-read-nodes-requires : (t : ℕ) → read-node-lts.Need-read-nodes-requires (read-node-calls t) (read-node-at t) read-node.Post
-read-node-read-nodes-requires t c κs = (inside-less _ _ _ _ (c .before .before .before .before .before .before .before .before .before .before .pre .0) (c .before .before .before .before .before .before .before .before .skip-blanks .ensures) (byte-there _ _ is-open (sym (c .before .before .before .before .has-byte .ensures) ∙ not-false _ (c .before .before .before .if3 .left))), inside-ready _ _ _ (c .before .before .before .before .before .before .before .before .before .before .pre .1) (c .before .before .before .before .before .before .before .before .skip-blanks .ensures) (byte-there _ _ is-open (sym (c .before .before .before .before .has-byte .ensures) ∙ not-false _ (c .before .before .before .if3 .left))))
+read-node-read-nodes-requires t c κs = (inside-less _ _ _ _ (c .before .before .before .before .before .before .before .pre .0) (c .before .before .before .before .before .skip-blanks .ensures) (byte-there _ _ is-open (sym (c .before .before .before .before .has-byte .ensures) ∙ not-false _ (c .before .before .before .if1 .left))), inside-ready _ _ _ (c .before .before .before .before .before .before .before .pre .1) (c .before .before .before .before .before .skip-blanks .ensures) (byte-there _ _ is-open (sym (c .before .before .before .before .has-byte .ensures) ∙ not-false _ (c .before .before .before .if1 .left))))
 
-read-node-returns-5 : (t : ℕ) → read-node-lts.Need-returns-5 (read-node-calls t) (read-node-at t) read-node.Post
-read-node-returns-5 t c = read-bracket _ _ _ _ _ _ _ _ _ (c .before .before .before .before .before .before .before .before .before .skip-blanks .ensures) (byte-there _ _ is-open (sym (c .before .before .before .before .before .has-byte .ensures) ∙ not-false _ (c .before .before .before .before .if3 .left))) (c .before .before .before .if4 .left) (c .read-nodes .ensures)
+read-node-returns-3 : (t : ℕ) → read-node-lts.Need-returns-3 (read-node-calls t) (read-node-at t) read-node.Post
+read-node-returns-3 t c = read-bracket _ _ _ _ _ _ _ _ _ (c .before .before .before .before .before .before .skip-blanks .ensures) (byte-there _ _ is-open (sym (c .before .before .before .before .before .has-byte .ensures) ∙ not-false _ (c .before .before .before .before .if1 .left))) (c .before .before .before .if2 .left) (c .read-nodes .ensures)
 
 abbrev read-nodes-Inv-loop : read-nodes-lts.InvT-loop
 read-nodes-Inv-loop text c depth tokens₀ nodes₀ d₀ k₀ tokens nodes d k = Sofar text depth c tokens₀ nodes₀ k d tokens nodes
@@ -153,22 +131,15 @@ pub +read-node+read-nodes-spec : {M : Type 1} → statement M
     (read-node-at t)
     read-node.Post
     (read-node-skip-blanks-requires t)
-    (read-node-label-end-requires t)
-    (read-node-fault-requires t)
-    (read-node-returns t)
-    (read-node-note-requires t)
-    (read-node-past-length-requires t)
-    (read-node-add-t16 t)
-    (read-node-returns-2 t)
     (read-node-has-byte-requires t)
-    (read-node-fault-requires-2 t)
-    (read-node-returns-3 t)
-    (read-node-fault-requires-3 t)
-    (read-node-returns-4 t)
+    (read-node-read-leaf-requires t)
+    (read-node-returns t)
+    (read-node-fault-requires t)
+    (read-node-returns-2 t)
     (read-node-add-read-nodes t)
     (read-node-sub-read-nodes t)
     (read-node-read-nodes-requires t)
-    (read-node-returns-5 t))
+    (read-node-returns-3 t))
     λ t. read-nodes-lts.spec (read-nodes-calls t)
     (read-nodes-at t)
     read-nodes.Post

@@ -11,7 +11,6 @@ use Rattle.nexus.specs.Commands.{pairsIn}
 use Rattle.nexus.specs.FeedLaws.{small-finished, Going, going-none, going-index, going-more, gone}
 use Rattle.nexus.proofs.feed.feed_lines.Statement.{statement}
 use Rattle.nexus.proofs.feed.feed_lines.Tie as tie
-use Rattle.answers.proofs.verdict_number.Reads as verdict-number-reads
 
 abbrev Inv-loop : tie.InvT-loop
 Inv-loop s₀ starts links f from n list pairs places firsts nexts verdicts₀ text₀ at₀ i₀ s verdicts text at i =
@@ -34,7 +33,7 @@ feed-text-requires c κs =
     let l = c .before .before .before .before .before in
     let p = l .before .before .before .before .before .before .pre in
     let v = l .loop .inv .0 in
-    (v .whole, (going-index _ _ _ _ _ _ _ _ _ _ v _ _ (p .1 .0), (p .1 .1 .1 .1 .0, (p .1 .1 .1 .1 .1 .0, l .loop .inv .1))))
+    (v .whole, (going-index _ _ _ _ _ _ _ _ _ _ v _ _ (p .1 .0), (p .1 .1 .1 .1 .0, (p .1 .1 .1 .1 .1 .0, (p .1 .1 .1 .1 .1 .1 .0, l .loop .inv .1)))))
 
 verdict-number-requires : tie.Need-verdict-number-requires Inv-loop μ-loop
 verdict-number-requires c κs =
@@ -44,12 +43,12 @@ mul-verdicts : tie.Need-mul-verdicts Inv-loop μ-loop
 mul-verdicts c =
     let l = c .before .before .before .before .before .before .before .before .before .before in
     let x = l .before .before .before .before .before .before in
-    omega (arith, l .loop .inv .0 .room, x .pre .1 .1 .1 .1 .1 .1, x .good .1 .1 .1 .1 .1 .1 .1 .1 .1 .1 .1 .0)
+    omega (arith, l .loop .inv .0 .room, x .pre .1 .1 .1 .1 .1 .1 .1, x .good .1 .1 .1 .1 .1 .1 .1 .1 .1 .1 .1 .0)
 
 slice-write-verdicts : tie.Need-slice-write-verdicts Inv-loop μ-loop
 slice-write-verdicts c =
     let l = c .before .before .before .before .before .before .before .before .before .before in
-    omega (arith, l .loop .inv .0 .room, l .before .before .before .before .before .before .pre .1 .1 .1 .1 .1 .1)
+    omega (arith, l .loop .inv .0 .room, l .before .before .before .before .before .before .pre .1 .1 .1 .1 .1 .1 .1)
 
 add-at : tie.Need-add-at Inv-loop μ-loop
 add-at c = omega (arith, c .before .before .before .before .before .before .before .before .text-at .ensures .within, c .before .before .before .before .before .before .before .before .before .before .before .before .before .before .before .before .good .1 .1 .1 .0)
@@ -60,7 +59,7 @@ loop-again c =
     let l = t .before .before in
     let p = l .before .before .before .before .before .before .pre in
     let x = c .before .before .before .before .feed-text .ensures in (
-      going-more _ _ _ _ _ _ _ _ _ _ (l .loop .inv .0) (t .before .loop-test .taken) _ (t .text-at .ensures) (p .1 .1 .1 .1 .1 .1) _ _
+      going-more _ _ _ _ _ _ _ _ _ _ (l .loop .inv .0) (t .before .loop-test .taken) _ (t .text-at .ensures) (p .1 .1 .1 .1 .1 .1 .1) _ _
           (x .0) _ (c .verdict-number .ensures),
       x .1,
     )
@@ -74,7 +73,7 @@ same-length-2 c = c .before .loop .inv .0 .room
 returns : tie.Need-returns Inv-loop μ-loop
 returns c =
     let back = c .before .before .before .before .before in
-    gone _ _ _ _ _ _ _ _ _ _ (c .before .loop .inv .0) (omega (arith, c .before .loop .inv .0 .count, c .loop-test .left)) (back .before .before .pre .1 .1 .1 .1 .1 .1)
+    gone _ _ _ _ _ _ _ _ _ _ (c .before .loop .inv .0) (omega (arith, c .before .loop .inv .0 .count, c .loop-test .left)) (back .before .before .pre .1 .1 .1 .1 .1 .1 .1)
 
 pub feed-lines-spec : {M : Type 1} → statement M
 feed-lines-spec =

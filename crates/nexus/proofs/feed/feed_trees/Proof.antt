@@ -1,12 +1,9 @@
 -- `nexus::feed::feed_trees` meets its contract: names and keys are indexed, and the lines fed. Assumes nothing.
-use mathlib.Core.Path.{refl, sym, ap, subst, _∙_}
-use native.Mathlib.Omega.{arith}
 use borrow.Author.Needs.{needs}
 use Rattle.layout.specs.WholeFacts.{whole-at-facts}
 use Rattle.feeding.specs.FedLaws.{few-taxa}
 use Rattle.nexus.proofs.feed.feed_trees.Statement.{statement}
 use Rattle.nexus.proofs.feed.feed_trees.Tie as tie
-use Rattle.head.proofs.build_index.Reads as build-index-reads
 
 build-index-requires : tie.Need-build-index-requires
 build-index-requires c κs =
@@ -20,7 +17,7 @@ feed-lines-requires : tie.Need-feed-lines-requires
 feed-lines-requires c κs =
     let back = c .before .before .before .before .before in
     let far = back .before .before .before .before .before in
-    let p = far .before .before .before .before .before .before .before .before .pre in (p .0, (back .before .before .before .before .build-index .ensures, (p .1 .0, (p .1 .1 .0, (p .1 .1 .1 .0, (back .before .index-keys .ensures, p .1 .1 .1 .1))))))
+    let p = far .before .before .before .before .before .before .before .before .pre in (p .0, (back .before .before .before .before .build-index .ensures, (p .1 .0, (p .1 .1 .0, (p .1 .1 .1 .0, (p .1 .1 .1 .1 .0, (back .before .index-keys .ensures, p .1 .1 .1 .1 .1)))))))
 
 same-length : tie.Need-same-length
 same-length c = search needs
