@@ -1,6 +1,8 @@
 // The answers of every call, and the numbers of taxa, trees, lanes and splits that calls are given and give.
 //
 // Read `specs/Answers.antt` for the answers as document 01 has them.
+#![tactic(auto)]
+
 ghost use Rattle.std.specs.Prelude.{◌≡◌};
 ghost use Rattle.trees.specs.Batch.{verdict_number};
 ghost use Rattle.answers.specs.Answers.{refusal_number, progress_given, Small};

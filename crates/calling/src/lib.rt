@@ -1,5 +1,7 @@
 // The body of the program `treecalls`, which makes calls of the library from lines of text: one call a line of standard input, one
 // answer line each. docs/CALLS.md has every call and its answers. The lengths of the memory that is lent set the limits.
+#![tactic(auto)]
+
 mod calls;
 mod changes;
 mod input;

@@ -1,6 +1,8 @@
 // The claim that a text is the majority tree of a collection. Nothing is written: neither the store nor a lane of it.
 //
 // `specs/Claims.antt` says what is answered; crate trees, `specs/Claim.antt`, what it means.
+#![tactic(auto)]
+
 ghost use Rattle.std.specs.Prelude.{◌≡◌};
 ghost use Rattle.answers.specs.Answers.{claim_given};
 ghost use Rattle.claiming.specs.Claims.{claim_asked};

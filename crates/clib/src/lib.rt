@@ -4,6 +4,8 @@
 // it is given.
 //
 // Read `specs/Answers.antt` for what the numbers of an answer stand for.
+#![tactic(auto)]
+
 mod comparisons;
 mod feeds;
 mod files;

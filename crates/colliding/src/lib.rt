@@ -3,6 +3,8 @@
 //
 // `collisions` is defined in crate trees, `specs/Hash.antt`, and `masks_at` in crate layout,
 // `specs/Store.antt`; the functions between cite `specs/Collisions.antt`.
+#![tactic(auto)]
+
 ghost use Rattle.std.specs.Prelude.{◌≡◌, true, ◌&&◌, ◌+◌, ◌-◌, ◌≤◌, ◌<◌, eqb};
 ghost use Rattle.trees.specs.Opening.{most_room};
 ghost use Rattle.trees.specs.Hash.{collisions};

@@ -4,6 +4,8 @@
 //
 // What each answers is said in `specs/Asked.antt`, by the definitions of crate trees,
 // `specs/Questions.antt`.
+#![tactic(auto)]
+
 ghost use Rattle.std.specs.Prelude.{◌≡◌, length};
 ghost use Rattle.answers.specs.Answers.{number_given, weight_given};
 ghost use Rattle.answers.specs.Filled.{length_given, front};

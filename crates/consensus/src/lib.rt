@@ -3,6 +3,8 @@
 //
 // `specs/Consensus.antt` says what each answers; crate trees, `specs/Consensus.antt` and
 // `specs/Written.antt`, says what the splits of a consensus and the text of a tree are.
+#![tactic(auto)]
+
 ghost use Rattle.std.specs.Prelude.{◌≡◌, length};
 ghost use Rattle.answers.specs.Answers.{number_given};
 ghost use Rattle.answers.specs.Filled.{length_given, front, BothFilledAs};

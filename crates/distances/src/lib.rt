@@ -3,6 +3,8 @@
 // Its contracts cite, of crate trees, `specs/Distance.antt` (`one_sided`, `doubled`, `matrix`) and, of crate
 // layout, `specs/Store.antt` (`tree_at`, `held_at`); `specs/Marks.antt`, `specs/Short.antt`, `specs/Entries.antt` and
 // `specs/Eight.antt` say what the functions between do.
+#![tactic(auto)]
+
 ghost use Rattle.std.specs.Prelude.{◌≡◌, ◌*◌, ◌<◌, ◌≤◌, true, ◌++◌, map, length, drop};
 ghost use Rattle.trees.specs.Distance.{one_sided, doubled, matrix};
 ghost use Rattle.layout.specs.Store.{trees_held_at, tree_at, held_at};

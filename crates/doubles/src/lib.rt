@@ -1,6 +1,8 @@
 // A branch's length in 8 bytes of a slice: a double as its 64 bits, the lowest byte first, or none.
 //
 // Its contracts cite `specs/Stored.antt` (`length_at`, `put_length`); the laws that callers use stand in `StoredLaws` beside it.
+#![tactic(auto)]
+
 ghost use Rattle.std.specs.Prelude.{◌≡◌, true, ◌+◌, ◌≤◌, length};
 ghost use Rattle.std.specs.Float.{binary64};
 ghost use Rattle.std.specs.Float.Ieee.{of_bits};

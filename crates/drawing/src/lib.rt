@@ -4,6 +4,8 @@
 // putting, `specs/Put.antt` (`Put`). What the recursion puts is in `specs/Drawing.antt`.
 //
 //   put_drawing     the drawn tree
+#![tactic(auto)]
+
 ghost use Rattle.std.specs.Prelude.{◌≡◌, true, ◌+◌, ◌*◌, ◌≤◌, ◌<◌, length};
 ghost use Rattle.std.specs.Int.Count.{ones};
 ghost use Rattle.trees.specs.Names.{good_names};

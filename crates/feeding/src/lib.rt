@@ -2,6 +2,8 @@
 //
 // Read `specs/Feeding.antt` for what the calls promise; what they mean is said in crate trees,
 // `specs/Held.antt` and `specs/Batch.antt`. `specs/Texts.antt` has the steps, `specs/Judging.antt` the verdict.
+#![tactic(auto)]
+
 ghost use Rattle.feeding.specs.Feeding.{FedAs, ClosedAs, batch_of, BatchedAs};
 ghost use Rattle.std.specs.Prelude.{length};
 

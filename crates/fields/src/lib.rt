@@ -3,6 +3,8 @@
 //
 // Its contracts cite `specs/Field.antt` (`number`, `put`) and `specs/Run.antt` (`copied`,
 // `cleared`); the laws that callers use stand in `FieldLaws` and `RunLaws` beside them.
+#![tactic(auto)]
+
 ghost use Rattle.std.specs.Prelude.{◌≡◌, ◌+◌, ◌≤◌, ◌<◌, length};
 ghost use Rattle.fields.specs.Field.{number, put};
 ghost use Rattle.fields.specs.Run.{copied, cleared};

@@ -15,6 +15,8 @@
 //     put_verdicts, put_closing     the texts of a file that are refused
 //     save_answer                   a file that is written
 //     open_names                    a collection
+#![tactic(auto)]
+
 mod collection;
 mod parts;
 mod reading;

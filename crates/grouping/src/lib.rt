@@ -3,6 +3,8 @@
 //   majority_groups     their masks, and how many trees have each
 //   put_groups          a line for each
 //   put_stand_ins       a line for each stand-in of a taxon
+#![tactic(auto)]
+
 mod groups;
 mod labels;
 mod majority;

@@ -4,6 +4,8 @@
 // Its contracts cite `specs/Head.antt` (`numbers_at`, `names_at`) and `specs/Index.antt` (`Indexed`,
 // `found_of`); crate trees, `specs/Names.antt`, says what `taxon_of` is. The laws that callers use
 // stand in `HeadLaws` and `FindLaws`.
+#![tactic(auto)]
+
 ghost use Rattle.std.specs.Prelude.{◌≡◌, ◌+◌, ◌*◌, ◌%◌, ◌^◌, ◌<◌, ◌≤◌, length, slice_index};
 ghost use Rattle.std.proofs.Math.Seq.{slice};
 ghost use Rattle.trees.specs.Opening.{head_bytes};

@@ -4,6 +4,8 @@
 // Its contracts cite `specs/Lanes.antt` (`LaneIs`), crate trees, `specs/Held.antt` (`longer`, `open_in`,
 // `closing`), and crate layout, `specs/Store.antt`; the laws that callers use stand in
 // `specs/LaneLaws.antt` and `specs/ClosingLaws.antt`.
+#![tactic(auto)]
+
 ghost use Rattle.std.specs.Prelude.{◌≡◌, true, [], ◌+◌, ◌≤◌, ◌<◌, leb, take, drop};
 ghost use Rattle.trees.specs.Plain.{every};
 ghost use Rattle.trees.specs.Text.{is_blank};

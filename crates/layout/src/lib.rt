@@ -2,6 +2,8 @@
 // 65,536, so that no sum of them is near a word's end.
 //
 // Its contracts cite `specs/Store.antt`, which has every byte.
+#![tactic(auto)]
+
 ghost use Rattle.std.specs.Prelude.{◌≡◌, ◌+◌, ◌≤◌, ◌<◌, ◌^◌, length};
 ghost use Rattle.trees.specs.Opening.{head_bytes};
 ghost use Rattle.fields.specs.Field.{number};

@@ -1,6 +1,8 @@
 // The value of a length in a text, as a double.
 //
 // Its contract cites `LengthStands` and `LengthTaken` of `specs/Read.antt`, which says what each reader answers in terms of crate trees, Value.antt.
+#![tactic(auto)]
+
 ghost use Rattle.std.specs.Prelude.{◌≡◌, ℕ, ◌+◌, ◌-◌, ◌*◌, ◌^◌, ◌≤◌, ◌<◌, true, false, pos, negsuc, ◌-ℤ◌, length};
 ghost use Rattle.std.specs.Float.Ieee.Exact.{HasValue};
 ghost use Rattle.trees.specs.Value.{with_sign, measured, signed};

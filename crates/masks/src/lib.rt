@@ -1,6 +1,8 @@
 // Masks in one word: sets of at most 64 taxa, bit i for taxon i. Callers hold masks as u64 too, but what a mask means is
 // said here alone, by contracts over masks of any size. Read crate trees, specs/Mask.antt, for what they cite; ones, bit_or,
 // eqb and ltb are the library's.
+#![tactic(auto)]
+
 ghost use Rattle.std.specs.Prelude.{◌≡◌, ◌≤◌, ◌<◌, ◌^◌, leb, ltb, eqb};
 ghost use Rattle.std.specs.Int.Bits.{bit_or};
 ghost use Rattle.std.specs.Int.Count.{ones};

@@ -5,6 +5,8 @@
 // The contracts cite `specs/Judge.antt` (`Prepared`, `JudgedAs`, `JudgedWith`); crate trees, `specs/Verdict.antt`, says what `judged`
 // and `judged_with` are, crate records, `specs/Records.antt`, what the records of splits are, and `specs/Words.antt` a length as a word.
 // Of the two steps, `specs/Shape.antt` has `ShapeRead`, `specs/Leaves.antt` has `Tokens`, and `specs/Shaping.antt` has `Shaping`.
+#![tactic(auto)]
+
 ghost use Rattle.std.specs.Prelude.{◌≡◌, ℕ, ◌≤◌, min, List, length};
 ghost use Rattle.trees.specs.Held.{most_text};
 ghost use Rattle.records.specs.Records.{most_words};

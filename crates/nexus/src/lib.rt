@@ -3,6 +3,8 @@
 //
 // Read crate trees, `specs/Nexus.antt` for what a file is, and `specs/NexusCall.antt` for what the call means; `specs/Fed.antt` here
 // says what it promises. `specs/Places.antt` says what a place in a file stands for.
+#![tactic(auto)]
+
 ghost use Rattle.std.specs.Prelude.{length};
 ghost use Rattle.nexus.specs.Fed.{nexus_of, NexusAs};
 

@@ -4,6 +4,8 @@
 // (`first_names`); crate trees, `specs/Opening.antt` and `specs/Names.antt`, says what an opening is and
 // what is refused, and crate head, `specs/Head.antt`, how it lies in the bytes. The laws that callers
 // use stand in `GivenLaws`; `Walk` and `Writing` say what the functions between the public ones do.
+#![tactic(auto)]
+
 ghost use Rattle.std.specs.Prelude.{◌≡◌, Bool, true, ℕ, ◌≤◌, ◌<◌, ltb, length, get_or, drop};
 ghost use Rattle.trees.specs.Plain.{every};
 ghost use Rattle.trees.specs.Names.{good_names};

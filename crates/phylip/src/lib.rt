@@ -2,6 +2,8 @@
 //
 // Read `specs/Writing.antt` and `specs/Reading.antt` for what the calls promise; what the text is is said in crate trees,
 // `specs/Phylip.antt` and `specs/PhylipCall.antt`.
+#![tactic(auto)]
+
 mod digits;
 mod eight;
 mod filling;

@@ -15,7 +15,7 @@
 use Rattle.std.specs.Prelude.{ℕ, ◌≤◌, ◌<◌, ◌≡◌, ◌↔◌, Bool, List, [], ◌∷◌, ◌++◌, length, take}
 use Rattle.std.proofs.Common.{arith, sym, ◌∙◌, inl, inr}
 use Rattle.std.proofs.Math.Path.{refl, ap}
-use Rattle.std.proofs.Math.Logic.{Iff·symm, Iff·trans}
+use Rattle.std.proofs.Math.Logic.Iff.{symm as iff_symm, trans as iff_trans}
 use Rattle.std.proofs.Math.Bool.{true, false}
 use Rattle.trees.specs.Plain.{Answer, refused, gives}
 use Rattle.trees.specs.Text.{semicolon}
@@ -61,25 +61,25 @@ module _ (s t : List ℕ) (a : Reply) (q : Asked s (claim t) a) where
 
     -- "Order: 14, then 6 to 10"
     pub claim-refused : (k : ℕ) → (a ≡ claimed (refused k)) ↔ ClaimRefused (held_at s) t k
-    claim-refused k = Iff·trans (answer-exactly (refused k)) (claim-refusals-in-order (held_at s) t k)
+    claim-refused k = iff_trans (answer-exactly (refused k)) (claim-refusals-in-order (held_at s) t k)
 
     pub claim-no-trees : (a ≡ claimed (refused 14)) ↔ (length trees ≡ 0)
-    claim-no-trees = Iff·trans (answer-exactly (refused 14)) (claim-fourteen-exactly (held_at s) t)
+    claim-no-trees = iff_trans (answer-exactly (refused 14)) (claim-fourteen-exactly (held_at s) t)
 
     -- "6 counts the bytes before the first such, or all"
     pub claim-too-long : (a ≡ claimed (refused 6)) ↔ ((0 < length trees) × (most_text < bytes_counted (held_at s) t))
-    claim-too-long = Iff·trans (answer-exactly (refused 6)) (claim-six-exactly (held_at s) t)
+    claim-too-long = iff_trans (answer-exactly (refused 6)) (claim-six-exactly (held_at s) t)
 
     -- "The text must end with its only semicolon outside quotes, else 7"
     pub claim-no-tree : (a ≡ claimed (refused 7)) ↔ ((0 < length trees) × (bytes_counted (held_at s) t ≤ most_text) × NoTreeText (held_at s) t)
-    claim-no-tree = Iff·trans (answer-exactly (refused 7)) (claim-seven-exactly (held_at s) t)
+    claim-no-tree = iff_trans (answer-exactly (refused 7)) (claim-seven-exactly (held_at s) t)
 
     pub claim-bad-leaf : (k : ℕ) → 8 ≤ k → k ≤ 10
         → (a ≡ claimed (refused k)) ↔ ((0 < length trees) × (bytes_counted (held_at s) t ≤ most_text) × LeafRefused (held_at s) t k)
-    claim-bad-leaf k l m = Iff·trans (answer-exactly (refused k)) (claim-leaf-exactly (held_at s) t k l m)
+    claim-bad-leaf k l m = iff_trans (answer-exactly (refused k)) (claim-leaf-exactly (held_at s) t k l m)
 
     pub claim-given : (c : Claimed) → (a ≡ claimed (gives c)) ↔ ClaimGiven (held_at s) t c
-    claim-given c = Iff·trans (answer-exactly (gives c)) (claim-given-exactly (held_at s) t c)
+    claim-given c = iff_trans (answer-exactly (gives c)) (claim-given-exactly (held_at s) t c)
 
     never-one : a ≡ claimed (refused 1) → ⊥
     never-one e = go ((claim-refused 1).0 e)
@@ -120,14 +120,14 @@ module _ (s : List ℕ) (w : whole_at s ≡ true) where
 
     -- "Accept it exactly when its splits are the majority splits"
     pub claim-same : (a ≡ claimed (gives same)) ↔ (ms ≡ chosen)
-    claim-same = Iff·trans (answered same) (claim-same-exactly (held_at s) v ms some-tree short accepts)
+    claim-same = iff_trans (answered same) (claim-same-exactly (held_at s) v ms some-tree short accepts)
 
     pub claim-no-distance : (a ≡ claimed (gives same)) ↔ (doubled ms chosen ≡ 0)
-    claim-no-distance = Iff·trans (answered same) (claim-distance-exactly (held_at s) v ms some-tree short accepts)
+    claim-no-distance = iff_trans (answered same) (claim-distance-exactly (held_at s) v ms some-tree short accepts)
 
     -- "If not, name the smallest mask that is in one set alone, and which set"
     pub claim-names : (c : Claimed) → (a ≡ claimed (gives c)) ↔ Says ms chosen c
-    claim-names c = Iff·trans (answered c) (claim-named-exactly (held_at s) v ms some-tree short accepts c)
+    claim-names c = iff_trans (answered c) (claim-named-exactly (held_at s) v ms some-tree short accepts c)
 
     pub claim-answered : (c : Claimed) × (a ≡ claimed (gives c)) × Says ms chosen c
     claim-answered =
@@ -140,8 +140,8 @@ module _ (s : List ℕ) (w : whole_at s ≡ true) where
   claim-any-root x y t u i k o l m a b p q c =
       let opened = good-opening (held_at s).opening (whole-facts (held_at s) (held_whole s w)).opening-good in
       let few : 0 < length names = omega (arith, opened.named.count, opened.ranges.least-taxa) in
-      Iff·trans (answer-exactly s (x ++ semicolon ∷ []) a p w (gives c))
-      (Iff·trans (any-root-same-claim (held_at s) few x y t u i k o l m c) (Iff·symm (answer-exactly s (y ++ semicolon ∷ []) b q w (gives c))))
+      iff_trans (answer-exactly s (x ++ semicolon ∷ []) a p w (gives c))
+      (iff_trans (any-root-same-claim (held_at s) few x y t u i k o l m c) (iff_symm (answer-exactly s (y ++ semicolon ∷ []) b q w (gives c))))
 
   -- ---- our own majority tree: the first bytes of the buffer, as many as are answered
 

@@ -18,7 +18,7 @@
 use Rattle.std.specs.Prelude.{ℕ, suc, ◌+◌, ◌*◌, ◌^◌, ◌≤◌, ◌<◌, ◌≡◌, refl, ◌⊎◌, ◌↔◌, Bool, true, false, ltb, take, drop}
 use Rattle.std.proofs.Common.{arith, sym, ap₂, subst, ◌∙◌, inl, inr, length-append, ltb-true, ltb-false}
 use Rattle.std.proofs.Math.Path.{ap}
-use Rattle.std.proofs.Math.Logic.{Iff·trans}
+use Rattle.std.proofs.Math.Logic.Iff.{trans as iff_trans}
 use mathlib.Core.List.{List, [], ◌∷◌, ◌++◌, map, append_assoc}
 use Rattle.std.proofs.Math.ListN.{length, length-map}
 use Rattle.trees.specs.Plain.{if◌then◌else◌, Answer, refused, gives, byte}
@@ -193,8 +193,8 @@ module _ (s : List ℕ) (w : whole_at s ≡ true) (out : List ℕ) where
   pub write-matrix-refused : (a : Reply) (k : ℕ) → Asked s (write-matrix out) a → (a ≡ filled (refused k) out) ↔ ((k ≡ 4) × (length out < length (phylip_text trees)))
   unfolding reply phylip_of
   write-matrix-refused a k q =
-      Iff·trans (answered (asked-follows s w (write-matrix out) a q))
-      (Iff·trans (filled-refusal (phylip_of (held_at s) (length out)) out k) (room-refused (length out) (phylip_text trees) k (phylip_of (held_at s) (length out)) (by-room (length out) (phylip_text trees))))
+      iff_trans (answered (asked-follows s w (write-matrix out) a q))
+      (iff_trans (filled-refusal (phylip_of (held_at s) (length out)) out k) (room-refused (length out) (phylip_text trees) k (phylip_of (held_at s) (length out)) (by-room (length out) (phylip_text trees))))
 
   pub room-enough : 4205573 ≤ length out → (a : Reply) → Asked s (write-matrix out) a → a ≡ fill (gives (phylip_text trees)) out
   unfolding reply phylip_of
@@ -239,8 +239,8 @@ module _ (s : List ℕ) (w : whole_at s ≡ true) (out : List ℕ) where
     pub written-refused : (cells : List ℕ) (k : ℕ) (a : Reply) → ReadMatrix text cells a
         → (a ≡ filled (refused k) cells) ↔ ((k ≡ 4) × (length cells < length trees * length trees))
     written-refused cells k a r =
-        Iff·trans (answered (read-follows text cells a r))
-        (Iff·trans (read-refusal (read_phylip_of text (length cells)) cells k) (phylip-refused-exactly (held_at s) whole (length out) (length cells) k text given))
+        iff_trans (answered (read-follows text cells a r))
+        (iff_trans (read-refusal (read_phylip_of text (length cells)) cells k) (phylip-refused-exactly (held_at s) whole (length out) (length cells) k text given))
 
     -- "a name padded with spaces to ten", "one space before each doubled distance"
     pub lines-short : (l : List ℕ) → Mem l (between (byte "\n") text) → length l ≤ 10 + 4 * length trees
@@ -253,19 +253,19 @@ module _ (s : List ℕ) (w : whole_at s ≡ true) (out : List ℕ) where
 module _ (f out : List ℕ) (a : Reply) (q : ReadMatrix f out a) where
   -- "24 malformed, 25 not symmetric or diagonal not zero, in that order, then 4"
   refused-by : (k : ℕ) → (a ≡ filled (refused k) out) ↔ (read_phylip_of f (length out) ≡ refused k)
-  refused-by k = Iff·trans (answered (read-follows f out a q)) (read-refusal (read_phylip_of f (length out)) out k)
+  refused-by k = iff_trans (answered (read-follows f out a q)) (read-refusal (read_phylip_of f (length out)) out k)
 
   pub read-matrix-refused : (k : ℕ) → (a ≡ filled (refused k) out) ↔ PhylipRefused f (length out) k
-  read-matrix-refused k = Iff·trans (refused-by k) (phylip-refusals-in-order f (length out) k)
+  read-matrix-refused k = iff_trans (refused-by k) (phylip-refusals-in-order f (length out) k)
 
   pub read-matrix-malformed : (a ≡ filled (refused 24) out) ↔ Malformed f
-  read-matrix-malformed = Iff·trans (refused-by 24) (twenty-four-exactly f (length out))
+  read-matrix-malformed = iff_trans (refused-by 24) (twenty-four-exactly f (length out))
 
   pub read-matrix-uneven : (a ≡ filled (refused 25) out) ↔ NotEven f
-  read-matrix-uneven = Iff·trans (refused-by 25) (twenty-five-exactly f (length out))
+  read-matrix-uneven = iff_trans (refused-by 25) (twenty-five-exactly f (length out))
 
   pub read-matrix-no-room : (a ≡ filled (refused 4) out) ↔ NoRoom f (length out)
-  read-matrix-no-room = Iff·trans (refused-by 4) (four-exactly f (length out))
+  read-matrix-no-room = iff_trans (refused-by 4) (four-exactly f (length out))
 
   -- "All lent memory stays as found"
   pub read-matrix-untouched : (k : ℕ) (left : List ℕ) → a ≡ filled (refused k) left → left ≡ out
@@ -274,8 +274,8 @@ module _ (f out : List ℕ) (a : Reply) (q : ReadMatrix f out a) where
   pub read-matrix-given : (t : ℕ) (left : List ℕ) → (a ≡ filled (gives t) left)
       ↔ ((m : Square) × (LaidOut f m × Even m × (m.trees * m.trees ≤ length out)) × (m.trees ≡ t) × (left ≡ m.values ++ drop (length m.values) out))
   read-matrix-given t left =
-      Iff·trans (answered (read-follows f out a q))
-      (Iff·trans (matrix-given (read_phylip_of f (length out)) out t left)
+      iff_trans (answered (read-follows f out a q))
+      (iff_trans (matrix-given (read_phylip_of f (length out)) out t left)
       (λ x. (x.0, (matrix-given-exactly f (length out) x.0).0 x.1, x.2, x.3), λ x. (x.0, (matrix-given-exactly f (length out) x.0).1 x.1, x.2, x.3)))
 
 -- "names of any ten bytes from 32 to 126, one space or more before a value, all numbers in decimal digits"

@@ -13,7 +13,7 @@
 use Rattle.std.specs.Prelude.{ℕ, ◌≤◌, ◌<◌, ◌≡◌, ◌↔◌, Bool, true, false, List, [], ◌∷◌, ◌++◌, map, ltb, eqb, length, take}
 use Rattle.std.proofs.Common.{arith, ◌∙◌, append_assoc}
 use Rattle.std.proofs.Math.Path.{refl, sym, ap, ap₂}
-use Rattle.std.proofs.Math.Logic.{Iff·trans}
+use Rattle.std.proofs.Math.Logic.Iff.{trans as iff_trans}
 use Rattle.std.proofs.Math.ListN.{drop}
 use Rattle.std.proofs.Math.Seq.{take-append_seam}
 use borrow.Author.Tests.{ltb-true, ltb-false, lt-ltb, le-ltb, eq-eqb, ne_eqb}
@@ -106,16 +106,16 @@ module _ (s : List ℕ) (n : ℕ) (x : Wanted) (out : List ℕ) (a : Reply) (q :
     release-as = asked-follows s w (release n x out) a q
 
     refused-exactly : (k : ℕ) → (a ≡ filled (refused k) out) ↔ (chosen sheet taxon short ≡ refused k)
-    refused-exactly k = Iff·trans (answered release-as) (Iff·trans (filled-refusal (release_of (held_at s) n x (length out)) out k) (λ e. sym release-by ∙ e, λ e. release-by ∙ e))
+    refused-exactly k = iff_trans (answered release-as) (iff_trans (filled-refusal (release_of (held_at s) n x (length out)) out k) (λ e. sym release-by ∙ e, λ e. release-by ∙ e))
 
     pub release-no-taxon : (a ≡ filled (refused 13) out) ↔ (taxon ≡ false)
-    release-no-taxon = Iff·trans (refused-exactly 13) (thirteen sheet taxon short)
+    release-no-taxon = iff_trans (refused-exactly 13) (thirteen sheet taxon short)
 
     -- 4: "a lent buffer is too short for the whole answer"
     pub release-no-room : (a ≡ filled (refused 4) out) ↔ ((taxon ≡ true) × (length out < length sheet))
     release-no-room =
-        Iff·trans (refused-exactly 4)
-        (Iff·trans (four sheet taxon short)
+        iff_trans (refused-exactly 4)
+        (iff_trans (four sheet taxon short)
         (λ e. (e.0, ltb-true (length out) (length sheet) e.1), λ e. (e.0, lt-ltb (length out) (length sheet) e.1)))
 
     -- any other sheet is given, at the front of the buffer

@@ -17,7 +17,7 @@
 use Rattle.std.specs.Prelude.{ℕ, ◌*◌, ◌<◌, ◌≡◌, refl, ◌↔◌, Bool, true, List, [], ◌++◌, length, take}
 use Rattle.std.proofs.Common.{arith, subst, ◌∙◌, inl, inr}
 use Rattle.std.proofs.Math.Path.{sym, ap}
-use Rattle.std.proofs.Math.Logic.{Iff·trans}
+use Rattle.std.proofs.Math.Logic.Iff.{trans as iff_trans}
 use Rattle.trees.specs.Plain.{Answer, refused, gives}
 use Rattle.trees.specs.Consensus.{recorded}
 use Rattle.trees.specs.Held.{holding, lane_of}
@@ -226,27 +226,27 @@ module _ (s : List ℕ) (w : whole_at s ≡ true) (f : List ℕ) (a : Reply) (k 
       → (a ≡ each_filled (refused k) masks counts) ↔ InFile (held_at s) f k (ReadRefused (length masks) (length counts) k)
   unfolding reply
   read-splits-refused masks counts q =
-      Iff·trans (answered (asked-follows s w (read-splits f masks counts) a q))
-      (Iff·trans (read-refusal (reading_of (held_at s) f (length masks) (length counts)) masks counts k) (reading-refusals-in-order (held_at s) f (length masks) (length counts) k))
+      iff_trans (answered (asked-follows s w (read-splits f masks counts) a q))
+      (iff_trans (read-refusal (reading_of (held_at s) f (length masks) (length counts)) masks counts k) (reading-refusals-in-order (held_at s) f (length masks) (length counts) k))
 
   -- 19 and 20 "both for the first file, then for the second"; then "21 .., 22 ..; 4 last"
   pub merge-refused : (g out : List ℕ) → Asked s (merge f g out) a
       → (a ≡ filled (refused k) out) ↔ InFile (held_at s) f k (λ x. InFile (held_at s) g k (λ y. MergeRefused x y (length out) k))
   merge-refused g out q =
-      Iff·trans (answered (merged-as s w f g out a q))
-      (Iff·trans (filled-refusal (merging_of (held_at s) f g (length out)) out k) (merging-refusals-in-order (held_at s) f g (length out) k))
+      iff_trans (answered (merged-as s w f g out a q))
+      (iff_trans (filled-refusal (merging_of (held_at s) f g (length out)) out k) (merging-refusals-in-order (held_at s) f g (length out) k))
 
   -- "its consensus is 14"; "23 two chosen splits disagree"; "4 last"
   pub majority-tree-refused : (out : List ℕ) → Asked s (majority-tree f out) a
       → (a ≡ filled (refused k) out) ↔ InFile (held_at s) f k (λ rs. TreeRefused (held_at s) rs (majority_in rs) (length out) k)
   unfolding reply
   majority-tree-refused out q =
-      Iff·trans (answered (asked-follows s w (majority-tree f out) a q))
-      (Iff·trans (filled-refusal (majority_file_of (held_at s) f (length out)) out k) (majority-refusals-in-order (held_at s) f (length out) k))
+      iff_trans (answered (asked-follows s w (majority-tree f out) a q))
+      (iff_trans (filled-refusal (majority_file_of (held_at s) f (length out)) out k) (majority-refusals-in-order (held_at s) f (length out) k))
 
   pub strict-tree-refused : (out : List ℕ) → Asked s (strict_tree f out) a
       → (a ≡ filled (refused k) out) ↔ InFile (held_at s) f k (λ rs. TreeRefused (held_at s) rs (strict_in rs) (length out) k)
   unfolding reply
   strict-tree-refused out q =
-      Iff·trans (answered (asked-follows s w (strict_tree f out) a q))
-      (Iff·trans (filled-refusal (strict_file_of (held_at s) f (length out)) out k) (strict-refusals-in-order (held_at s) f (length out) k))
+      iff_trans (answered (asked-follows s w (strict_tree f out) a q))
+      (iff_trans (filled-refusal (strict_file_of (held_at s) f (length out)) out k) (strict-refusals-in-order (held_at s) f (length out) k))

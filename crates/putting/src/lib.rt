@@ -10,6 +10,8 @@
 //   put_counted    a word, and the digits of a number behind it
 //   put_spaces     spaces, up to an end
 //   put_end        a line end
+#![tactic(auto)]
+
 ghost use Rattle.std.specs.Prelude.{[], ◌∷◌, ◌++◌, ◌≡◌, ◌+◌, ◌-◌, ◌≤◌, ◌<◌, length, set, replicate};
 ghost use Rattle.trees.specs.Decimal.{digits_of};
 ghost use Rattle.putting.specs.Put.{Put};

@@ -1,6 +1,8 @@
 // The refusals in words, for programs that tell people why: one sentence for each number of documents 01 and 02.
 //
 // Read `specs/Reasons.antt` for the table, and for what the call promises.
+#![tactic(auto)]
+
 ghost use Rattle.std.specs.Prelude.{◌≤◌, length};
 ghost use Rattle.trees.specs.Questions.{if_room};
 ghost use Rattle.answers.specs.Filled.{FilledAs};

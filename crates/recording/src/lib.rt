@@ -2,6 +2,8 @@
 // room is known before the first byte is stored.
 //
 // Its contracts cite `specs/Recording.antt`; what one split more and one tree more make of a store's parts stands in `specs/Added.antt`.
+#![tactic(auto)]
+
 ghost use Rattle.std.specs.Prelude.{◌≡◌, true, ◌+◌, ◌≤◌, length};
 ghost use Rattle.trees.specs.Held.{room_for};
 ghost use Rattle.records.specs.Records.{masks_of};

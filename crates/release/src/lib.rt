@@ -3,6 +3,8 @@
 // Read `specs/Release.antt` for the lines (`release_lines`) and for what is answered (`release_asked`).
 //
 //   write_release     the sheet, at the front of a buffer
+#![tactic(auto)]
+
 ghost use Rattle.std.specs.Prelude.{◌≤◌, ◌<◌, ◌≡◌, true, length};
 ghost use Rattle.answers.specs.Filled.{FilledAs};
 ghost use Rattle.layout.specs.Store.{held_at};

@@ -2,6 +2,8 @@
 // a tree, the fields of a row, where the chain of a place starts, and the masks and lengths of a tree.
 //
 // Its contracts cite crate layout, `specs/Store.antt`.
+#![tactic(auto)]
+
 ghost use Rattle.std.specs.Prelude.{◌≡◌, true, ◌++◌, ◌+◌, ◌≤◌, ◌<◌, length, get_or, drop};
 ghost use Rattle.std.proofs.Math.Option.{none};
 ghost use Rattle.trees.specs.Opening.{tree_bytes};

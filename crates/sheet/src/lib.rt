@@ -3,6 +3,8 @@
 //
 // Read `specs/Sheet.antt` for the lines, and `specs/Asked.antt` for what the calls promise. Lines of it that other
 // sheets have too are put by `put_counts`, `put_split`, `put_majority` and `put_strict`.
+#![tactic(auto)]
+
 ghost use Rattle.std.specs.Prelude.{◌≤◌, length, take};
 ghost use Rattle.trees.specs.Questions.{if_room};
 ghost use Rattle.answers.specs.Filled.{FilledAs};

@@ -2,6 +2,8 @@
 //
 // Read `specs/Files.antt` for what the calls promise; what they mean is said in crate trees, `specs/SplitFile.antt` and
 // `specs/SplitFileCall.antt`.
+#![tactic(auto)]
+
 mod choosing;
 mod entries;
 mod form;

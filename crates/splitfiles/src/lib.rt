@@ -6,6 +6,8 @@
 //     splitfiles show NAMES FILE           what a split file holds, on standard output
 //
 // The exit status is 0 where all was done, 1 where something was refused and the rest was done, 2 where nothing could be done.
+#![tactic(auto)]
+
 mod arguments;
 mod beginning;
 mod merging;

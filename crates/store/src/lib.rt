@@ -2,6 +2,8 @@
 //
 // Read crate layout, specs/Store.antt, for every byte, and specs/WholeStore.antt for what "whole" means of bytes; `whole_at` is
 // what `is_whole` answers.
+#![tactic(auto)]
+
 ghost use Rattle.std.specs.Prelude.{◌≡◌};
 ghost use Rattle.layout.specs.WholeStore.{whole_at};
 

@@ -4,6 +4,8 @@
 // The state goes from call to call by value; the buffer for names and the lent bytes are the caller's, the same for
 // every call. Read `specs/Summary.antt` for what is printed, and `specs/Summing.antt` for what the calls promise:
 // where they are made in this order, the lines are those of `summary` of the whole input, however it is cut.
+#![tactic(auto)]
+
 ghost use Rattle.std.specs.Prelude.{length};
 ghost use Rattle.summary.specs.FirstLine.{kept_of};
 ghost use Rattle.summary.specs.Summing.{BegunAs, FeedsAs, OpensAs, NamesAs, TookAs, ClosesAs, FinishedAs, refusal_lines, PrintedAs};

@@ -3,6 +3,8 @@
 //
 // What the calls mean is said in crate trees, `specs/Opening.antt` and `specs/Questions.antt`, what they
 // answer in crate answers, and what lent bytes hold in crate layout, `specs/Store.antt`.
+#![tactic(auto)]
+
 mod branches;
 mod opening_calls;
 mod questions;

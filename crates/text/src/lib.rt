@@ -1,6 +1,8 @@
 // What stands where in a text, byte by byte, and what may follow a node. Positions are byte places; a text is the bytes before the
 // semicolon that ends it. Read crate trees, specs/Text.antt, Length.antt and Reading.antt; specs/Read.antt here says what each reader
 // answers in their terms.
+#![tactic(auto)]
+
 ghost use Rattle.std.specs.Prelude.{◌≡◌, ◌≤◌, ◌<◌, length, get_or, eqb};
 ghost use Rattle.trees.specs.Text.{apostrophe, is_blank, is_label_byte, is_quoted_byte, turned as turnedBy, kind};
 ghost use Rattle.trees.specs.Length.{is_digit};

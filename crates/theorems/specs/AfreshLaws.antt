@@ -121,6 +121,7 @@ module _ (h : Held) (ws : List (List ℕ)) (k : Left h ws) where
       }
     where
       each_of : (v : List ℕ) → branches_for h.opening w ≡ b → Mem v ws ⊎ Mem v (w ∷ []) → Accepts (opened h.opening) v (branches_for h.opening v)
+      each_of v e (inr (inr x'')) = elim x'' [ ]
       each_of v e (inl m) = k.each v m
       each_of v e (inr (inl q)) = subst (λ (u : List ℕ). Accepts (opened h.opening) u (branches_for h.opening u)) (sym q) (subst (Accepts (opened h.opening) w) (sym e) a)
 
@@ -210,6 +211,7 @@ module _ (o : Opening) (xs : List Lane) where
       (omega (arith, fewer, f.splits-fit)))
     where
       first : (t : List ℕ) → Mem t (trees_for o vs) ⊎ Mem t ((branches_for o w).splits ∷ []) → Mem t (trees_for o vs ++ ((branches_for o w).splits ∷ trees_for o ws))
+      first t (inr (inr x'')) = elim x'' [ ]
       first t (inl m) = mem-left t (trees_for o vs) _ m
       first t (inr (inl e)) = mem-right t (trees_for o vs) _ (inl e)
 

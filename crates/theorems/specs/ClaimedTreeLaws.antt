@@ -11,7 +11,7 @@ use Prim.Native.Nat.{ℕ, suc, ◌≤◌, ◌<◌}
 use Rattle.std.proofs.Common.{arith, ap, sym, ◌∙◌, subst}
 use Rattle.std.specs.Prelude.{◌≡◌, ◌↔◌, Bool, true, false, List, [], ◌∷◌, ◌++◌, ltb, eqb, length}
 use Rattle.std.proofs.Math.Path.{refl}
-use Rattle.std.proofs.Math.Logic.{Iff·trans}
+use Rattle.std.proofs.Math.Logic.Iff.{trans as iff_trans}
 use Rattle.std.proofs.lemmas.Bool.{eqb-false}
 use Rattle.trees.specs.Plain.{if◌then◌else◌, Answer, refused, gives}
 use Rattle.trees.specs.Text.{semicolon}
@@ -83,14 +83,14 @@ module _ (h : Held) where
 
     -- "Accept it exactly when its splits are the majority splits"
     pub claim-same-exactly : (claim_of h text ≡ gives same) ↔ (ms ≡ majority h.trees)
-    claim-same-exactly = Iff·trans (answer-exactly same) (same-splits ms (majority h.trees) ms-rising majority-rising)
+    claim-same-exactly = iff_trans (answer-exactly same) (same-splits ms (majority h.trees) ms-rising majority-rising)
 
     pub claim-distance-exactly : (claim_of h text ≡ gives same) ↔ (doubled ms (majority h.trees) ≡ 0)
-    claim-distance-exactly = Iff·trans (answer-exactly same) (same-distance ms (majority h.trees) ms-rising majority-rising)
+    claim-distance-exactly = iff_trans (answer-exactly same) (same-distance ms (majority h.trees) ms-rising majority-rising)
 
     -- "If not, name the smallest mask that is in one set alone, and which set"
     pub claim-named-exactly : (c : Claimed) → (claim_of h text ≡ gives c) ↔ Says ms (majority h.trees) c
-    claim-named-exactly c = Iff·trans (answer-exactly c) (compared-exactly ms (majority h.trees) ms-rising majority-rising c)
+    claim-named-exactly c = iff_trans (answer-exactly c) (compared-exactly ms (majority h.trees) ms-rising majority-rising c)
 
   -- ---- "however it is rooted"
 

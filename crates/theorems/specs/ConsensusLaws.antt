@@ -96,6 +96,7 @@ majority-good n ts g =
     (λ a b h k. common-tree ts a b (omega (arith, (majority-mem ts a h).1, (majority-mem ts b k).1)))
 
 has-tree : (ts : List (List ℕ)) (t : List ℕ) → Mem t ts → 0 < length ts
+has-tree [] t m = elim m [ ]
 has-tree (u ∷ ts) t m = omega arith
 
 pub strict-good : (n : ℕ) (ts : List (List ℕ)) → AllGood n ts → good_tree n (strict ts) ≡ true

@@ -50,6 +50,7 @@ module _ (m : ℕ) (a b : List ℕ) where
 -- ---- it is 0 exactly for equal split sets
 
 pub zero-within : (a b : List ℕ) → one_sided a b ≡ 0 → (y : ℕ) → Mem y a → Mem y b
+zero-within [] b z y h = elim h [ ]
 zero-within (m ∷ a) b z y h = go (member m b) refl h (λ k. zero-within a b (omega (arith, one_sided-more m a b)) y k)
   where
     go : (t : Bool) → member m b ≡ t → (y ≡ m) ⊎ Mem y a → (Mem y a → Mem y b) → Mem y b

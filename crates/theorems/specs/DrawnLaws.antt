@@ -33,10 +33,14 @@ Labelled (w ∷ ws) [] = ⊥
 Labelled (w ∷ ws) (l ∷ ls) = EndsWith w l × Labelled ws ls
 
 labelled-count : (ws ls : List (List ℕ)) → Labelled ws ls → length ls ≡ length ws
+labelled-count (w ∷ ws) [] a = elim a [ ]
+labelled-count [] (l ∷ ls) a = elim a [ ]
 labelled-count [] [] a = refl
 labelled-count (w ∷ ws) (l ∷ ls) a = ap suc (labelled-count ws ls a.1)
 
 labelled-append : (ws vs ls ks : List (List ℕ)) → Labelled ws ls → Labelled vs ks → Labelled (ws ++ vs) (ls ++ ks)
+labelled-append (w ∷ ws) vs [] ks a b = elim a [ ]
+labelled-append [] vs (l ∷ ls) ks a b = elim a [ ]
 labelled-append [] vs [] ks a b = b
 labelled-append (w ∷ ws) vs (l ∷ ls) ks a b = (a.0, labelled-append ws vs ls ks a.1 b)
 
@@ -45,11 +49,15 @@ ends-behind : (a w l : List ℕ) → EndsWith w l → EndsWith w (a ++ l)
 ends-behind a w l e = (a ++ e.0, ap (λ (k : List ℕ). a ++ k) e.1 ∙ sym (append_assoc a e.0 (bytes "- " ++ w)))
 
 labelled-map : (b : List ℕ) (ws ls : List (List ℕ)) → Labelled ws ls → Labelled ws (map (λ k. b ++ k) ls)
+labelled-map b (w ∷ ws) [] h = elim h [ ]
+labelled-map b [] (l ∷ ls) h = elim h [ ]
 labelled-map b [] [] h = tt
 labelled-map b (w ∷ ws) (l ∷ ls) h = (ends-behind b w l h.0, labelled-map b ws ls h.1)
 
 labelled-hung : (a b : List ℕ) (ws ls : List (List ℕ)) → Labelled ws ls → Labelled ws (hung a b ls)
 unfolding hung
+labelled-hung a b (w ∷ ws) [] h = elim h [ ]
+labelled-hung a b [] (l ∷ ls) h = elim h [ ]
 labelled-hung a b [] [] h = tt
 labelled-hung a b (w ∷ ws) (l ∷ ls) h = (ends-behind a w l h.0, labelled-map b ws ls h.1)
 

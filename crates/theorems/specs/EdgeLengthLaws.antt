@@ -59,6 +59,7 @@ lengths_none : AreLengths []
 lengths_none w m = absurd m
 
 lengths-one : (x : List ℕ) → is_length x ≡ true → AreLengths (x ∷ [])
+lengths-one x h w (mathlib.Core.Logic.inr x'') = elim x'' [ ]
 lengths-one x h w (inl e) = ap is_length e ∙ h
 
 mutual

@@ -12,7 +12,8 @@
 use Rattle.std.specs.Prelude.{ℕ, zero, suc, ◌+◌, ◌*◌, ◌/◌, ◌%◌, ◌^◌, ◌≤◌, ◌<◌, ◌≡◌, ◌⊎◌, ◌↔◌, Bool, ◌&&◌, ◌||◌, leb, ltb, eqb, length, get_or}
 use Rattle.std.proofs.Common.{arith, ap, ap₂, sym, ◌∙◌, ⊎_elim, true≢false, ltb-true, ltb-false, lt-ltb, leb-false, eqb-true, eq-eqb, ne_eqb}
 use Rattle.std.proofs.Math.Path.{refl}
-use Rattle.std.proofs.Math.Logic.{inl, inr, ⊎_map, Iff·trans}
+use Rattle.std.proofs.Math.Logic.{inl, inr, ⊎_map}
+use Rattle.std.proofs.Math.Logic.Iff.{trans as iff_trans}
 use Rattle.std.proofs.Math.Bool.{true, false}
 use mathlib.Core.List.{List, [], ◌∷◌}
 use Rattle.std.proofs.lemmas.Bool.{eqb-false}
@@ -77,6 +78,7 @@ falls (m ∷ l) e = go (rising l) (every (ltb m) l) refl refl e (falls l)
     first k q s = let x = every-fails (ltb m) k q in at k x.0 x.1 (ltb-false m x.0 x.2) s
       where
         at : (k : List ℕ) (y : ℕ) → Mem y k → y ≤ m → Rising k → OutOfOrder (m ∷ k)
+        at [] y x4 b s = elim x4 [ ]
         at (x ∷ k) y (inl e) b s = (0, omega arith, omega arith)
         at (x ∷ k) y (inr h) b s = (0, omega arith, omega (arith, s.0 y h))
 
@@ -322,8 +324,8 @@ module _ (h : Held) (f : List ℕ) (room : ℕ) (choose : List Record → List �
 module _ (h : Held) (f : List ℕ) (room : ℕ) where
   pub majority-disagrees : (majority_file_of h f room ≡ refused 23) ↔ ((rs : List Record) × ReadsAs h f rs × Disagree (majority_in rs))
   majority-disagrees =
-      Iff·trans (majority-refusals-in-order h f room 23) (disagreeing h f room majority_in (λ rs m k. let x = (majority-in-exactly rs m).0 k in mem-some x.0 rs x.1))
+      iff_trans (majority-refusals-in-order h f room 23) (disagreeing h f room majority_in (λ rs m k. let x = (majority-in-exactly rs m).0 k in mem-some x.0 rs x.1))
 
   pub strict-disagrees : (strict_file_of h f room ≡ refused 23) ↔ ((rs : List Record) × ReadsAs h f rs × Disagree (strict_in rs))
   strict-disagrees =
-      Iff·trans (strict-refusals-in-order h f room 23) (disagreeing h f room strict_in (λ rs m k. let x = (strict-in-exactly rs m).0 k in mem-some x.0 rs x.1))
+      iff_trans (strict-refusals-in-order h f room 23) (disagreeing h f room strict_in (λ rs m k. let x = (strict-in-exactly rs m).0 k in mem-some x.0 rs x.1))

@@ -28,6 +28,7 @@ pub record First (i j : ℕ) (ms : List ℕ) (x : ℕ) : Type 0 where
 -- ---- a rising list
 
 rising-before : (b : List ℕ) (x : ℕ) (d : List ℕ) → Rising (b ++ x ∷ d) → (m : ℕ) → Mem m b → m < x
+rising-before [] x d h m x4 = elim x4 [ ]
 rising-before (u ∷ b) x d h m (inl e) = subst (λ (z : ℕ). z < x) (sym e) (h.0 x (mem-right x b (x ∷ d) (inl refl)))
 rising-before (u ∷ b) x d h m (inr k) = rising-before b x d h.1 m k
 

@@ -93,10 +93,12 @@ pub mem-get_d : (l : List ℕ) (j : ℕ) → j < length l → Mem (get_or l j 0)
 mem-get_d l j h = mem-stands l j 0 h
 
 pub mem-where : {A : Type 0} (l : List A) (y d : A) → Mem y l → (i : ℕ) × (i < length l) × (get_or l i d ≡ y)
+mem-where {A = A} [] y d x' = elim x' [ ]
 mem-where (x ∷ l) y d (inl e) = (0, omega arith, sym e)
 mem-where (x ∷ l) y d (inr m) = let r = mem-where l y d m in (suc r.0, omega (arith, r.1), r.2)
 
 pub mem-left : {A : Type 0} (x : A) (l k : List A) → Mem x l → Mem x (l ++ k)
+mem-left {A = A} x [] k x'' = elim x'' [ ]
 mem-left x (y ∷ l) k (inl e) = inl e
 mem-left x (y ∷ l) k (inr h) = inr (mem-left x l k h)
 
@@ -111,14 +113,17 @@ mem-cases x (y ∷ l) k (inr h) = ⊎_map (λ m. inr m) (λ m. m) (mem-cases x l
 
 pub mem-flat : {A B : Type 0} (f : A → List B) (b : B) (l : List A) → Mem b (flat_map f l) → (x : A) × Mem x l × Mem b (f x)
 unfolding flat_map
+mem-flat {A = A} {B = B} f b [] h = elim h [ ]
 mem-flat f b (x ∷ l) h =
     ⊎_elim (λ m. (x, inl refl, m)) (λ m. let r = mem-flat f b l m in (r.0, inr r.1, r.2)) (mem-cases b (f x) (flat_map f l) h)
 
 pub map-mem : {A B : Type 0} (f : A → B) (l : List A) (y : B) → Mem y (map f l) → (x : A) × Mem x l × (y ≡ f x)
+map-mem {A = A} {B = B} f [] y x' = elim x' [ ]
 map-mem f (x ∷ l) y (inl e) = (x, inl refl, e)
 map-mem f (x ∷ l) y (inr h) = let r = map-mem f l y h in (r.0, inr r.1, r.2)
 
 pub mem-copies : (k a b : ℕ) → Mem b (replicate k a) → b ≡ a
+mem-copies zero a b x' = elim x' [ ]
 mem-copies (suc k) a b (inl e) = e
 mem-copies (suc k) a b (inr h) = mem-copies k a b h
 
@@ -129,6 +134,7 @@ member-mem m (x ∷ l) e = ⊎_map (eqb-true m x) (λ q. member-mem m l q) (or_c
 
 pub mem-member : (m : ℕ) (l : List ℕ) → Mem m l → member m l ≡ true
 unfolding member
+mem-member m [] x' = elim x' [ ]
 mem-member m (x ∷ l) (inl e) = or_left (eqb m x) (member m l) (eq-eqb m x e)
 mem-member m (x ∷ l) (inr h) = or_right (eqb m x) (member m l) (mem-member m l h)
 
@@ -146,6 +152,7 @@ not-member m l e h = true≢false (sym (mem-member m l h) ∙ e)
 
 pub every-at : {A : Type 0} (p : A → Bool) (l : List A) → every p l ≡ true → (x : A) → Mem x l → p x ≡ true
 unfolding every
+every-at {A = A} p [] e x x4 = elim x4 [ ]
 every-at p (y ∷ l) e x (inl q) = ap p q ∙ and_left (p y) (every p l) e
 every-at p (y ∷ l) e x (inr h) = every-at p l (and_right (p y) (every p l) e) x h
 
@@ -173,6 +180,7 @@ keep_append t (x ∷ l) r = go (t x) (keep_append t l r)
 
 pub keep-mem : {A : Type 0} (p : A → Bool) (l : List A) (x : A) → Mem x (keep p l) → Mem x l × (p x ≡ true)
 unfolding keep
+keep-mem {A = A} p [] x h = elim h [ ]
 keep-mem {A} p (y ∷ l) x h = go (p y) refl h (λ m. keep-mem p l x m)
   where
     go : (b : Bool) → p y ≡ b → Mem x (if b then y ∷ keep p l else keep p l) → (Mem x (keep p l) → Mem x l × (p x ≡ true)) → ((x ≡ y) ⊎ Mem x l) × (p x ≡ true)
@@ -182,6 +190,7 @@ keep-mem {A} p (y ∷ l) x h = go (p y) refl h (λ m. keep-mem p l x m)
 
 pub mem-keep : {A : Type 0} (p : A → Bool) (l : List A) (x : A) → Mem x l → p x ≡ true → Mem x (keep p l)
 unfolding keep
+mem-keep {A = A} p [] x x4 e = elim x4 [ ]
 mem-keep {A} p (y ∷ l) x (inl q) e = by-test (λ (k : List A). Mem x k) (p y) (λ d. inl q) (λ d. absurd (true≢false (sym e ∙ ap p q ∙ d)))
 mem-keep {A} p (y ∷ l) x (inr h) e = by-test (λ (k : List A). Mem x k) (p y) (λ d. inr (mem-keep p l x h e)) (λ d. mem-keep p l x h e)
 

@@ -76,6 +76,7 @@ comb-rising = refl
 -- of two of them, one lies within the other
 comb-mem : (k m : ℕ) → Mem m (comb_splits k) → (j : ℕ) × (j < k) × (m ≡ 2 ^ 64 - 2 ^ (j + 2))
 unfolding comb_splits
+comb-mem zero m x' = elim x' [ ]
 comb-mem (suc k) m (inl e) = (k, omega arith, e)
 comb-mem (suc k) m (inr h) = let r = comb-mem k m h in (r.0, omega (arith, r.1), r.2)
 

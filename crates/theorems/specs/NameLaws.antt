@@ -48,6 +48,7 @@ unfolding kind
 kind-by b = refl
 
 above-blanks : (b : ℕ) → 33 ≤ b → Mem b (32 ∷ 9 ∷ 13 ∷ 10 ∷ []) → ⊥
+above-blanks b h (inr (inr (inr (inr x4)))) = elim x4 [ ]
 above-blanks b h (inl e) = omega arith
 above-blanks b h (inr (inl e)) = omega arith
 above-blanks b h (inr (inr (inl e))) = omega arith

@@ -160,6 +160,7 @@ module _ (ps : List Pair) (names : NamesUnended ps) where
 
   pub replaced-unended : (ts : List (List ℕ)) → AllUnended ts → AllUnended (map (replaced ps) ts)
   unfolding replaced
+  replaced-unended [] all w x'' = elim x'' [ ]
   replaced-unended (t ∷ ts) all w (inl e) = subst Unended (sym e) (after-unended false true [] t leads-none (all t (inl refl)))
   replaced-unended (t ∷ ts) all w (inr m) = replaced-unended ts (λ v k. all v (inr k)) w m
 

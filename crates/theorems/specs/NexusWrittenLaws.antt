@@ -72,6 +72,7 @@ module _ (n : ℕ) (ns : List (List ℕ)) (names : good_names n ns ≡ true) (le
 
   written-plain : (ss : List (List ℕ)) → every (good_tree n) ss ≡ true → AllPlain (map (tree_text ns) ss)
   unfolding every
+  written-plain [] e w x'' = elim x'' [ ]
   written-plain (s ∷ ss) e w (inl q) = subst Plain (sym q) (tree_plain s (and_left (good_tree n s) (every (good_tree n) ss) e))
   written-plain (s ∷ ss) e w (inr m) = written-plain ss (and_right (good_tree n s) (every (good_tree n) ss) e) w m
 

@@ -25,6 +25,7 @@ use Rattle.theorems.specs.PhylipLayout.{Number, Row, Layout, number_text, line_o
 
 digits_above : (w : List ℕ) → is_digits w ≡ true → (b : ℕ) → Mem b w → 48 ≤ b
 unfolding is_digits
+digits_above [] e b h = elim h [ ]
 digits_above (c ∷ w) e b h = digit-above b (every-at is_digit (c ∷ w) e b h)
 
 digits-some : (w : List ℕ) → is_digits w ≡ true → is_empty w ≡ false

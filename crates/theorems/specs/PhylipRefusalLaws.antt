@@ -30,6 +30,7 @@ use Rattle.theorems.specs.PhylipSoundLaws.{laid-out-exactly, laid-values}
 
 below_less : (n i : ℕ) → Mem i (below n) → i < n
 unfolding below
+below_less zero i x' = elim x' [ ]
 below_less (suc n) i (inl e) = omega arith
 below_less (suc n) i (inr h) = omega (arith, below_less n i h)
 

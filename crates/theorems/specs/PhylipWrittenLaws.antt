@@ -84,6 +84,7 @@ number-sound : (v : ℕ) → v ≤ 65535 → SoundNumber (number_for v)
 number-sound v h = record { spaced = omega arith; are-digits = digits_are v; no_more = omega (arith, digits_number v) }
 
 numbers-sound : (vs : List ℕ) → ((v : ℕ) → Mem v vs → v ≤ 65535) → (x : Number) → Mem x (map number_for vs) → SoundNumber x
+numbers-sound [] f x x4 = elim x4 [ ]
 numbers-sound (v ∷ vs) f x (inl e) = subst SoundNumber (sym e) (number-sound v (f v (inl refl)))
 numbers-sound (v ∷ vs) f x (inr m) = numbers-sound vs (λ y h. f y (inr h)) x m
 
@@ -97,6 +98,7 @@ row-sound t i vs l e f = record {
 
 rows-sound : (t i : ℕ) (rows : List (List ℕ)) → i + length rows ≤ 10 ^ 9 → ((vs : List ℕ) → Mem vs rows → length vs ≡ t)
     → ((vs : List ℕ) → Mem vs rows → (v : ℕ) → Mem v vs → v ≤ 65535) → (r : Row) → Mem r (rows_for i rows) → SoundRow t r
+rows-sound t i [] l e f r x4 = elim x4 [ ]
 rows-sound t i (vs ∷ rows) l e f r (inl q) = subst (SoundRow t) (sym q) (row-sound t i vs (omega arith) (e vs (inl refl)) (f vs (inl refl)))
 rows-sound t i (vs ∷ rows) l e f r (inr m) = rows-sound t (suc i) rows (omega arith) (λ k h. e k (inr h)) (λ k h. f k (inr h)) r m
 

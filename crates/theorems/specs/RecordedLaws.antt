@@ -53,6 +53,7 @@ recorded-append ts t =
     (λ y h. back y (insert_all-mem t (recorded ts) y h))
   where
     forth : (y : ℕ) (u : List ℕ) → Mem y u → Mem u ts ⊎ Mem u (t ∷ []) → Mem y (insert_all t (recorded ts))
+    forth y u h (inr (inr x'')) = elim x'' [ ]
     forth y u h (inl k) = mem-insert_all t (recorded ts) y (inr (mem-recorded ts u y k h))
     forth y u h (inr (inl e)) = mem-insert_all t (recorded ts) y (inl (subst (Mem y) e h))
 

@@ -152,6 +152,7 @@ pub record NotShown (x : ℕ) : Type 0 where
 
 marks-closed : (b : ℕ) → Mem b (40 ∷ 41 ∷ 44 ∷ []) → turned false b ≡ false
 unfolding turned
+marks-closed b (inr (inr (inr x3))) = elim x3 [ ]
 marks-closed b (inl e) = ap (turned false) e
 marks-closed b (inr (inl e)) = ap (turned false) e
 marks-closed b (inr (inr (inl e))) = ap (turned false) e
@@ -177,6 +178,7 @@ module _ (x : ℕ) (n : NotShown x) where
   )
 
   other-mark : (b : ℕ) → Mem b (40 ∷ 41 ∷ 44 ∷ []) → eqb b x ≡ false
+  other-mark b (inr (inr (inr x4))) = elim x4 [ ]
   other-mark b (inl e) = ap (λ (y : ℕ). eqb y x) e ∙ n.no-open
   other-mark b (inr (inl e)) = ap (λ (y : ℕ). eqb y x) e ∙ n.no-close
   other-mark b (inr (inr (inl e))) = ap (λ (y : ℕ). eqb y x) e ∙ n.no-comma

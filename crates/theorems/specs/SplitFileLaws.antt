@@ -79,15 +79,18 @@ records-back (r ∷ rs) f = ap₂ (λ x l. x ∷ l) (record-back r (f r (inl ref
 -- ---- records
 
 pub mem-some : {A : Type 0} (x : A) (l : List A) → Mem x l → 0 < length l
+mem-some {A = A} x [] h = elim h [ ]
 mem-some x (y ∷ l) h = omega arith
 
 pub masks-mem : (rs : List Record) (m : ℕ) → Mem m (masks_of rs) → (r : Record) × Mem r rs × (r.mask ≡ m)
 unfolding masks_of
+masks-mem [] m x' = elim x' [ ]
 masks-mem (r ∷ rs) m (inl e) = (r, inl refl, sym e)
 masks-mem (r ∷ rs) m (inr h) = let x = masks-mem rs m h in (x.0, inr x.1, x.2)
 
 pub mem-masks : (rs : List Record) (r : Record) → Mem r rs → Mem r.mask (masks_of rs)
 unfolding masks_of
+mem-masks [] r x' = elim x' [ ]
 mem-masks (x ∷ rs) r (inl e) = inl (ap (λ (y : Record). y.mask) e)
 mem-masks (x ∷ rs) r (inr h) = inr (mem-masks rs r h)
 
@@ -98,6 +101,7 @@ count-absent (r ∷ rs) m f = if-false r.count (count_for m rs) (ne_eqb m r.mask
 
 pub count-there : (rs : List Record) (r : Record) → Rising (masks_of rs) → Mem r rs → count_for r.mask rs ≡ r.count
 unfolding count_for masks_of
+count-there [] r h x'' = elim x'' [ ]
 count-there (x ∷ rs) r h (inl e) =
     if-true x.count (count_for r.mask rs) (eq-eqb r.mask x.mask (ap (λ (y : Record). y.mask) e)) ∙ sym (ap (λ (y : Record). y.count) e)
 count-there (x ∷ rs) r h (inr k) =
@@ -174,6 +178,7 @@ listed c t l = map (entry c t) l
 
 module _ (c : ℕ → ℕ) (t : ℕ) where
   pub listed-mem : (l : List ℕ) (r : Record) → Mem r (listed c t l) → Mem r.mask l × (r.count ≡ c r.mask) × (r.trees ≡ t)
+  listed-mem [] r x' = elim x' [ ]
   listed-mem (m ∷ l) r (inl e) =
       (inl (ap (λ (x : Record). x.mask) e), ap (λ (x : Record). x.count) e ∙ ap c (sym (ap (λ (x : Record). x.mask) e)), ap (λ (x : Record). x.trees) e)
   listed-mem (m ∷ l) r (inr h) = let x = listed-mem l r h in (inr x.0, x.1, x.2)
@@ -190,6 +195,7 @@ module _ (c : ℕ → ℕ) (t : ℕ) where
 
   pub listed-count : (l : List ℕ) (m : ℕ) → Mem m l → count_for m (listed c t l) ≡ c m
   unfolding count_for
+  listed-count [] m h = elim h [ ]
   listed-count (x ∷ l) m h = go (equal_or_not m x) h (λ k. listed-count l m k)
     where
       go : (m ≡ x) ⊎ (m ≡ x → ⊥) → (m ≡ x) ⊎ Mem m l → (Mem m l → count_for m (listed c t l) ≡ c m) → (if eqb m x then c x else count_for m (listed c t l)) ≡ c m

@@ -73,6 +73,7 @@ sub-eq e i h = subst (λ (z : ℕ). On z i) e h
 
 pub cluster-sub : (ns : List (List ℕ)) (t : Nodes) (x : ℕ) → Mem x (clusters ns t) → Sub x (taxa ns t)
 unfolding clusters taxa
+cluster-sub ns nil x k i h = elim k [ ]
 cluster-sub ns (leaf w l r) x (inl e) i h = on-or-l (taxon ns w) (taxa ns r) i (sub-eq e i h)
 cluster-sub ns (leaf w l r) x (inr k) i h = on-or-r (taxon ns w) (taxa ns r) i (cluster-sub ns r x k i h)
 cluster-sub ns (inner c l r) x k i h =
@@ -84,6 +85,7 @@ dis-parts x y a b f g d i h k = d i (f i h) (g i k)
 
 pub clusters-agree : (ns : List (List ℕ)) (t : Nodes) → Distinct ns t → (x y : ℕ) → Mem x (clusters ns t) → Mem y (clusters ns t) → Ag x y
 unfolding clusters
+clusters-agree ns nil d x y h k = elim h [ ]
 clusters-agree ns (leaf w l r) d x y (inl e) (inl f) = inr (inl (sub-eq (e ∙ sym f)))
 clusters-agree ns (leaf w l r) d x y (inl e) (inr k) = inl (dis-parts x y (taxon ns w) (taxa ns r) (sub-eq e) (cluster-sub ns r y k) d.0)
 clusters-agree ns (leaf w l r) d x y (inr h) (inl f) = ag-sym y x (inl (dis-parts y x (taxon ns w) (taxa ns r) (sub-eq f) (cluster-sub ns r x h) d.0))
@@ -107,6 +109,7 @@ clusters-agree ns (inner c l r) d x y h k = go (inner-cases ns c r x h) (inner-c
 
 pub counted-mem : (n : ℕ) (cs : List ℕ) (y : ℕ) → Mem y (counted n cs) → (c : ℕ) × Mem c cs × (y ≡ side n c) × (proper n y ≡ true)
 unfolding counted
+counted-mem n [] y h = elim h [ ]
 counted-mem n (c ∷ cs) y h = go (proper n (side n c)) refl h (λ k. let r = counted-mem n cs y k in (r.0, inr r.1, r.2, r.3))
   where
     go : (b : Bool) → proper n (side n c) ≡ b → Mem y (if b then insert (side n c) (counted n cs) else counted n cs)
@@ -116,6 +119,7 @@ counted-mem n (c ∷ cs) y h = go (proper n (side n c)) refl h (λ k. let r = co
 
 pub mem-counted : (n : ℕ) (cs : List ℕ) (c : ℕ) → Mem c cs → proper n (side n c) ≡ true → Mem (side n c) (counted n cs)
 unfolding counted
+mem-counted n [] c x'' p = elim x'' [ ]
 mem-counted n (d ∷ cs) c (inl e) p =
     by-test (Mem (side n c)) (proper n (side n d)) (λ q. mem-insert (side n d) (counted n cs) (side n c) (inl (ap (side n) e)))
     (λ q. absurd (true≢false (sym p ∙ ap (λ (x : ℕ). proper n (side n x)) e ∙ q)))
@@ -131,6 +135,7 @@ counted-rising n (c ∷ cs) = by-test Rising (proper n (side n c)) (λ e. insert
 
 pub pairs-at : (l : List ℕ) → agree_in_pairs l ≡ true → (x y : ℕ) → Mem x l → Mem y l → Ag x y
 unfolding agree_in_pairs
+pairs-at [] e x y x5 _ = elim x5 [ ]
 pairs-at (m ∷ l) e x y (inl p) (inl q) = subst (Ag x) (p ∙ sym q) (ag-self x)
 pairs-at (m ∷ l) e x y (inl p) (inr k) = subst (λ (z : ℕ). Ag z y) (sym p) (agree-true m y (every-at (agree m) l (and_left (every (agree m) l) (agree_in_pairs l) e) y k))
 pairs-at (m ∷ l) e x y (inr h) (inl q) = subst (λ (z : ℕ). Ag x z) (sym q) (ag-sym m x (agree-true m x (every-at (agree m) l (and_left (every (agree m) l) (agree_in_pairs l) e) x h)))

@@ -58,6 +58,7 @@ module _ (n : ℕ) (ms : List ℕ) (good : every (proper n) ms ≡ true) (i : �
 
   from-mem : (k j : ℕ) → Mem j (sharing_from n i ms k) → (j < n) × (j ≡ i → ⊥) × (size j ≤ k)
   unfolding sharing_from
+  from-mem zero j h = elim h [ ]
   from-mem (suc k) j h = go (mem-cases j (sharing n i ms (suc k)) (sharing_from n i ms k) h) (from-mem k j)
     where
       go : Mem j (sharing n i ms (suc k)) ⊎ Mem j (sharing_from n i ms k) → (Mem j (sharing_from n i ms k) → (j < n) × (j ≡ i → ⊥) × (size j ≤ k)) → (j < n) × (j ≡ i → ⊥) × (size j ≤ suc k)

@@ -74,6 +74,7 @@ module _ (before : Float → Float → Bool) where
 
     foremost-none : (x : Float) (xs : List Float) → AllFinite (x ∷ xs) → NoneBefore (foremost x xs) (x ∷ xs)
     unfolding foremost AllFinite NoneBefore
+    foremost-none x [] f y (inr x5) = elim x5 [ ]
     foremost-none x [] f y (inl e) = subst (λ (z : Float). before z x ≡ false) (sym e) (o.irrefl x (f x (inl refl)))
     foremost-none x (y ∷ ys) f z h =
         let m = if before y x then y else x in
@@ -128,10 +129,12 @@ all-finite xs p x h = proper-finite x (every-at proper xs p x h)
 
 pub none-shorter : (xs : List Float) → every proper xs ≡ true → (y : Float) → Mem y xs → lt y (sums xs).shortest ≡ false
 unfolding sums NoneBefore
+none-shorter [] p y h = elim h [ ]
 none-shorter (x ∷ xs) p y h = subst (λ (z : Float). lt y z ≡ false) (shortest-is x xs) (foremost-none lt by_value x xs (all-finite (x ∷ xs) p) y h)
 
 pub none-longer : (xs : List Float) → every proper xs ≡ true → (y : Float) → Mem y xs → lt (sums xs).longest y ≡ false
 unfolding sums NoneBefore above
+none-longer [] p y h = elim h [ ]
 none-longer (x ∷ xs) p y h = subst (λ (z : Float). lt z y ≡ false) (longest-is x xs) (foremost-none above from-above x xs (all-finite (x ∷ xs) p) y h)
 
 added-number : (t : Float) (xs : List Float) → T (not (is_nan t)) → every proper xs ≡ true → T (not (is_nan (added t xs)))

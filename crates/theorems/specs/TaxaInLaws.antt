@@ -16,9 +16,11 @@ use Rattle.theorems.specs.InTurnLaws.{InTurn, turn-append, turn-keep}
 
 pub up-to-below : (n j : ℕ) → Mem j (up_to n) → j < n
 unfolding up_to
+up-to-below zero j h = elim h [ ]
 up-to-below (suc n) j h = go (mem-cases j (up_to n) (n ∷ []) h) (up-to-below n j)
   where
     go : Mem j (up_to n) ⊎ Mem j (n ∷ []) → (Mem j (up_to n) → j < n) → j < suc n
+    go (inr (inr x4)) f = elim x4 [ ]
     go (inl k) f = omega (arith, f k)
     go (inr (inl e)) f = omega arith
 
@@ -37,6 +39,7 @@ up-to-rising zero = tt
 up-to-rising (suc n) = turn-append (λ x y. x < y) (up_to n) (n ∷ []) (up-to-rising n) ((λ y k. absurd k), tt) (λ x y p q. last x y (up-to-below n x p) q)
   where
     last : (x y : ℕ) → x < n → Mem y (n ∷ []) → x < y
+    last x y a (inr x'') = elim x'' [ ]
     last x y a (inl e) = omega arith
 
 -- ---- the taxa of a mask

@@ -51,6 +51,8 @@ empty-stays h l k e = record {
 pub through-lane : (l : ℕ) (cs : List Call) (h : Held) → EmptyLane h l → Handing cs
     → (answers h (map (through_lane l) cs) ≡ answers h cs) × (ending h (map (through_lane l) cs) ≡ ending h cs)
 unfolding answers ending through_lane Handing answer next
+through-lane l (close _ ∷ cs) h e c = elim c [ ]
+through-lane l (feed _ _ ∷ cs) h e c = elim c [ ]
 through-lane l [] h e c = (refl, refl)
 through-lane l (hand t ∷ cs) h e c =
     let k = recording h (on_text h t) in
@@ -86,6 +88,7 @@ turns-handing (k ∷ ks) ws u =
     (w, turns-handing ks (without_at k ws ++ get_or ws k [] ∷ []) (λ v m. again v w (mem-cases v (without_at k ws) (get_or ws k [] ∷ []) m)))
   where
     again : (v : List ℕ) → Unended (get_or ws k []) → Mem v (without_at k ws) ⊎ Mem v (get_or ws k [] ∷ []) → Unended v
+    again v w (inr (inr x3)) = elim x3 [ ]
     again v w (inl m) = u v (without-mem k ws v m)
     again v w (inr (inl e)) = subst Unended (sym e) w
 

@@ -26,11 +26,13 @@ abbrev NoStray : List Symbol → Type 0
 NoStray ss = Mem stray ss → ⊥
 
 length-stray : {e : List Symbol} {x : Option (List ℕ)} → MayHaveLength e x → NoStray e
+length-stray (a-length {w = w} f) (inr (inr x5)) = elim x5 [ ]
 length-stray no_length m = m
 length-stray (a-length f) (inl e) = let z : ◌≡◌ {A = ℕ} 0 1 = cc in omega arith
 length-stray (a-length f) (inr (inl e)) = let z : ◌≡◌ {A = ℕ} 0 1 = cc in omega arith
 
 label-stray : {l : List Symbol} → MayHaveLabel l → NoStray l
+label-stray (a-label {w = w}) (inr x'') = elim x'' [ ]
 label-stray no_label m = m
 label-stray a-label (inl e) = let z : ◌≡◌ {A = ℕ} 0 1 = cc in omega arith
 

@@ -199,6 +199,7 @@ module _ (ns : List (List ℕ)) where
         (λ x h. ⊎_elim (λ k. inl k) (λ k. inr (only x k)) (mem-cases x (clusters ns r) (taxa ns r ∷ []) h))
       where
         only : (x : ℕ) → (x ≡ taxa ns r) ⊎ ⊥ → x ≡ taxa ns r
+        only x (inr x3) = elim x3 [ ]
         only x (inl e) = e
 
     -- the taxa of one node are a cluster

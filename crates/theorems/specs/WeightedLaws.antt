@@ -51,6 +51,7 @@ unfolding either
 either-within av bv m h = let r = recorded-mem (av ∷ bv ∷ []) m h in mem-recorded (bv ∷ av ∷ []) r.0 m (other r.0 r.1) r.2
   where
     other : (t : List ℕ) → Mem t (av ∷ bv ∷ []) → Mem t (bv ∷ av ∷ [])
+    other t (inr (inr x'')) = elim x'' [ ]
     other t (inl e) = inr (inl e)
     other t (inr (inl e)) = inl e
 

@@ -94,6 +94,7 @@ widest_or-from m i (x ∷ s) best = go (widest_or (wider m i x best) m i s) (wid
 
 widest_or-top : (m i : ℕ) (s : List ℕ) (best y : ℕ) → Mem y s → Fit m i y → y ≤ widest_or best m i s
 unfolding widest_or
+widest_or-top m i [] best y x'' h = elim x'' [ ]
 widest_or-top m i (x ∷ s) best y (inl e) h =
     let p = wider_top m i best x (subst (Fit m i) e h) in
     omega (arith, p, widest_or-ge m i s (wider m i x best))

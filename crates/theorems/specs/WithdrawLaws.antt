@@ -71,6 +71,8 @@ module _ {A : Type 0} where
 
   pub without-mem : (k : ℕ) (xs : List A) (y : A) → Mem y (without_at k xs) → Mem y xs
   unfolding without_at
+  without-mem (suc k) [] y m = elim m [ ]
+  without-mem zero [] y m = elim m [ ]
   without-mem zero (x ∷ xs) y m = inr m
   without-mem (suc k) (x ∷ xs) y (inl e) = inl e
   without-mem (suc k) (x ∷ xs) y (inr m) = inr (without-mem k xs y m)
@@ -110,6 +112,7 @@ pub without-again : {A : Type 0} (k : ℕ) (xs : List A) (d : A) → k < length 
 without-again k xs d l y = (λ m. forth (mem-cases y (without_at k xs) _ m), λ m. let r = mem-where xs y d m in back r.0 r.1 r.2 (equal_or_not r.0 k))
   where
     forth : Mem y (without_at k xs) ⊎ Mem y (get_or xs k d ∷ []) → Mem y xs
+    forth (inr (inr x'')) = elim x'' [ ]
     forth (inl m) = without-mem k xs y m
     forth (inr (inl e)) = subst (λ z. Mem z xs) (sym e) (mem-stands xs k d l)
 

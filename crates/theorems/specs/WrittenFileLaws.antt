@@ -43,6 +43,7 @@ use Rattle.theorems.specs.SplitFileLaws.{bytes-length, records-back, Formed, for
 -- ---- counts
 
 pub has-count : (ts : List (List ℕ)) (t : List ℕ) (m : ℕ) → Mem t ts → Mem m t → 1 ≤ count ts m
+has-count [] t m x'' h = elim x'' [ ]
 has-count (u ∷ ts) t m (inl e) h = omega (arith, count-has u ts m (mem-member m u (subst (Mem m) e h)))
 has-count (u ∷ ts) t m (inr k) h =
     let q = has-count ts t m k h in

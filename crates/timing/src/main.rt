@@ -2,6 +2,8 @@
 // a NEXUS file, all without quotes.
 // For the line `answers` every call is made once, and what they answered is written. For a line `PART N` the collection is filled, a part
 // is made N times, and the nanoseconds of one time are written. Behind the word `kept` lengths are kept. docs/BENCH.md says what the parts are.
+#![tactic(auto)]
+
 use lines::Wanted;
 
 mod answered;

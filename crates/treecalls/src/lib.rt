@@ -1,4 +1,6 @@
 // The program `treecalls` for its `main` in C, which lends the memory: its lengths set the limits. All else is crate `calling`.
+#![tactic(auto)]
+
 ghost use Rattle.std.specs.Prelude.{◌≤◌};
 
 // Answers standard input up to its end, or until a read or a write fails: then the exit status is 1, else 0.

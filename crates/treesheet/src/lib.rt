@@ -4,6 +4,8 @@
 //     treesheet [--matrix FILE] [--splits] [--drop N] [--newick] [--apart NAME] NAMES FILE..
 //
 // The exit status is 0 where all was taken, 1 where something was refused and the rest was taken, 2 where nothing could be done.
+#![tactic(auto)]
+
 mod arguments;
 mod dropping;
 mod files;

@@ -3,6 +3,8 @@
 // Its contracts cite, of crate trees, `specs/Weighted.antt` (`weighted`, `gap`) and `specs/Sums.antt` (`sums`);
 // `specs/Summed.antt` says what one length more does to the three, and `specs/Side.antt` where a walk over two
 // lists of masks goes on.
+#![tactic(auto)]
+
 ghost use Rattle.std.specs.Prelude.{◌≡◌, true, [], ◌∷◌, ◌+◌, ◌≤◌, ◌<◌, length};
 ghost use Rattle.std.specs.Float.Ieee.{lt};
 ghost use Rattle.trees.specs.Plain.{if◌then◌else◌};

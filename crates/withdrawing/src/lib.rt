@@ -2,6 +2,8 @@
 //
 // Read `specs/Withdrawn.antt` for what the call promises; what it means is said in crate trees, `specs/Withdrawing.antt`. What it makes
 // of a store's parts stands in `specs/Left.antt`.
+#![tactic(auto)]
+
 ghost use Rattle.withdrawing.specs.Withdrawn.{WithdrawnAs};
 
 use answers::{Finish, Refusal, Tree};

@@ -5,6 +5,8 @@
 // `written`), and crate head, `specs/Head.antt` (`names_at`, `opening_at`). What the recursion writes
 // is in `specs/Branch.antt` (`branch_text`, `child_text`); `names.rt` writes the names. What finds a node's children,
 // `child_mask` and `widest_in`, serves crate drawing too.
+#![tactic(auto)]
+
 ghost use Rattle.std.specs.Prelude.{◌≡◌, ◌+◌, ◌≤◌, ◌<◌, true, length, take};
 ghost use Rattle.trees.specs.Opening.{head_bytes};
 ghost use Rattle.trees.specs.Written.{wider, widest, written};
