@@ -4,7 +4,7 @@
 --   Sub a b      every taxon of a is in b
 --   Dis a b      no taxon is in both
 --   ext          masks with the same taxa are one mask
-use Rattle.std.specs.Prelude.{ℕ, zero, suc, ◌+◌, ◌-◌, ◌*◌, ◌/◌, ◌%◌, ◌^◌, ◌≤◌, ◌<◌, min, max, ◌≡◌, refl, ◌⊎◌}
+use Rattle.std.specs.Prelude.{ℕ, zero, suc, ◌+◌, ◌*◌, ◌/◌, ◌%◌, ◌^◌, ◌≤◌, ◌<◌, min, max, ◌≡◌, refl, ◌⊎◌}
 use native.Mathlib.Omega.{arith}
 use Rattle.std.proofs.Common.{pow-suc, mul_comm, ap, sym, ◌∙◌, subst, inl, inr}
 use Rattle.std.proofs.Math.Nat.{div-div-eq-div-mul, zero-div}

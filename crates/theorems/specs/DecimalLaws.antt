@@ -11,7 +11,7 @@
 --   worth-in             what is read of bytes is what they are worth; where nothing is read, they are worth no number that is allowed
 --   worth-read           digits that are worth v are read as v, leading zeros or not
 --   digits-worth, digits-read     so a number in digits is read as that number, where it is no more than `most`
-use Rattle.std.specs.Prelude.{ℕ, zero, suc, ◌+◌, ◌-◌, ◌*◌, ◌/◌, ◌%◌, ◌^◌, ◌≤◌, ◌<◌, ◌≡◌, refl, true, false, ◌&&◌, List, [], ◌∷◌, ◌++◌, ltb, length}
+use Rattle.std.specs.Prelude.{ℕ, zero, suc, ◌+◌, ◌-◌, ◌*◌, ◌/◌, ◌%◌, ◌^◌, ◌≤◌, ◌<◌, ◌≡◌, refl, true, ◌&&◌, List, [], ◌∷◌, ◌++◌, ltb, length}
 use Rattle.std.proofs.Common.{zero-lt-suc, mul-one, one-mul, mul_assoc, mul-le-mul_right, pow-suc, div-lt_iff_lt-mul, mod-lt, arith, sym, ◌∙◌, length-append}
 use Rattle.std.proofs.Math.Nat.{pow-succ'}
 use Rattle.std.proofs.Math.Path.{ap}

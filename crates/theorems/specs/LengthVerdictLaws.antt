@@ -9,7 +9,7 @@
 --   with-accepts           and it gives branches exactly when no fault holds, and they are those of its tree
 --   with-good              they are in order: the splits, and their lengths
 use Rattle.std.specs.Prelude.{ℕ, ◌≡◌, ◌⊎◌, ◌↔◌, Bool, ◌&&◌}
-use Rattle.std.proofs.Common.{arith, sym, ◌∙◌, subst, inl, inr, eqb-true, eq-eqb, ne_eqb}
+use Rattle.std.proofs.Common.{arith, sym, ◌∙◌, subst, inl, inr, eq-eqb, ne_eqb}
 use Rattle.std.proofs.Math.Path.{refl, ap}
 use Rattle.std.proofs.Math.Bool.{true, false}
 use mathlib.Core.List.{List, [], ◌∷◌}
@@ -26,11 +26,11 @@ use Rattle.trees.specs.Value.{Length, length_of}
 use Rattle.trees.specs.Lengths.{tokens, is_given, exact, lengths_of}
 use Rattle.trees.specs.Verdict.{judged_tree, judged, Branches, with_lengths, judged_with}
 use Rattle.trees.specs.Whole.{good_tree, good_length, good_branches}
-use Rattle.theorems.specs.ListLaws.{if-true, if-false, and-true, equal_or_not, Mem}
+use Rattle.theorems.specs.ListLaws.{and-true, equal_or_not, Mem}
 use Rattle.theorems.specs.GrammarLaws.{reading-complete}
 use Rattle.theorems.specs.VerdictLaws.{text_by, judged-step, judged-good}
 use Rattle.theorems.specs.Refusing.{Fault, OutsideRange, Inexact, kept_lengths}
-use Rattle.theorems.specs.FaultLaws.{Refusal, Fine, judged-refuses, judged-accepts}
+use Rattle.theorems.specs.FaultLaws.{Refusal, judged-refuses, judged-accepts}
 use Rattle.theorems.specs.TreeLengthLaws.{lengths-count, lengths-good}
 
 abbrev pub branches_of : ℕ → List (List ℕ) → Nodes → Branches

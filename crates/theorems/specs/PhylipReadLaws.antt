@@ -4,7 +4,7 @@
 --   lines-flat         the rows of a layout, one behind another, are its lines, each ended by LF
 --   square-lines       a text is read by its first line and the lines behind it
 --   layout-reads       what is laid out as request 2026-07 says is read as the matrix that it says
-use Rattle.std.specs.Prelude.{ℕ, zero, suc, ◌≤◌, ◌<◌, ◌≡◌, refl, ◌⊎◌, true, false, ◌&&◌, not, leb, replicate}
+use Rattle.std.specs.Prelude.{ℕ, zero, suc, ◌≤◌, ◌<◌, ◌≡◌, refl, true, false, ◌&&◌, not, leb, replicate}
 use Rattle.std.proofs.Common.{arith, ap₂, sym, ◌∙◌, subst, inl, inr, ⊎_elim, true≢false, take_at, drop_at, le-leb, eq-eqb}
 use Rattle.std.proofs.Math.Path.{ap}
 use mathlib.Core.List.{List, [], ◌∷◌, ◌++◌, map, flat_map, append_assoc, append-nil}

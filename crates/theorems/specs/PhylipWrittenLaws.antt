@@ -8,7 +8,7 @@
 --   row_ends               a written row ends with LF, and no other byte of it is LF
 --   row-short              a row whose values are below 1,000 has at most 11 bytes, and 4 for each value
 --   square-short           the text of such rows has at most 5 bytes, and these for each row
-use Rattle.std.specs.Prelude.{ℕ, suc, ◌+◌, ◌-◌, ◌*◌, ◌^◌, ◌≤◌, ◌<◌, ◌≡◌, refl, ◌⊎◌, length, replicate}
+use Rattle.std.specs.Prelude.{ℕ, suc, ◌+◌, ◌-◌, ◌*◌, ◌^◌, ◌≤◌, ◌<◌, ◌≡◌, refl, length, replicate}
 use Rattle.std.proofs.Common.{suc-mul, arith, ap, ap₂, sym, ◌∙◌, subst, inl, inr, ⊎_elim, length-append}
 use mathlib.Core.List.{List, [], ◌∷◌, ◌++◌, map, flat_map, flatten}
 use Rattle.std.proofs.Math.Option.{some}

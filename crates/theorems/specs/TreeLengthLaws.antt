@@ -5,7 +5,7 @@
 --   readable-tokens    a tree that was written has no lengths
 --   lengths-absent     and those of its splits are all absent
 use Rattle.std.specs.Prelude.{ℕ, ◌≡◌, true, List, [], ◌∷◌, ◌++◌, map, eqb, length, replicate}
-use Rattle.std.proofs.Common.{arith, ap, ap₂, ◌∙◌}
+use Rattle.std.proofs.Common.{arith, ap, ap₂}
 use Rattle.std.proofs.Math.Path.{refl}
 use Rattle.std.proofs.Math.Option.{Option, none, some}
 use Rattle.std.proofs.lemmas.List.{length-map}

@@ -3,7 +3,7 @@
 --   no_stray            no symbol of a tree is a stray one
 --   symbols-unended     bytes without a stray symbol have no semicolon outside quotes, and end outside quotes
 --   tree-unended        so has a tree's text
-use Rattle.std.specs.Prelude.{ℕ, ◌⊎◌, Bool, ◌&&◌, not, eqb}
+use Rattle.std.specs.Prelude.{ℕ, Bool, ◌&&◌, not, eqb}
 use Rattle.std.proofs.Common.{arith, ap, sym, ◌∙◌, subst, inl, inr, ⊎_elim, true≢false, ne_eqb}
 use Rattle.std.proofs.Math.Path.{◌≡◌, refl}
 use Rattle.std.proofs.Math.Bool.{true, false}

@@ -1,0 +1,12 @@
+-- `fields::copy_from` meets its contract. The loop's invariant: the first i bytes of the run are copied. Assumes nothing.
+use mathlib.Core.Path.{◌≡◌}
+use Prim.Native.Nat.{◌≤◌, ◌-◌}
+use lib.ListN.{length}
+use Rattle.fields.specs.Run.{copied}
+use Rattle.fields.proofs.copy_from.Given as goal
+
+abbrev pub invariant-loop-i : goal.invariant-loop-i
+invariant-loop-i l = (l.i ≤ l.n) × (length l.s ≡ length l.initial.s) × (l.s ≡ copied l.initial.s l.to l.t l.from l.i)
+
+abbrev pub decreases-loop-i : goal.decreases-loop-i
+decreases-loop-i l = l.n - l.i
