@@ -1,0 +1,21 @@
+use Prim.Native.Nat.{◌-◌}
+use mathlib.Core.Path.{refl}
+use lib.ListN.{length}
+use borrow.Author.Rules.{rules}
+use Rattle.lengths.specs.ReadLaws.{Got, got-none, got-more, got-stop, got-all, below-digit, above-digit}
+use Rattle.lengths.proofs.read_digits.Goals as goal
+
+pub loop-i-init : goal.loop-i-init
+loop-i-init c = got-none _ _ _ _ (search rules)
+
+pub returns-then-b-lt48 : goal.returns-then-b-lt48
+returns-then-b-lt48 c = got-stop _ _ _ _ _ _ _ c.loop-i.invariant c.wide-b.ensures.0 (below-digit _ c.if-b-lt48.true)
+
+pub returns-then-b-gt57 : goal.returns-then-b-gt57
+returns-then-b-gt57 c = got-stop _ _ _ _ _ _ _ c.loop-i.invariant c.wide-b.ensures.0 (above-digit _ c.if-b-gt57.true)
+
+pub loop-i-preserved : goal.loop-i-preserved
+loop-i-preserved c = got-more _ _ _ _ _ _ _ c.wide-b.result _ c.loop-i.invariant (search rules) (search rules) c.wide-b.ensures.0 (search rules) (search rules) refl c.with_digit-m.ensures
+
+pub returns : goal.returns
+returns c = got-all _ _ _ _ _ _ c.loop-i.invariant (search rules)
