@@ -1,5 +1,4 @@
 -- `lengths::has_e` meets its contract. Assumes nothing.
-use borrow.Author.Rules.{rules}
 use borrow.Author.Tests.{lt-ltb, le-ltb, eq-eqb, ne_eqb}
 use Rattle.trees.specs.Length.{is_e}
 use Rattle.lengths.specs.Read.{has_e}

@@ -1,6 +1,5 @@
 -- `lengths::length_at` meets its contract. Assumes nothing.
 use mathlib.Core.Path.{◌∙◌}
-use borrow.Author.Rules.{rules}
 use Rattle.lengths.specs.ReadLaws.{length_taken}
 use Rattle.lengths.proofs.length_at.Goals as goal
 

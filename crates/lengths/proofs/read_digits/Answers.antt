@@ -1,8 +1,6 @@
-use Prim.Native.Nat.{◌-◌}
 use mathlib.Core.Path.{refl}
-use lib.ListN.{length}
 use borrow.Author.Rules.{rules}
-use Rattle.lengths.specs.ReadLaws.{Got, got-none, got-more, got-stop, got-all, below-digit, above-digit}
+use Rattle.lengths.specs.ReadLaws.{got-none, got-more, got-stop, got-all, below-digit, above-digit}
 use Rattle.lengths.proofs.read_digits.Goals as goal
 
 pub loop-i-init : goal.loop-i-init

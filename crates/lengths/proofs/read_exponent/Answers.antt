@@ -1,8 +1,6 @@
 -- `lengths::read_exponent` meets its contract. Assumes nothing.
 use native.Mathlib.Omega.{arith}
 use mathlib.Core.Path.{sym, ◌∙◌}
-use borrow.Author.Rules.{rules}
-use borrow.Author.Tests.{not-true, not-false}
 use Rattle.lengths.specs.ReadLaws.{e-there, exponent-none, exponent-some}
 use Rattle.lengths.proofs.read_exponent.Goals as goal
 

@@ -101,7 +101,7 @@ pub returns-in_default : goal.returns-in_default
 unfolding of_bits
 returns-in_default c =
     let k = c.args.k in
-    let r = c.in_default.in_default-own in
+    let r = c.in_default.in_default-own.rest in
     let h : 22 ≤ k = over 21 r.1 (over 20 r.0.1 (over 19 r.0.0.1 (over 18 r.0.0.0.1 (over 17 r.0.0.0.0.1 (over 16 r.0.0.0.0.0.1 (over 15 r.0.0.0.0.0.0.1 (over 14 r.0.0.0.0.0.0.0.1 (over 13 r.0.0.0.0.0.0.0.0.1 (over 12 r.0.0.0.0.0.0.0.0.0.1 (over 11 r.0.0.0.0.0.0.0.0.0.0.1 (over 10 r.0.0.0.0.0.0.0.0.0.0.0.1 (over 9 r.0.0.0.0.0.0.0.0.0.0.0.0.1 (over 8 r.0.0.0.0.0.0.0.0.0.0.0.0.0.1 (over 7 r.0.0.0.0.0.0.0.0.0.0.0.0.0.0.1 (over 6 r.0.0.0.0.0.0.0.0.0.0.0.0.0.0.0.1 (over 5 r.0.0.0.0.0.0.0.0.0.0.0.0.0.0.0.0.1 (over 4 r.0.0.0.0.0.0.0.0.0.0.0.0.0.0.0.0.0.1 (over 3 r.0.0.0.0.0.0.0.0.0.0.0.0.0.0.0.0.0.0.1 (over 2 r.0.0.0.0.0.0.0.0.0.0.0.0.0.0.0.0.0.0.0.1 (over 1 r.0.0.0.0.0.0.0.0.0.0.0.0.0.0.0.0.0.0.0.0.1 (over 0 r.0.0.0.0.0.0.0.0.0.0.0.0.0.0.0.0.0.0.0.0.0.1 (omega arith)))))))))))))))))))))) in
     let e : k ≡ 22 = omega arith in
     rw e (refl, refl)

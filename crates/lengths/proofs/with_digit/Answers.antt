@@ -1,5 +1,4 @@
 -- `lengths::with_digit` meets its contract. Assumes nothing.
-use borrow.Author.Rules.{rules}
 use Rattle.lengths.specs.NearLaws.{near-more, near-full}
 use Rattle.lengths.proofs.with_digit.Goals as goal
 

@@ -1,0 +1,8 @@
+-- `head::places` meets its contract: the number of places, as `numbers_at` reads it. Assumes nothing.
+use Rattle.std.proofs.Common.{rules}
+use Rattle.head.specs.Head.{numbers_at}
+use Rattle.head.proofs.places.Goals as goal
+
+pub returns : goal.returns
+unfolding numbers_at
+returns c = record { value = search rules; upper_bound = search rules }

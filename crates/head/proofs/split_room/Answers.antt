@@ -1,0 +1,8 @@
+-- `head::split_room` meets its contract: the room for splits, as `numbers_at` reads it. Assumes nothing.
+use Rattle.std.proofs.Common.{rules}
+use Rattle.head.specs.Head.{numbers_at}
+use Rattle.head.proofs.split_room.Goals as goal
+
+pub returns : goal.returns
+unfolding numbers_at
+returns c = record { value = search rules; upper_bound = search rules }
