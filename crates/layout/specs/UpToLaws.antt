@@ -50,6 +50,7 @@ module _ {A : Type 0} (l : List A) (x : A) where
 module _ {A : Type 0} (f : ℕ → A) where
   from-mem : (k n : ℕ) (x : A) → Mem x (from_to f k n) → (i : ℕ) × (k ≤ i) × (i < k + n) × (x ≡ f i)
   unfolding from_to
+  from-mem k zero x x3 = elim x3 [ ]
   from-mem k (suc n) x (inl e) = (k, omega arith, omega arith, e)
   from-mem k (suc n) x (inr h) = let r = from-mem (suc k) n x h in (r.0, omega (arith, r.1), omega (arith, r.2), r.3)
 
@@ -91,10 +92,12 @@ module _ (f : ℕ → ℕ) where
   map_at (x ∷ l) (suc j) h = map_at l j (omega arith)
 
   pub map-mem : (l : List ℕ) (y : ℕ) → Mem y (map f l) → (k : ℕ) × Mem k l × (y ≡ f k)
+  map-mem [] y x' = elim x' [ ]
   map-mem (x ∷ l) y (inl e) = (x, inl refl, e)
   map-mem (x ∷ l) y (inr h) = let r = map-mem l y h in (r.0, inr r.1, r.2)
 
   pub mem-map : (l : List ℕ) (k : ℕ) → Mem k l → Mem (f k) (map f l)
+  mem-map [] k x' = elim x' [ ]
   mem-map (x ∷ l) k (inl e) = inl (ap f e)
   mem-map (x ∷ l) k (inr h) = inr (mem-map l k h)
 
