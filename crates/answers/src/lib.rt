@@ -8,23 +8,23 @@ ghost use Rattle.trees.specs.Batch.{verdict_number};
 ghost use Rattle.answers.specs.Answers.{refusal_number, progress_given, Small};
 
 // A taxon's number: its place in the name list, from 0.
-#[derive(Drop)]
+#[derive(Clone, Copy)]
 pub struct Taxon(pub u32);
 
 // The number of a lane, from 0.
-#[derive(Drop)]
+#[derive(Clone, Copy)]
 pub struct Lane(pub usize);
 
 // The number of an accepted tree, from 0, in order of acceptance.
-#[derive(Drop)]
+#[derive(Clone, Copy)]
 pub struct Tree(pub usize);
 
 // The number of a recorded split: its place, from 0, in the list by rising mask.
-#[derive(Drop)]
+#[derive(Clone, Copy)]
 pub struct Split(pub usize);
 
 // Why a call refuses: the table of document 01, in its order, and the refusals of document 02 behind it.
-#[derive(Drop)]
+#[derive(Clone, Copy)]
 pub enum Refusal {
     NotWhole,
     OutOfRange,
@@ -54,14 +54,14 @@ pub enum Refusal {
 }
 
 // The answer of a call that gives nothing but that it was done.
-#[derive(Drop)]
+#[derive(Clone, Copy)]
 pub enum Finish {
     Refused(Refusal),
     Done,
 }
 
 // The answer of a call that gives a number, or how many elements it wrote.
-#[derive(Drop)]
+#[derive(Clone, Copy)]
 pub enum Number {
     Refused(Refusal),
     Gives(usize),
@@ -69,14 +69,14 @@ pub enum Number {
 
 // The answer of a call that gives two numbers: how many elements it wrote into each of two buffers, or how many
 // bytes it wrote and how many lines they are.
-#[derive(Drop)]
+#[derive(Clone, Copy)]
 pub enum Both {
     Refused(Refusal),
     Gives(usize, usize),
 }
 
 // The answer of a call that gives one split: its mask and its count.
-#[derive(Drop)]
+#[derive(Clone, Copy)]
 pub enum Recorded {
     Refused(Refusal),
     Gives(u64, u32),
@@ -84,7 +84,7 @@ pub enum Recorded {
 
 // The answer to a claim that a text is the majority tree: it has the same splits, or the smallest mask that the text's
 // splits or the majority's have alone.
-#[derive(Drop)]
+#[derive(Clone, Copy)]
 pub enum Claim {
     Refused(Refusal),
     Same,
@@ -93,7 +93,7 @@ pub enum Claim {
 }
 
 // The shortest, longest and summed length of a split, over some trees having it.
-#[derive(Drop)]
+#[derive(Clone, Copy)]
 pub struct Lengths {
     pub shortest: f64,
     pub longest: f64,
@@ -101,21 +101,21 @@ pub struct Lengths {
 }
 
 // The answer of a call that gives the lengths of one split.
-#[derive(Drop)]
+#[derive(Clone, Copy)]
 pub enum SplitLengths {
     Refused(Refusal),
     Gives(Lengths),
 }
 
 // The answer of a call that gives a double.
-#[derive(Drop)]
+#[derive(Clone, Copy)]
 pub enum Weight {
     Refused(Refusal),
     Gives(f64),
 }
 
 // What feeding answers besides the bytes taken.
-#[derive(Drop)]
+#[derive(Clone, Copy)]
 pub enum Progress {
     Refused(Refusal),
     MoreWanted,
@@ -123,7 +123,7 @@ pub enum Progress {
 }
 
 // The answer of feeding.
-#[derive(Drop)]
+#[derive(Clone, Copy)]
 pub struct Fed {
     pub taken: usize,
     pub progress: Progress,

@@ -11,7 +11,7 @@ ghost use Rattle.trees.specs.Whole.{good_length};
 ghost use Rattle.doubles.specs.Stored.{branch_given, length_at, good_length_at, put_length};
 
 // A branch has a length or has none.
-#[derive(Drop)]
+#[derive(Clone, Copy)]
 pub enum Length {
     Absent,
     Given(f64),

@@ -18,7 +18,7 @@ ghost use Rattle.head.specs.Index.{keys, key, Indexed, found_of, Below};
 use answers::Taxon;
 
 // The answer of a search for a name.
-#[derive(Drop)]
+#[derive(Clone, Copy)]
 pub enum Found {
     At(Taxon),
     Nothing,

@@ -11,21 +11,21 @@ ghost use Rattle.lengths.specs.Answer.{value_given};
 ghost use Rattle.lengths.specs.Read.{has_e, MinusAt, SignPast, Digits, DecimalPast, ExponentPast, LengthStands, LengthTaken};
 
 // The value of a length, or that it is outside the exact range.
-#[derive(Drop)]
+#[derive(Clone, Copy)]
 pub enum Value {
     Outside,
     Inside(f64),
 }
 
 // A number, or any above 2^60 for a larger one, and the place behind its digits.
-#[derive(Drop)]
+#[derive(Clone, Copy)]
 pub struct Run {
     pub n: u64,
     pub at: usize,
 }
 
 // The digits of a length as a number, how many stand behind the point, and the place behind them.
-#[derive(Drop)]
+#[derive(Clone, Copy)]
 pub struct Decimal {
     pub n: u64,
     pub behind: u64,
@@ -33,7 +33,7 @@ pub struct Decimal {
 }
 
 // An exponent: whether it is negative, its size, and the place behind it.
-#[derive(Drop)]
+#[derive(Clone, Copy)]
 pub struct Exponent {
     pub negative: bool,
     pub size: u64,
@@ -41,7 +41,7 @@ pub struct Exponent {
 }
 
 // A length that was read: its value, and the place behind it.
-#[derive(Drop)]
+#[derive(Clone, Copy)]
 pub struct Taken {
     pub value: Value,
     pub at: usize,

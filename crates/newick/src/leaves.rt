@@ -22,14 +22,14 @@ pub(crate) const MOST_LEAVES: usize = 65;
 pub(crate) const SUMS: usize = 198;
 
 // One more leaf: its fault, or the sums with it.
-#[derive(Drop)]
+#[derive(Clone, Copy)]
 pub enum Leaf {
     Faulty(Refusal),
     New(Sums),
 }
 
 // All leaves: the first fault, or different taxa.
-#[derive(Drop)]
+#[derive(Clone, Copy)]
 pub enum Summed {
     Wrong(Refusal),
     Distinct,

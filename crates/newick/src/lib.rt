@@ -31,14 +31,14 @@ mod shape;
 mod splits;
 
 // The verdict on a text: its refusal, or how many splits it has.
-#[derive(Drop)]
+#[derive(Clone, Copy)]
 pub enum Judged {
     Refused(Refusal),
     Splits(usize),
 }
 
 // What a text is: a fault of its form or of its leaves, or a tree with so many leaves and inner nodes.
-#[derive(Drop)]
+#[derive(Clone, Copy)]
 pub enum Tree {
     Faulty(Refusal),
     Sound(usize, usize),

@@ -16,7 +16,7 @@ pub(crate) const MOST_LENGTHS: usize = 64;
 const NO_LENGTH: u64 = 0xffff_ffff_ffff_ffff;
 
 // A length: outside the exact range, or the place behind it and its word.
-#[derive(Drop)]
+#[derive(Clone, Copy)]
 pub enum Measured {
     Outside,
     Inside(usize, u64),

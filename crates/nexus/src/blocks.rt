@@ -7,7 +7,7 @@ use crate::lines::{Begun, Line};
 use crate::{commands, comments, lines, pairs, tokens};
 
 // What stands behind other blocks: the TREES block, with the place behind its beginning; the last bytes, with their place; or what is wrong.
-#[derive(Drop)]
+#[derive(Clone, Copy)]
 pub(crate) enum Next {
     Trees(usize),
     Last(usize),
@@ -55,7 +55,7 @@ fn past_other(f: &[u8], from: usize) -> usize
 }
 
 // A TRANSLATE list: the command from `from` up to `end` lists so many pairs; `at` is the place behind it, past the file where it is wrong.
-#[derive(Drop)]
+#[derive(Clone, Copy)]
 pub(crate) struct Listing {
     pub from: usize,
     pub end: usize,
@@ -98,7 +98,7 @@ fn read_list(f: &[u8], from: usize, places: &mut [usize]) -> Listing
 }
 
 // The lines of the TREES block: how many trees they give; `at` is the place behind the block, past the file where it is wrong.
-#[derive(Drop)]
+#[derive(Clone, Copy)]
 pub(crate) struct Lines {
     pub trees: usize,
     pub at: usize,
@@ -155,7 +155,7 @@ fn ends_well(f: &[u8], from: usize) -> bool
 
 // A file that was read: its TRANSLATE command stands from `from` up to `end` and lists so many pairs; its first tree's line begins at
 // `lines`, and it gives so many trees.
-#[derive(Drop)]
+#[derive(Clone, Copy)]
 pub(crate) struct Blocks {
     pub good: bool,
     pub from: usize,

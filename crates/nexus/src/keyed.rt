@@ -24,7 +24,7 @@ use newick::{NODES, TOKENS};
 const MOST_KEYED: usize = 64;
 
 // What came of it: the verdict, or nothing, and then nothing is changed.
-#[derive(Drop)]
+#[derive(Clone, Copy)]
 pub(crate) enum Keyed {
     Told(Progress),
     Unsure,

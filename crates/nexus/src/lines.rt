@@ -8,7 +8,7 @@ ghost use Rattle.nexus.specs.Commands.{BegunAs, WordAt, WordEnd, LineAs, LineMov
 use crate::{comments, tokens};
 
 // What a command outside the blocks begins.
-#[derive(Drop)]
+#[derive(Clone, Copy)]
 pub(crate) enum Begun {
     Other,
     Trees,
@@ -104,7 +104,7 @@ fn is_end(c: &[u8]) -> bool
 }
 
 // A command of the TREES block behind its list: its end, a tree with the place of its text, or wrong.
-#[derive(Drop)]
+#[derive(Clone, Copy)]
 pub(crate) enum Line {
     End,
     Text(usize),

@@ -7,7 +7,7 @@ ghost use Rattle.nexus.specs.Places.{part, TokenAt, NameEnd};
 use crate::comments;
 
 // The place of a token or a label: its bytes from `from` up to `end`; none, where they are the same.
-#[derive(Drop)]
+#[derive(Clone, Copy)]
 pub(crate) struct Token {
     pub from: usize,
     pub end: usize,

@@ -8,7 +8,7 @@ ghost use Rattle.phylip.specs.Rows.{is_plain, PlaceAs, RowsAs};
 use crate::values;
 
 // The place behind what stands at another one, if it does.
-#[derive(Drop)]
+#[derive(Clone, Copy)]
 pub(crate) enum Place {
     At(usize),
     Nothing,

@@ -6,7 +6,7 @@ ghost use Rattle.phylip.specs.Walk.{rest, is_byte, capped};
 ghost use Rattle.phylip.specs.Places.{NumberAt, ValueAt};
 
 // A number, and the place behind it.
-#[derive(Drop)]
+#[derive(Clone, Copy)]
 pub(crate) struct Reached {
     pub(crate) value: usize,
     pub(crate) at: usize,

@@ -7,7 +7,7 @@ ghost use Rattle.layout.specs.WholeStore.{whole_at, place_in};
 ghost use Rattle.recording.specs.Recording.{SplitsOf, new_in, FoundAs, RowsOf};
 
 // The answer of a look for a split.
-#[derive(Drop)]
+#[derive(Clone, Copy)]
 pub enum Found {
     Row(usize),
     Nothing,

@@ -18,14 +18,14 @@ use answers::{Number, Refusal, Taxon};
 mod parts;
 
 // The taxon whose stand-ins are asked for.
-#[derive(Drop)]
+#[derive(Clone, Copy)]
 pub enum Apart {
     Nobody,
     Of(Taxon),
 }
 
 // What is asked for: the two trees alone, the recorded splits too, the stand-ins of a taxon too.
-#[derive(Drop)]
+#[derive(Clone, Copy)]
 pub struct Wanted {
     pub newick: bool,
     pub splits: bool,

@@ -10,7 +10,7 @@ ghost use Rattle.sheet.specs.Run.{Run};
 use crate::line;
 
 // How far lines are written: so many bytes, and so many lines.
-#[derive(Drop)]
+#[derive(Clone, Copy)]
 pub struct Reach {
     pub bytes: usize,
     pub lines: usize,

@@ -21,14 +21,14 @@ use answers::{Number, Refusal};
 use writer::Text;
 
 // Which splits are chosen: those of all trees, or those of more than half of them.
-#[derive(Drop)]
+#[derive(Clone, Copy)]
 pub(crate) enum Rule {
     Strict,
     Majority,
 }
 
 // What is found when splits are chosen: so many, or that two of them disagree.
-#[derive(Drop)]
+#[derive(Clone, Copy)]
 pub(crate) enum Chosen {
     Splits(usize),
     Disagreeing,

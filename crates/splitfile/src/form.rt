@@ -12,7 +12,7 @@ use crate::entries::RECORD_BYTES;
 use answers::Taxon;
 
 // What a file is found to be: so many records, or which refusal.
-#[derive(Drop)]
+#[derive(Clone, Copy)]
 pub(crate) enum Form {
     Good(usize),
     BadLength,

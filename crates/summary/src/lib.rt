@@ -18,7 +18,7 @@ mod texts;
 
 // What is kept of a first line that is being taken: how many bytes, how many spaces it has had outside quotes, at most
 // 64, and whether quotes are open behind what was taken of it.
-#[derive(Drop)]
+#[derive(Clone, Copy)]
 pub struct LinePart {
     pub used: usize,
     pub spaces: usize,
@@ -26,7 +26,7 @@ pub struct LinePart {
 }
 
 // The answer of taking a piece of the first line: how many of its bytes, whether the line has ended, and what is kept.
-#[derive(Drop)]
+#[derive(Clone, Copy)]
 pub struct Taken {
     pub taken: usize,
     pub ended: bool,
@@ -35,7 +35,7 @@ pub struct Taken {
 
 // How far an input is taken: in its first line; behind it, with so many refused texts; or behind a refusal, the first
 // line's (2 or 3), or that of a call whose memory is too short (4) or not whole (1).
-#[derive(Drop)]
+#[derive(Clone, Copy)]
 pub enum Summing {
     Line(LinePart),
     Texts(usize),

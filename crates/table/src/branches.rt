@@ -17,7 +17,7 @@ use answers::{Lengths, Refusal, Split, SplitLengths, Tree};
 use doubles::Length;
 
 // A split in a tree: the tree lacks it, or has it with its length.
-#[derive(Drop)]
+#[derive(Clone, Copy)]
 pub enum Branch {
     Lacking,
     Having(Length),

@@ -7,7 +7,7 @@ ghost use Rattle.words.specs.Words.{decimal_of};
 ghost use Rattle.words.specs.Parsed.{number_of};
 
 // A number, or that there is none.
-#[derive(Drop)]
+#[derive(Clone, Copy)]
 pub enum Number {
     Is(u64),
     Nothing,

@@ -24,7 +24,7 @@ mod names;
 pub use names::write_name;
 
 // The answer of a writing: how many bytes were written, or that there is no room.
-#[derive(Drop)]
+#[derive(Clone, Copy)]
 pub enum Text {
     Bytes(usize),
     TooShort,
