@@ -1,12 +1,9 @@
 -- `opening::all_below` meets its contract. The loop's invariant: the numbers from i on decide. Assumes nothing.
 use Prim.Native.Nat.{◌≤◌, ◌-◌}
-use mathlib.Core.Path.{◌≡◌, refl, sym, ◌∙◌}
-use native.Mathlib.Omega.{arith}
+use mathlib.Core.Path.{◌≡◌}
 use lib.Dec.{ltb}
-use lib.ListN.{length, get_or, drop}
-use borrow.Author.Tests.{lt-ltb, le-ltb}
+use lib.ListN.{length, drop}
 use Rattle.trees.specs.Plain.{every}
-use Rattle.opening.specs.GivenLaws.{every-none, every_more, every-not}
 use Rattle.opening.proofs.all_below.Given as goal
 
 abbrev pub invariant-loop-i : goal.invariant-loop-i

@@ -1,7 +1,6 @@
 -- `opening::constants_good` meets its contract: the definition, one list after the other. Assumes nothing.
 use mathlib.Core.Path.{sym, ◌∙◌}
 use native.Mathlib.Omega.{arith}
-use borrow.Author.Rules.{rules}
 use Rattle.opening.specs.GivenLaws.{constants-not-first, constants-not-second, constants-below}
 use Rattle.opening.proofs.constants_good.Goals as goal
 

@@ -1,7 +1,6 @@
 -- `opening::numbers_in_range` meets its contract: the definition, one range after the other. Assumes nothing.
 use mathlib.Core.Path.{sym, ◌∙◌}
 use native.Mathlib.Omega.{arith}
-use borrow.Author.Rules.{rules}
 use Rattle.trees.specs.Opening.{most_room}
 use Rattle.opening.specs.GivenLaws.{failed, passed, between-most, range-not-taxa, range-not-lanes, range-not-trees, range-not-splits, range-places, flag-most}
 use Rattle.opening.proofs.numbers_in_range.Goals as goal
@@ -33,7 +32,7 @@ returns-then-not-is_between-4 c =
 pub overflow_mul-split_room : goal.overflow_mul-split_room
 overflow_mul-split_room c =
     let a = c.args in
-    let m = between-most 1 most_room a.split-room (passed _ _ c.is_between-4.ensures c.if-not-is_between-4.false-raw) in
+    let m = between-most 1 most_room a.split_room (passed _ _ c.is_between-4.ensures c.if-not-is_between-4.false-raw) in
     omega arith
 
 pub returns : goal.returns

@@ -1,5 +1,4 @@
 -- `opening::store_size` meets its contract: the definition, with lengths and without. Assumes nothing.
-use borrow.Author.Rules.{rules}
 use Rattle.opening.specs.GivenLaws.{size-kept, size-not-kept}
 use Rattle.opening.proofs.store_size.Goals as goal
 

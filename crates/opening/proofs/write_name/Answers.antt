@@ -1,7 +1,6 @@
 -- `opening::write_name` meets its contract: the name and the byte before it, copied. Assumes nothing.
 use mathlib.Core.Path.{◌∙◌}
 use native.Mathlib.Omega.{arith}
-use borrow.Author.Rules.{rules}
 use Rattle.opening.specs.WritingLaws.{copied-name}
 use Rattle.opening.proofs.write_name.Goals as goal
 

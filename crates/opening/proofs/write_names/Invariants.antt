@@ -1,14 +1,9 @@
 -- `opening::write_names` meets its contract. The loop's invariant: with the names from i on written behind, all are there. Assumes nothing.
 use Prim.Native.Nat.{◌-◌, ◌≤◌}
-use mathlib.Core.Path.{◌≡◌, refl, sym, ◌∙◌}
-use mathlib.Core.List.{[]}
-use native.Mathlib.Omega.{arith}
+use mathlib.Core.Path.{◌≡◌}
 use lib.ListN.{length, drop}
-use Rattle.head.specs.Head.{name_at}
-use Rattle.head.specs.HeadLaws.{up_to-length, up_to-at}
 use Rattle.opening.specs.Places.{first_names}
 use Rattle.opening.specs.Writing.{with_names}
-use Rattle.opening.specs.WritingLaws.{names_more, names-all}
 use Rattle.opening.proofs.write_names.Given as goal
 
 abbrev pub invariant-loop-i : goal.invariant-loop-i

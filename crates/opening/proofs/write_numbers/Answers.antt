@@ -1,6 +1,5 @@
 -- `opening::write_numbers` meets its contract: six calls, and each number in range fits two bytes. Assumes nothing.
 use mathlib.Core.Path.{ap, ◌∙◌}
-use borrow.Author.Rules.{rules}
 use Rattle.fields.specs.Field.{put}
 use Rattle.opening.specs.WritingLaws.{numbers-put}
 use Rattle.opening.proofs.write_numbers.Goals as goal

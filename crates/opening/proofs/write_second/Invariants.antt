@@ -1,10 +1,8 @@
 -- `opening::write_second` meets its contract. The loop's invariant: with the constants from i on put behind, all are there. Assumes nothing.
 use Prim.Native.Nat.{◌+◌, ◌*◌, ◌-◌, ◌≤◌}
-use mathlib.Core.Path.{◌≡◌, refl, sym, ◌∙◌}
-use native.Mathlib.Omega.{arith}
+use mathlib.Core.Path.{◌≡◌}
 use lib.ListN.{length, drop}
 use Rattle.opening.specs.Writing.{puts}
-use Rattle.opening.specs.WritingLaws.{puts-more, puts-all}
 use Rattle.opening.proofs.write_second.Given as goal
 
 abbrev pub invariant-loop-i : goal.invariant-loop-i

@@ -1,8 +1,7 @@
-use Prim.Native.Nat.{◌≤◌, ◌<◌, ◌-◌}
+use Prim.Native.Nat.{◌<◌}
 use mathlib.Core.Path.{◌≡◌, refl, sym, ◌∙◌}
-use mathlib.Core.List.{◌++◌}
 use native.Mathlib.Omega.{arith}
-use lib.ListN.{length, get_or, take, drop}
+use lib.ListN.{length, get_or}
 use Rattle.layout.specs.Store.{list_at, tree_at}
 use Rattle.layout.specs.StoreLaws.{mask_is, list_length}
 use Rattle.layout.specs.InsideLaws.{splits-few, mask-inside}

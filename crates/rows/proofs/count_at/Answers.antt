@@ -1,7 +1,6 @@
 -- `rows::count_at` meets its contract. Assumes nothing.
 use mathlib.Core.Path.{sym, ◌∙◌}
 use native.Mathlib.Omega.{arith}
-use borrow.Author.Rules.{rules}
 use Rattle.layout.specs.StoreLaws.{count-is}
 use Rattle.layout.specs.InsideLaws.{splits-few, count-inside}
 use Rattle.rows.proofs.count_at.Goals as goal

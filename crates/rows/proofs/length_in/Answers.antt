@@ -1,7 +1,6 @@
 -- `rows::length_in` meets its contract. Assumes nothing.
 use mathlib.Core.Path.{sym, ◌∙◌}
 use native.Mathlib.Omega.{arith}
-use borrow.Author.Rules.{rules}
 use Rattle.layout.specs.StoreLaws.{branch-is}
 use Rattle.layout.specs.InsideLaws.{trees-few, branch-inside}
 use Rattle.rows.specs.ReadLaws.{length-read}

@@ -1,10 +1,9 @@
-use Prim.Native.Nat.{◌+◌, ◌≤◌, ◌-◌}
-use mathlib.Core.Path.{◌≡◌, refl, sym, ap, ◌∙◌}
+use Prim.Native.Nat.{◌+◌}
+use mathlib.Core.Path.{refl, sym, ap, ◌∙◌}
 use mathlib.Core.List.{[]}
 use native.Mathlib.Omega.{arith}
 use lib.ListN.{drop}
 use Rattle.trees.specs.Plain.{in_names}
-use Rattle.trees.specs.Names.{different}
 use Rattle.head.specs.Head.{name_at}
 use Rattle.head.specs.HeadLaws.{up_to-length, up_to-at}
 use Rattle.opening.specs.Places.{first_names}

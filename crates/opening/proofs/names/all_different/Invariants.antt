@@ -1,15 +1,9 @@
 -- `opening::names::all_different` meets its contract. The loop's invariant: the names from i on decide. Assumes nothing.
-use Prim.Native.Nat.{◌+◌, ◌≤◌, ◌-◌}
-use mathlib.Core.Path.{◌≡◌, refl, sym, ap, ◌∙◌}
-use mathlib.Core.List.{[]}
-use native.Mathlib.Omega.{arith}
+use Prim.Native.Nat.{◌≤◌, ◌-◌}
+use mathlib.Core.Path.{◌≡◌}
 use lib.ListN.{drop}
-use Rattle.trees.specs.Plain.{in_names}
 use Rattle.trees.specs.Names.{different}
-use Rattle.head.specs.Head.{name_at}
-use Rattle.head.specs.HeadLaws.{up_to-length, up_to-at}
 use Rattle.opening.specs.Places.{first_names}
-use Rattle.opening.specs.NameTestLaws.{different-more, different-not, different-end}
 use Rattle.opening.proofs.names.all_different.Given as goal
 
 abbrev pub invariant-loop-i : goal.invariant-loop-i

@@ -1,9 +1,6 @@
-use Prim.Native.Nat.{◌≤◌, ◌-◌}
-use mathlib.Core.Path.{◌≡◌, refl, sym, ap, ◌∙◌}
+use mathlib.Core.Path.{refl, sym, ap, ◌∙◌}
 use mathlib.Core.List.{[]}
 use native.Mathlib.Omega.{arith}
-use lib.ListN.{drop}
-use Rattle.trees.specs.Plain.{every}
 use Rattle.trees.specs.Names.{is_name}
 use Rattle.head.specs.Head.{name_at}
 use Rattle.head.specs.HeadLaws.{up_to-length, up_to-at}

@@ -1,10 +1,5 @@
-use Prim.Native.Nat.{◌≤◌, ◌-◌}
-use mathlib.Core.Path.{◌≡◌, refl, sym, ◌∙◌}
+use mathlib.Core.Path.{refl, sym, ◌∙◌}
 use native.Mathlib.Omega.{arith}
-use lib.Seq.{slice}
-use borrow.Author.Rules.{rules}
-use Rattle.trees.specs.Plain.{every}
-use Rattle.trees.specs.Text.{is_quoted_byte}
 use Rattle.opening.specs.GivenLaws.{failed, passed}
 use Rattle.opening.specs.NameTestLaws.{quoted-more, quoted-not, quoted-end}
 use Rattle.opening.proofs.names.all_quoted_bytes.Goals as goal

@@ -1,13 +1,9 @@
 -- `opening::names::all_quoted_bytes` meets its contract. The loop's invariant: the bytes from i on decide. Assumes nothing.
 use Prim.Native.Nat.{◌≤◌, ◌-◌}
-use mathlib.Core.Path.{◌≡◌, refl, sym, ◌∙◌}
-use native.Mathlib.Omega.{arith}
+use mathlib.Core.Path.{◌≡◌}
 use lib.Seq.{slice}
-use borrow.Author.Rules.{rules}
 use Rattle.trees.specs.Plain.{every}
 use Rattle.trees.specs.Text.{is_quoted_byte}
-use Rattle.opening.specs.GivenLaws.{failed, passed}
-use Rattle.opening.specs.NameTestLaws.{quoted-more, quoted-not, quoted-end}
 use Rattle.opening.proofs.names.all_quoted_bytes.Given as goal
 
 abbrev pub invariant-loop-i : goal.invariant-loop-i

@@ -1,14 +1,10 @@
 -- `opening::names::comes_again` meets its contract. The loop's invariant: the names from j on decide. Assumes nothing.
 use Prim.Native.Nat.{◌+◌, ◌≤◌, ◌-◌}
-use mathlib.Core.Path.{◌≡◌, refl, sym, ap, ◌∙◌}
-use mathlib.Core.List.{[]}
-use native.Mathlib.Omega.{arith}
+use mathlib.Core.Path.{◌≡◌}
 use lib.ListN.{drop}
-use Rattle.trees.specs.Plain.{same_bytes, in_names}
+use Rattle.trees.specs.Plain.{in_names}
 use Rattle.head.specs.Head.{name_at}
-use Rattle.head.specs.HeadLaws.{up_to-length, up_to-at}
 use Rattle.opening.specs.Places.{first_names}
-use Rattle.opening.specs.NameTestLaws.{again-here, again-next, again-end}
 use Rattle.opening.proofs.names.comes_again.Given as goal
 
 abbrev pub invariant-loop-j : goal.invariant-loop-j

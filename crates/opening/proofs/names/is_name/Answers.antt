@@ -1,7 +1,6 @@
 -- `opening::names::is_name` meets its contract: the definition, one test after the other. Assumes nothing.
 use mathlib.Core.Path.{sym, ◌∙◌}
 use native.Mathlib.Omega.{arith}
-use borrow.Author.Rules.{rules}
 use Rattle.opening.specs.NameTestLaws.{short-not, long-not, name-bytes}
 use Rattle.opening.proofs.names.is_name.Goals as goal
 

@@ -1,5 +1,4 @@
 -- `opening::names::name_end` meets its contract: behind the label stands a space, or the list ends. Assumes nothing.
-use borrow.Author.Rules.{rules}
 use Rattle.opening.specs.WalkLaws.{end-space, end_none, end-other}
 use Rattle.opening.proofs.names.name_end.Goals as goal
 

@@ -1,6 +1,5 @@
 -- `opening::names::names_good` meets its contract: the definition, in two parts. Assumes nothing.
 use mathlib.Core.Path.{sym, ◌∙◌}
-use borrow.Author.Rules.{rules}
 use Rattle.opening.specs.GivenLaws.{failed, passed}
 use Rattle.opening.specs.NameTestLaws.{good-not, good-names}
 use Rattle.opening.proofs.names.names_good.Goals as goal

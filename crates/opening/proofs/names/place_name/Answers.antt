@@ -1,6 +1,5 @@
 -- `opening::names::place_name` meets its contract: the label is read behind the byte for its length. Assumes nothing.
 use native.Mathlib.Omega.{arith}
-use borrow.Author.Rules.{rules}
 use Rattle.opening.specs.PlacesLaws.{placed-long, placed-short}
 use Rattle.opening.proofs.names.place_name.Goals as goal
 

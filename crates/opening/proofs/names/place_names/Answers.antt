@@ -1,11 +1,9 @@
-use Prim.Native.Nat.{◌+◌, ◌-◌, ◌≤◌}
-use mathlib.Core.Path.{◌≡◌, refl, sym, ap, ◌∙◌}
+use mathlib.Core.Path.{refl, sym, ap, ◌∙◌}
 use mathlib.Core.Bool.{true≢false}
 use native.Mathlib.Omega.{arith}
-use lib.ListN.{length}
-use borrow.Author.Tests.{eqb-true, eqb-false, not-true, not-false}
+use borrow.Author.Tests.{eqb-true, eqb-false}
 use Rattle.trees.specs.Names.{names_in, good_names}
-use Rattle.opening.specs.Places.{first_names, Reached}
+use Rattle.opening.specs.Places.{first_names}
 use Rattle.opening.specs.PlacesLaws.{reached-none, reached-many, reached-bad, reached-long, reached-more, reached-all, reached-fewer}
 use Rattle.opening.proofs.names.place_names.Goals as goal
 

@@ -1,13 +1,8 @@
 -- `opening::names::place_names` meets its contract. The loop's invariant: the names before `at` lie in the first i places. Assumes nothing.
 use Prim.Native.Nat.{◌+◌, ◌-◌, ◌≤◌}
-use mathlib.Core.Path.{◌≡◌, refl, sym, ap, ◌∙◌}
-use mathlib.Core.Bool.{true≢false}
-use native.Mathlib.Omega.{arith}
+use mathlib.Core.Path.{◌≡◌}
 use lib.ListN.{length}
-use borrow.Author.Tests.{eqb-true, eqb-false, not-true, not-false}
-use Rattle.trees.specs.Names.{names_in, good_names}
-use Rattle.opening.specs.Places.{first_names, Reached}
-use Rattle.opening.specs.PlacesLaws.{reached-none, reached-many, reached-bad, reached-long, reached-more, reached-all, reached-fewer}
+use Rattle.opening.specs.Places.{Reached}
 use Rattle.opening.proofs.names.place_names.Given as goal
 
 abbrev pub invariant-loop-at : goal.invariant-loop-at

@@ -1,9 +1,6 @@
 -- `opening::names::read_names` meets its contract: the names are read into their places and tested there. Assumes nothing.
 use mathlib.Core.Path.{sym, ap, ◌∙◌}
 use mathlib.Core.Bool.{true≢false}
-use native.Mathlib.Omega.{arith}
-use borrow.Author.Rules.{rules}
-use borrow.Author.Tests.{not-true, not-false}
 use Rattle.trees.specs.Names.{good_names}
 use Rattle.opening.proofs.names.read_names.Goals as goal
 

@@ -1,8 +1,6 @@
-use Prim.Native.Nat.{◌+◌, ◌≤◌, ◌-◌}
-use mathlib.Core.Path.{◌≡◌, refl, sym, ◌∙◌}
+use mathlib.Core.Path.{refl, sym, ◌∙◌}
 use native.Mathlib.Omega.{arith}
-use lib.Seq.{slice, length-slice}
-use Rattle.trees.specs.Plain.{same_bytes}
+use lib.Seq.{length-slice}
 use Rattle.head.specs.FindLaws.{run_more, run-not, run_end, run-unlike}
 use Rattle.opening.proofs.names.same_bytes.Goals as goal
 

@@ -1,10 +1,8 @@
 -- `opening::names::same_bytes` meets its contract. The loop's invariant: the bytes from i and from j on decide. Assumes nothing.
 use Prim.Native.Nat.{◌+◌, ◌≤◌, ◌-◌}
-use mathlib.Core.Path.{◌≡◌, refl, sym, ◌∙◌}
-use native.Mathlib.Omega.{arith}
-use lib.Seq.{slice, length-slice}
+use mathlib.Core.Path.{◌≡◌}
+use lib.Seq.{slice}
 use Rattle.trees.specs.Plain.{same_bytes}
-use Rattle.head.specs.FindLaws.{run_more, run-not, run_end, run-unlike}
 use Rattle.opening.proofs.names.same_bytes.Given as goal
 
 abbrev pub invariant-loop-i : goal.invariant-loop-i

@@ -1,7 +1,6 @@
 -- `opening::names::same_names` meets its contract: the runs that it compares are the names. Assumes nothing.
 use mathlib.Core.Path.{sym, ap₂, ◌∙◌}
 use native.Mathlib.Omega.{arith}
-use borrow.Author.Rules.{rules}
 use Rattle.trees.specs.Plain.{same_bytes}
 use Rattle.opening.specs.NameTestLaws.{name-run}
 use Rattle.opening.proofs.names.same_names.Goals as goal
