@@ -11,7 +11,7 @@ pub const TOKENS: usize = 130;
 pub const NODES: usize = 128;
 
 // Where a reader stands: in the text, and how many leaves and inner nodes it has passed. A mark past the text is a fault of form.
-#[derive(Drop)]
+#[derive(Clone, Copy)]
 pub struct Mark {
     pub at: usize,
     pub leaves: usize,
