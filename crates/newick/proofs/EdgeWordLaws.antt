@@ -1,5 +1,5 @@
 -- The words of the lengths of a tree's inner nodes, split by split, are those of the splits' lengths.
-use Rattle.std.proofs.Common.{◌≡◌, ℕ, zero, suc, ◌+◌, ◌<◌, ◌≤◌, Bool, true, false, eqb, List, [], ◌∷◌, ◌++◌, map, length, get_or, take, sym, refl, ap, ◌∙◌, subst, ap₂, inl, inr, append-nil, arith, length-append, take-suc, eq-eqb, eqb-true}
+use Rattle.std.proofs.Common.{◌≡◌, ℕ, zero, suc, ◌<◌, ◌≤◌, Bool, true, false, eqb, List, [], ◌∷◌, ◌++◌, map, length, get_or, take, sym, refl, ap, ◌∙◌, subst, ap₂, inl, inr, append-nil, arith, length-append, take-suc, eq-eqb, eqb-true}
 use mathlib.Core.List.{map-append}
 use mathlib.Core.Option.{Option}
 use Rattle.trees.specs.Plain.{if◌then◌else◌}
@@ -126,6 +126,7 @@ lengths_read n m (e ∷ es) = by-test AllRead (eqb (side n e.0) m) (λ _. (value
 
 some-edge : (n m x : ℕ) (es : List Edge) → Mem x (map cluster es) → m ≡ side n x → 0 < length (lengths_at n m es)
 unfolding lengths_at
+some-edge n m x [] k z = elim k [ ]
 some-edge n m x (e ∷ es) (inl q) z = by-test (λ (l : List Length). 0 < length l) (eqb (side n e.0) m) (λ _. omega arith) (λ f. absurd (no f))
   where
     no : eqb (side n e.0) m ≡ false → ⊥

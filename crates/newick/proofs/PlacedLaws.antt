@@ -46,6 +46,7 @@ module _ (l : List ℕ) (r : Rising l) (m p q : ℕ) (e : get_or l p 0 ≡ m) (h
   found-high f = ⊎_elim (λ k. absurd (omega (arith, rising-less l r q p k h))) (λ k. k) (less-or-not q p)
 
 mem-place : (l : List ℕ) (m : ℕ) → Mem m l → (p : ℕ) × (p < length l) × (get_or l p 0 ≡ m)
+mem-place [] m x' = elim x' [ ]
 mem-place (x ∷ l) m (inl e) = (0, omega arith, sym e)
 mem-place (x ∷ l) m (inr k) = let r = mem-place l m k in (suc r.0, omega (arith, r.1), r.2)
 

@@ -141,8 +141,12 @@ set_twice (a ∷ l) (suc n) x y = ap (λ z. a ∷ z) (set_twice l n x y)
 stops-noted : (r : List Symbol) → Stops r → (n : ℕ) (l : List ℕ) → noted true false n l r ≡ noted false false n l r
 unfolding noted
 stops-noted [] h n l = refl
+stops-noted (open_bracket ∷ r) h n l = elim h [ ]
 stops-noted (close_bracket ∷ r) h n l = refl
 stops-noted (comma ∷ r) h n l = refl
+stops-noted (colon ∷ r) h n l = elim h [ ]
+stops-noted (stray ∷ r) h n l = elim h [ ]
+stops-noted (token _ ∷ r) h n l = elim h [ ]
 
 leaf-noted : {e : List Symbol} {x : Option (List ℕ)} → MayHaveLength e x → (r : List Symbol) (n : ℕ) (l : List ℕ) → noted false false n l (e ++ r) ≡ noted false false n l r
 unfolding noted

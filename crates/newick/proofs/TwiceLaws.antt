@@ -99,6 +99,7 @@ module _ (ns : List (List ℕ)) where
 
   -- leaves without a fault name taxa
   named : (seen : ℕ) (ws : List (List ℕ)) → leaf_fault ns seen ws ≡ 0 → (w : List ℕ) → Mem w ws → Some (taxon ns w)
+  named seen [] z w m = elim m [ ]
   named seen (v ∷ ws) z w m =
       let p = leaf-fine ns seen v ws z in
       ⊎_elim (λ e. (p.0, subst (λ (u : List ℕ). On (taxon ns u) p.0) (sym e) (subst (λ (x : ℕ). On x p.0) (sym (taxon-named ns v p.0 p.1)) (self-on p.0))))
@@ -123,6 +124,7 @@ module _ (ns : List (List ℕ)) where
 
   some-cluster : (t : Nodes) → Sturdy t → (x : ℕ) → Mem x (clusters ns t) → Some x
   unfolding clusters
+  some-cluster nil p x m = elim m [ ]
   some-cluster (leaf w e r) p x (inl q) = subst Some (sym q) p.0
   some-cluster (leaf w e r) p x (inr m) = some-cluster r p.2 x m
   some-cluster (inner c e r) p x m = go (mem-cases x (clusters ns c) (taxa ns c ∷ clusters ns r) m) (some-cluster c p.2 x) (some-cluster r p.3 x)

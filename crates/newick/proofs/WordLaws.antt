@@ -7,12 +7,11 @@
 --   with-unset, with_none, with-absent, with-both     one more length, by what stands there
 --   with-one-more     and what stands there then
 --   slot-summed       what the lengths of a split's edges come to
-use Rattle.std.proofs.Common.{◌≡◌, ℕ, ◌+◌, ◌<◌, ◌≤◌, true, false, not, T, eqb, ◌⊎◌, List, [], ◌∷◌, ◌++◌, map, length, sym, refl, ap, ◌∙◌, subst, ap₂, ⊎_elim, arith, length-append, eq-eqb, ne_eqb}
+use Rattle.std.proofs.Common.{◌≡◌, ℕ, ◌<◌, ◌≤◌, false, not, T, eqb, ◌⊎◌, List, [], ◌∷◌, ◌++◌, map, length, sym, refl, ap, ◌∙◌, subst, ap₂, ⊎_elim, arith, length-append, eq-eqb, ne_eqb}
 use mathlib.Core.Bool.{false≢true}
 use mathlib.Core.Option.{Option, none, some}
 use lib.Ieee.{Float, binary64, add, to_bits, of_bits, nan_bits, is_nan}
 use lib.Ieee.Bits.{of_bits-to_bits}
-use Rattle.trees.specs.Plain.{if◌then◌else◌}
 use Rattle.trees.specs.Value.{Length, length_of, proper}
 use Rattle.trees.specs.Lengths.{value_of, together, summed}
 use Rattle.theorems.specs.ListLaws.{if-true, if-false}

@@ -65,7 +65,7 @@ noted i false n l (token w ∷ r) = noted i false n l r
 noted i true n l (token w ∷ r) = noted i false n (if i then slice_set l (n - 1) (word_of (length_of w)) else l) r
 
 unfoldable pub is_stop : ℕ → Bool
-is_stop b = b == (byte ":") || ((b == (byte "))") || (b == (byte ",") || b == apostrophe))
+is_stop b = b == (byte ":") || (b == (byte ")") || (b == (byte ",") || b == apostrophe))
 
 -- brackets that open, blanks, and labels or the rest of one
 pub record Passed (s : List ℕ) (i j : ℕ) : Type 0 where

@@ -9,7 +9,7 @@ use Rattle.std.proofs.Common.{arith, ap, ◌∙◌}
 use Rattle.std.proofs.lemmas.List.{length-replicate}
 use Rattle.std.proofs.lemmas.List.Edits.{sets}
 use Rattle.std.proofs.Math.Seq.{length-sets}
-use Rattle.trees.specs.Tree.{Nodes, leaves}
+use Rattle.trees.specs.Tree.{Nodes}
 use Rattle.trees.specs.Opening.{Opening}
 use Rattle.newick.specs.Shape.{spans, Shaped, ShapeRead}
 use Rattle.newick.specs.Leaves.{most_leaves, Tokens}

@@ -1,0 +1,20 @@
+-- `newick::judge_shape` meets its contract. Assumes nothing.
+use Rattle.newick.proofs.TaxonLaws.{prepared-opening}
+use Rattle.newick.specs.ShapingLaws.{shaping-room}
+use Rattle.newick.proofs.JudgeLaws.{judged-faulty, sound-read, judged-splits}
+use Rattle.newick.proofs.judge_shape.Goals as goal
+
+pub gather_splits-requires : goal.gather_splits-requires
+gather_splits-requires c =
+    let x = c.requires.by_index.1 in
+    let w = sound-read _ _ _ _ _ _ (c.read_leaves-t.ensures _ _ x) _ _ c.in-Sound.is (shaping-room _ _ _ _ _ _ x) in record { head_bytes_in_bounds = (c.requires.prepared.reach, c.requires.prepared.good); k_bound = w.sums; n_bound = w.spans; most_words_in_bounds = c.requires.most_words_in_bounds }
+
+pub returns-in-Faulty : goal.returns-in-Faulty
+returns-in-Faulty c = λ s x. judged-faulty _ _ _ _ _ _ (c.read_leaves-t.ensures _ _ x) _ c.in-Faulty.is _
+
+pub returns-in-Sound : goal.returns-in-Sound
+returns-in-Sound c =
+    let g = prepared-opening _ _ _ c.requires.prepared in
+    λ s x.
+    let w = sound-read _ _ _ _ _ _ (c.read_leaves-t.ensures _ _ x) _ _ c.in-Sound.is (shaping-room _ _ _ _ _ _ x) in
+    judged-splits _ _ _ _ g _ _ w _ _ _ (c.gather_splits.ensures.value, c.gather_splits.ensures.out_after)
