@@ -90,7 +90,7 @@ fn add_leaf(
     let Found::At(t) = f else {
         return Leaf::Faulty(Refusal::UnknownLeaf);
     };
-    if masks::has_taxon(x.mask, Taxon(t.0)) {
+    if masks::has_taxon(x.mask, t) {
         return Leaf::Faulty(Refusal::RepeatedLeaf);
     }
     Leaf::New(add_taxon(head, x, t))
@@ -105,11 +105,8 @@ fn add_taxon(head: &[u8], x: Sums, t: Taxon) -> Sums
     ensures mask_value { result.mask ≡ x.mask + 2 ^ t.0 }
     ensures hashed_2 { Hashed (opening_at head.now) result.mask result.place result.identifier }
 {
-    let mask = masks::union_of(x.mask, masks::only_taxon(Taxon(t.0)));
-    let identifier = std::num::wrapping_add_u64(
-        x.identifier,
-        head::second_constant(head, Taxon(t.0)),
-    );
+    let mask = masks::union_of(x.mask, masks::only_taxon(t));
+    let identifier = std::num::wrapping_add_u64(x.identifier, head::second_constant(head, t));
     let place = x.place + head::first_constant(head, t);
     let m = head::places(head) as u64;
     if place < m {
