@@ -1,6 +1,5 @@
 -- `writer::child_mask` meets its contract: a leaf's taxon, or the node's mask. Assumes nothing.
 use mathlib.Core.Path.{sym, ◌∙◌}
-use borrow.Author.Rules.{rules}
 use borrow.Author.Tests.{eqb-true, eqb-false}
 use Rattle.writer.specs.BranchLaws.{mask-leaf, mask-inner}
 use Rattle.writer.proofs.child_mask.Goals as goal

@@ -1,7 +1,6 @@
 -- `writer::wider_of` meets its contract: its three tests are those of `wider`. Assumes nothing.
 use mathlib.Core.Path.{sym, ◌∙◌}
 use mathlib.Core.Bool.{and-false}
-use borrow.Author.Rules.{rules}
 use Rattle.trees.specs.Written.{wider}
 use Rattle.writer.proofs.wider_of.Goals as goal
 

@@ -1,9 +1,5 @@
-use Prim.Native.Nat.{◌≤◌, ◌-◌}
-use mathlib.Core.Path.{◌≡◌, sym, ◌∙◌}
+use mathlib.Core.Path.{sym, ◌∙◌}
 use native.Mathlib.Omega.{arith}
-use lib.ListN.{take}
-use lib.Seq.{slice}
-use Rattle.trees.specs.Written.{widest_or, widest}
 use Rattle.writer.specs.SearchLaws.{search-start, search-more, search-end}
 use Rattle.writer.proofs.widest_in.Goals as goal
 

@@ -1,11 +1,9 @@
 -- `writer::widest_in` meets its contract. The loop's invariant: the masks from j on, sought behind best, give the widest. Assumes nothing.
 use Prim.Native.Nat.{◌≤◌, ◌-◌}
-use mathlib.Core.Path.{◌≡◌, sym, ◌∙◌}
-use native.Mathlib.Omega.{arith}
+use mathlib.Core.Path.{◌≡◌}
 use lib.ListN.{take}
 use lib.Seq.{slice}
 use Rattle.trees.specs.Written.{widest_or, widest}
-use Rattle.writer.specs.SearchLaws.{search-start, search-more, search-end}
 use Rattle.writer.proofs.widest_in.Given as goal
 
 abbrev pub invariant-loop-j : goal.invariant-loop-j

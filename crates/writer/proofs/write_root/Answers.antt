@@ -1,7 +1,6 @@
 -- `writer::write_root` meets its contract: brackets around the branches of all taxa, and a semicolon. Assumes nothing.
 use mathlib.Core.Path.{ap, ◌∙◌}
 use native.Mathlib.Omega.{arith}
-use borrow.Author.Rules.{rules}
 use Rattle.trees.specs.Mask.{every_taxon}
 use Rattle.writer.specs.RootLaws.{taxa-most, root-ready, root-room, root-put}
 use Rattle.writer.proofs.write_root.Goals as goal

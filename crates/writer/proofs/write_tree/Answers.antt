@@ -1,7 +1,6 @@
 -- `writer::write_tree` meets its contract: the text, made in an array of 4,352 bytes, is copied where there is room. Assumes nothing.
 use mathlib.Core.Path.{refl}
 use native.Mathlib.Omega.{arith}
-use borrow.Author.Rules.{rules}
 use Rattle.writer.specs.TextLaws.{wrote_nothing, wrote-all}
 use Rattle.writer.proofs.write_tree.Goals as goal
 

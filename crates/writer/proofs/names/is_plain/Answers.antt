@@ -1,8 +1,5 @@
-use Prim.Native.Nat.{◌≤◌, ◌-◌}
 use native.Mathlib.Omega.{arith}
-use mathlib.Core.Path.{◌≡◌, refl, sym, ◌∙◌}
-use lib.Seq.{slice}
-use Rattle.writer.specs.Name.{is_plain}
+use mathlib.Core.Path.{refl, sym, ◌∙◌}
 use Rattle.writer.specs.NameLaws.{plain_more, plain-not, plain_end}
 use Rattle.writer.proofs.names.is_plain.Goals as goal
 

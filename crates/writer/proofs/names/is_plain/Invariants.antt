@@ -1,10 +1,8 @@
 -- `writer::names::is_plain` meets its contract. The loop's invariant: the bytes from i on decide. Assumes nothing.
 use Prim.Native.Nat.{◌≤◌, ◌-◌}
-use native.Mathlib.Omega.{arith}
-use mathlib.Core.Path.{◌≡◌, refl, sym, ◌∙◌}
+use mathlib.Core.Path.{◌≡◌}
 use lib.Seq.{slice}
 use Rattle.writer.specs.Name.{is_plain}
-use Rattle.writer.specs.NameLaws.{plain_more, plain-not, plain_end}
 use Rattle.writer.proofs.names.is_plain.Given as goal
 
 abbrev pub invariant-loop-i : goal.invariant-loop-i

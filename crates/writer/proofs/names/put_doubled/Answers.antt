@@ -1,8 +1,4 @@
-use Prim.Native.Nat.{◌+◌, ◌*◌, ◌≤◌, ◌-◌}
 use native.Mathlib.Omega.{arith}
-use lib.Seq.{slice}
-use Rattle.trees.specs.Written.{doubled}
-use Rattle.putting.specs.Put.{Putting}
 use Rattle.putting.specs.PutLaws.{putting-start, putting-more, putting-end}
 use Rattle.writer.specs.NameLaws.{doubled-more, doubled-end}
 use Rattle.writer.proofs.names.put_doubled.Goals as goal

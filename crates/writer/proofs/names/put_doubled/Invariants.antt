@@ -1,11 +1,8 @@
 -- `writer::names::put_doubled` meets its contract. The loop's invariant: the bytes from i on are left. Assumes nothing.
 use Prim.Native.Nat.{◌+◌, ◌*◌, ◌≤◌, ◌-◌}
-use native.Mathlib.Omega.{arith}
 use lib.Seq.{slice}
 use Rattle.trees.specs.Written.{doubled}
 use Rattle.putting.specs.Put.{Putting}
-use Rattle.putting.specs.PutLaws.{putting-start, putting-more, putting-end}
-use Rattle.writer.specs.NameLaws.{doubled-more, doubled-end}
 use Rattle.writer.proofs.names.put_doubled.Given as goal
 
 abbrev pub invariant-loop-i : goal.invariant-loop-i

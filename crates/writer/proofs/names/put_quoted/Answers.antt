@@ -2,7 +2,6 @@
 use Prim.Native.Nat.{◌+◌}
 use native.Mathlib.Omega.{arith}
 use mathlib.Core.Path.{◌≡◌}
-use borrow.Author.Rules.{rules}
 use Rattle.putting.specs.PutLaws.{put_one, put_then}
 use Rattle.writer.specs.NameLaws.{doubled-other, doubled-quote}
 use Rattle.writer.proofs.names.put_quoted.Goals as goal

@@ -1,10 +1,4 @@
-use Prim.Native.Nat.{◌+◌, ◌≤◌, ◌-◌}
 use native.Mathlib.Omega.{arith}
-use mathlib.Core.Path.{◌≡◌}
-use mathlib.Core.List.{map}
-use lib.Seq.{slice}
-use Rattle.trees.specs.Written.{underscored}
-use Rattle.putting.specs.Put.{Putting}
 use Rattle.putting.specs.PutLaws.{put_one, putting-start, putting-more, putting-end}
 use Rattle.writer.specs.NameLaws.{underscored-more, underscored-end}
 use Rattle.writer.proofs.names.put_underscored.Goals as goal

@@ -2,7 +2,6 @@
 use Prim.Native.Nat.{◌+◌, ◌*◌}
 use mathlib.Core.Path.{sym, ◌∙◌}
 use lib.Seq.{slice}
-use borrow.Author.Rules.{rules}
 use Rattle.writer.specs.NameLaws.{name-from, put-plain, put-in-quotes}
 use Rattle.writer.proofs.names.write_name.Goals as goal
 
