@@ -3,12 +3,13 @@ ghost use Rattle.std.specs.Prelude.{◌≤◌, length};
 
 use crate::parts::{NO_PART, Part};
 use crate::{State, output, parts};
+use std::io::{Read, Stdin};
 
 // The most bytes that are read at once.
 const CHUNK: usize = 65536;
 
 // The state at the next line, which is whole, unless the input has ended without one. The turns are so many that no run uses them up.
-pub(crate) fn next_line(input: &mut [u8], out: &[u8], before: State) -> State {
+pub(crate) fn next_line(stdin: Stdin, input: &mut [u8], out: &[u8], before: State) -> State {
     let mut state = passed(before);
     let mut turns = u64::MAX;
     while turns > 0 {
@@ -16,7 +17,7 @@ pub(crate) fn next_line(input: &mut [u8], out: &[u8], before: State) -> State {
         if state.is_line {
             return state;
         }
-        state = more(input, out, state);
+        state = more(stdin, input, out, state);
         if state.has_ended {
             return state;
         }
@@ -53,7 +54,7 @@ fn look(input: &[u8], state: State) -> State {
 }
 
 // Writes the answers that wait, and reads once.
-fn more(input: &mut [u8], out: &[u8], before: State) -> State {
+fn more(stdin: Stdin, input: &mut [u8], out: &[u8], before: State) -> State {
     let mut state = output::flush(out, before);
     if !state.is_good {
         state.has_ended = true;
@@ -62,7 +63,7 @@ fn more(input: &mut [u8], out: &[u8], before: State) -> State {
     state = with_place(input, state);
     let at = parts::least(state.to, input.len());
     let to = at + parts::least(CHUNK, input.len() - at);
-    read(&mut input[at..to], state)
+    read(stdin, &mut input[at..to], state)
 }
 
 // Moves what is there of the line to the front, if that is nothing or fills the buffer up to its end. A line that fills all of the buffer
@@ -95,20 +96,19 @@ fn at_front(state: State, n: usize) -> State {
 }
 
 // Reads once. At the end of the input, what stands behind the last line's end is a line too.
-fn read(buf: &mut [u8], state: State) -> State {
-    let got = libc::read(libc::STDIN_FILENO, buf);
-    let n = io::count(got, buf);
+fn read(mut stdin: Stdin, buf: &mut [u8], state: State) -> State {
     let mut next = state;
+    let Ok(n) = stdin.read(buf) else {
+        io::write_all(output::STDERR, b"treecalls: reading failed\n");
+        next.has_ended = true;
+        next.is_good = false;
+        return next;
+    };
     if n > 0 {
         next.to = std::num::wrapping_add_usize(state.to, n);
         return next;
     }
     next.has_ended = true;
-    if got < 0 {
-        io::write_all(libc::STDERR_FILENO, b"treecalls: reading failed\n");
-        next.is_good = false;
-        return next;
-    }
     next.is_line = state.is_long || state.from < state.to;
     next
 }

@@ -17,8 +17,10 @@ mod texts;
 
 ghost use Rattle.std.specs.Prelude.{◌<◌, ◌≤◌};
 
+use std::io::Stdin;
+
 // What is kept from line to line.
-#[derive(Drop)]
+#[derive(Clone, Copy)]
 pub(crate) struct State {
     // The bytes of the input that are read and not answered, and how far they were looked through for the end of their first line.
     pub from: usize,
@@ -53,6 +55,7 @@ const START: State = State {
 // Answers standard input up to its end, or until a read or a write fails: then the exit status is 1, else 0. The turns are so many that
 // no run uses them up.
 pub fn answer_all(
+    stdin: Stdin,
     input: &mut [u8],
     memory: &mut [u8],
     out: &mut [u8],
@@ -66,7 +69,9 @@ pub fn answer_all(
     let mut state = START;
     let mut turns = u64::MAX;
     while turns > 0 {
-        state = turn(input, memory, out, masks, counts, distances, file, state);
+        state = turn(
+            stdin, input, memory, out, masks, counts, distances, file, state,
+        );
         turns = left(turns, state);
     }
     output::status(out, state)
@@ -82,6 +87,7 @@ fn left(turns: u64, state: State) -> u64
 
 // Waits for the next line and answers it.
 fn turn(
+    stdin: Stdin,
     input: &mut [u8],
     memory: &mut [u8],
     out: &mut [u8],
@@ -91,7 +97,7 @@ fn turn(
     file: &mut [u8],
     before: State,
 ) -> State {
-    let state = input::next_line(input, out, before);
+    let state = input::next_line(stdin, input, out, before);
     if !state.is_line {
         return state;
     }

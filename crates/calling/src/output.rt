@@ -3,6 +3,11 @@ ghost use Rattle.std.specs.Prelude.{◌+◌, ◌<◌, ◌≤◌, length};
 
 use crate::{State, parts};
 
+// The numbers that the system gives standard output and standard error.
+const STDOUT: i32 = 1;
+
+pub(crate) const STDERR: i32 = 2;
+
 // The exit status, after the last answers are written.
 pub(crate) fn status(out: &[u8], state: State) -> u32
     ensures { result ≤ 1 }
@@ -26,10 +31,10 @@ fn write(s: &[u8], is_good: bool) -> bool {
     if !is_good {
         return false;
     }
-    if io::write_all(libc::STDOUT_FILENO, s) {
+    if io::write_all(STDOUT, s) {
         return true;
     }
-    io::write_all(libc::STDERR_FILENO, b"treecalls: writing failed\n");
+    io::write_all(STDERR, b"treecalls: writing failed\n");
     false
 }
 

@@ -7,7 +7,7 @@ use words::Number;
 
 // A line: its call, the numbers that follow, where the bytes stand that do, where their word ended, where the second bytes stand, and
 // whether lengths are to be kept.
-#[derive(Drop)]
+#[derive(Clone, Copy)]
 pub(crate) struct Call {
     pub kind: usize,
     pub a: usize,

@@ -3,7 +3,7 @@ use crate::{State, output, parts};
 use answers::{Finish, Number, Refusal};
 
 // The form of an answer line, and its numbers.
-#[derive(Drop)]
+#[derive(Clone, Copy)]
 pub(crate) struct Reply {
     pub form: usize,
     pub a: u64,

@@ -35,6 +35,7 @@ module _ (s : List ℕ) (p : ℕ) where
 module _ (s : List ℕ) (p : ℕ) where
   of_place-mem : (n k : ℕ) → Mem k (of_place s p n) → (k < n) × (place_in s (mask_at s k) ≡ p)
   unfolding of_place
+  of_place-mem zero k h = elim h [ ]
   of_place-mem (suc n) k h = go (place_in s (mask_at s n) == p) refl h (of_place-mem n k)
     where
       go : (b : Bool) → (place_in s (mask_at s n) == p) ≡ b → Mem k (if b then n ∷ of_place s p n else of_place s p n)

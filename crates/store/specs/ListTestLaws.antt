@@ -132,6 +132,7 @@ module _ (s : List ℕ) (i : ℕ) where
             more-below d l (inr q) = let e : d ≡ j = omega arith in rw (e, ← r) b
 
             more-most : (y : ℕ) → Mem y (take j (tree_at s i)) ⊎ Mem y (x ∷ []) → y ≤ x
+            more-most y (inr (inr x3)) = elim x3 [ ]
             more-most y (inl n) = omega (arith, above y n)
             more-most y (inr (inl e)) = omega arith
 

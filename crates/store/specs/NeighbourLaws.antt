@@ -25,10 +25,12 @@ rising-more [] x r f = ((λ y h. absurd h), tt)
 rising-more (z ∷ l) x r f = ((λ y h. go y (mem-cases y l (x ∷ []) h)), rising-more l x r.1 (λ y h. f y (inr h)))
   where
     go : (y : ℕ) → Mem y l ⊎ Mem y (x ∷ []) → z < y
+    go y (inr (inr x6)) = elim x6 [ ]
     go y (inl h) = r.0 y h
     go y (inr (inl e)) = rw e (f z (inl refl))
 
 below_next : (l r : List ℕ) (x y : ℕ) → Rising (l ++ x ∷ r) → Mem y l → y < x
+below_next [] r x y h x4 = elim x4 [ ]
 below_next (z ∷ l) r x y h (inl e) = rw e (h.0 x (mem-right x l (x ∷ r) (inl refl)))
 below_next (z ∷ l) r x y h (inr m) = below_next l r x y h.1 m
 

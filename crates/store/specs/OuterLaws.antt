@@ -129,6 +129,7 @@ module _ (l ms : List ℕ) (heads covered x inner : ℕ) (o : Outer l ms heads c
       more-inside y m = go (mem-cases y l (x ∷ []) m)
         where
           go : Mem y l ⊎ Mem y (x ∷ []) → (t : ℕ) × On heads' t × Sub y (slice_index ms' t)
+          go (inr (inr x3)) = elim x3 [ ]
           go (inl k) = let w = o.inside y k in inside-cases y w (on? x w.0)
           go (inr (inl q)) = (at, head-new, rw (placed, q) (λ i h. h))
 
@@ -136,6 +137,9 @@ module _ (l ms : List ℕ) (heads covered x inner : ℕ) (o : Outer l ms heads c
       more-agreed y z m k = go (mem-cases y l (x ∷ []) m) (mem-cases z l (x ∷ []) k)
         where
           go : Mem y l ⊎ Mem y (x ∷ []) → Mem z l ⊎ Mem z (x ∷ []) → Ag y z
+          go (inr (inr x7)) _ = elim x7 [ ]
+          go (inr (inl p)) (inr (inr x8)) = elim x8 [ ]
+          go (inl p) (inr (inr x5)) = elim x5 [ ]
           go (inl p) (inl q) = o.agreed y z p q
           go (inl p) (inr (inl q)) = rw q (agrees-new y p)
           go (inr (inl p)) (inl q) = rw p (ag-sym z x (agrees-new z q))

@@ -1,10 +1,14 @@
 // What the calls answer, in a few numbers and the two consensus trees.
 use crate::{files, measured, opened};
 use answers::{Both, Number};
-use libc::STDOUT_FILENO;
+use std::time::CpuClock;
+
+// The number that the system gives standard output.
+pub(crate) const STDOUT: i32 = 1;
 
 // Opens the collection, makes each call once and writes what it answered.
 pub(crate) fn write_answers(
+    rt: &impl CpuClock,
     kept: bool,
     names: &[u8],
     texts: &[u8],
@@ -18,15 +22,15 @@ pub(crate) fn write_answers(
     if kept {
         write_lengths(s);
     }
-    write_files(kept, names, texts, s);
+    write_files(rt, kept, names, texts, s);
 }
 
 // The collection's split file, what it reads as, and two files of its records merged.
-fn write_files(kept: bool, names: &[u8], texts: &[u8], s: &mut [u8; 778760]) {
-    write_number(b"file ", files::make_files(b'e', 1, names, s).sum);
-    write_number(b"read ", files::make_files(b'r', 1, names, s).sum);
+fn write_files(rt: &impl CpuClock, kept: bool, names: &[u8], texts: &[u8], s: &mut [u8; 778760]) {
+    write_number(b"file ", files::make_files(rt, b'e', 1, names, s).sum);
+    write_number(b"read ", files::make_files(rt, b'r', 1, names, s).sum);
     opened::fill(s, kept, names, texts);
-    write_number(b"merged ", files::make_files(b'u', 1, names, s).sum);
+    write_number(b"merged ", files::make_files(rt, b'u', 1, names, s).sum);
 }
 
 // How many texts, trees and splits there are, and the verdicts.
@@ -80,18 +84,18 @@ pub(crate) fn given(x: Number) -> usize {
 
 // Writes a number behind its name.
 pub(crate) fn write_number(name: &[u8], x: u64) {
-    io::write_all(STDOUT_FILENO, name);
-    io::print_decimal(STDOUT_FILENO, x);
-    io::write_all(STDOUT_FILENO, b"\n");
+    io::write_all(STDOUT, name);
+    io::print_decimal(STDOUT, x);
+    io::write_all(STDOUT, b"\n");
 }
 
 // Writes the first n bytes of a text behind its name.
 fn write_text(name: &[u8], text: &[u8], n: usize) {
-    io::write_all(STDOUT_FILENO, name);
+    io::write_all(STDOUT, name);
     if n <= text.len() {
-        io::write_all(STDOUT_FILENO, &text[..n]);
+        io::write_all(STDOUT, &text[..n]);
     }
-    io::write_all(STDOUT_FILENO, b"\n");
+    io::write_all(STDOUT, b"\n");
 }
 
 // The sum of the sums of the first 1, 2, .. n verdicts, which tells their order too.

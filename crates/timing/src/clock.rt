@@ -1,19 +1,23 @@
 // Processor time.
-use libc::STDOUT_FILENO;
+use crate::answered::STDOUT;
+use std::time::{CpuClock, Duration};
 
-// The processor time that the program has used, in microseconds.
-pub(crate) fn now() -> u64 {
-    unsigned(libc::clock())
+// The processor time that the program has used, in microseconds; 0 where the system does not tell it.
+pub(crate) fn now(rt: &impl CpuClock) -> u64 {
+    match rt.process_cpu_time() {
+        Ok(t) => unsigned(t),
+        Err(_) => 0,
+    }
 }
 
-// t, or 0 where it is below 0.
-fn unsigned(t: i64) -> u64 {
-    if t > 0 { t as u64 } else { 0 }
+// t in microseconds, or 0 where they do not fit.
+fn unsigned(t: Duration) -> u64 {
+    u64::try_from(t.as_micros()).unwrap_or(0)
 }
 
 // The nanoseconds of one of so many times, since the time `from`.
-pub(crate) fn nanoseconds(from: u64, times: u64) -> u64 {
-    let to = now();
+pub(crate) fn nanoseconds(rt: &impl CpuClock, from: u64, times: u64) -> u64 {
+    let to = now(rt);
     if to < from {
         return 0;
     }
@@ -29,6 +33,6 @@ pub(crate) fn nanoseconds(from: u64, times: u64) -> u64 {
 
 // Writes a time.
 pub(crate) fn write_time(t: u64) {
-    io::print_decimal(STDOUT_FILENO, t);
-    io::write_all(STDOUT_FILENO, b"\n");
+    io::print_decimal(STDOUT, t);
+    io::write_all(STDOUT, b"\n");
 }

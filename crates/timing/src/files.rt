@@ -3,6 +3,7 @@
 ghost use Rattle.std.specs.Prelude.{◌+◌, ◌≤◌, length};
 
 use crate::{answered, clock, opened};
+use std::time::CpuClock;
 
 // What is made: the nanoseconds of one time, and a sum over what was left, so that the compiler cannot leave it out.
 #[derive(Drop)]
@@ -12,11 +13,17 @@ pub(crate) struct Made {
 }
 
 // Of a full collection, writes its file (`export`), reads it (`read`) or merges two files of its records (`unite`) n times.
-pub(crate) fn make_files(part: u8, n: u64, names: &[u8], s: &mut [u8; 778760]) -> Made {
+pub(crate) fn make_files(
+    rt: &impl CpuClock,
+    part: u8,
+    n: u64,
+    names: &[u8],
+    s: &mut [u8; 778760],
+) -> Made {
     let mut file = [0u8; 65536];
-    let from = clock::now();
+    let from = clock::now(rt);
     let k = write_often(times_written(part, n), s, &mut file);
-    let time = clock::nanoseconds(from, n);
+    let time = clock::nanoseconds(rt, from, n);
     if part == b'e' {
         return Made {
             time: time,
@@ -25,9 +32,9 @@ pub(crate) fn make_files(part: u8, n: u64, names: &[u8], s: &mut [u8; 778760]) -
     }
     opened::open_empty(s, names);
     if part == b'r' {
-        return read_file(n, s, front(&file, k));
+        return read_file(rt, n, s, front(&file, k));
     }
-    merge_parts(n, s, front(&file, k))
+    merge_parts(rt, n, s, front(&file, k))
 }
 
 // How often the file is written: once, where that is not what is timed.
@@ -55,12 +62,12 @@ fn write_often(n: u64, s: &[u8], file: &mut [u8]) -> usize {
 }
 
 // Reads a file n times.
-fn read_file(n: u64, s: &[u8], file: &[u8]) -> Made {
+fn read_file(rt: &impl CpuClock, n: u64, s: &[u8], file: &[u8]) -> Made {
     let mut masks = [0u64; 4096];
     let mut counts = [0u32; 4096];
-    let from = clock::now();
+    let from = clock::now(rt);
     read_often(n, s, file, &mut masks, &mut counts);
-    let time = clock::nanoseconds(from, n);
+    let time = clock::nanoseconds(rt, from, n);
     let sum = std::num::wrapping_add_u64(mask_sum(&masks), answered::verdict_sum(&counts, 4096));
     Made {
         time: time,
@@ -78,25 +85,25 @@ fn read_often(n: u64, s: &[u8], file: &[u8], masks: &mut [u64], counts: &mut [u3
 }
 
 // Merges two files n times: the first has the records of a file without some of them, the second without some others.
-fn merge_parts(n: u64, s: &[u8], file: &[u8]) -> Made {
+fn merge_parts(rt: &impl CpuClock, n: u64, s: &[u8], file: &[u8]) -> Made {
     let mut first = [0u8; 65536];
     let k = some_records(file, 1, &mut first);
-    merge_with(n, s, file, front(&first, k))
+    merge_with(rt, n, s, file, front(&first, k))
 }
 
 // Makes the second file, and merges the first with it n times.
-fn merge_with(n: u64, s: &[u8], file: &[u8], first: &[u8]) -> Made {
+fn merge_with(rt: &impl CpuClock, n: u64, s: &[u8], file: &[u8], first: &[u8]) -> Made {
     let mut second = [0u8; 65536];
     let k = some_records(file, 2, &mut second);
-    merge_both(n, s, first, front(&second, k))
+    merge_both(rt, n, s, first, front(&second, k))
 }
 
 // Merges two files n times.
-fn merge_both(n: u64, s: &[u8], first: &[u8], second: &[u8]) -> Made {
+fn merge_both(rt: &impl CpuClock, n: u64, s: &[u8], first: &[u8], second: &[u8]) -> Made {
     let mut out = [0u8; 131072];
-    let from = clock::now();
+    let from = clock::now(rt);
     merge_often(n, s, first, second, &mut out);
-    let time = clock::nanoseconds(from, n);
+    let time = clock::nanoseconds(rt, from, n);
     Made {
         time: time,
         sum: byte_sum(&out),

@@ -5,6 +5,7 @@
 #![tactic(auto)]
 
 use lines::Wanted;
+use std::time::CpuClock;
 
 mod answered;
 mod clock;
@@ -15,57 +16,67 @@ mod measured;
 mod opened;
 mod parts;
 
-fn main() {
+// The number that the system gives standard input.
+const STDIN: i32 = 0;
+
+fn main(rt: HostRuntime) {
     let mut input = [0u8; 4206592];
     let mut store = [0u8; 778760];
-    take_input(&mut input, &mut store);
+    take_input(&rt, &mut input, &mut store);
 }
 
 // Takes standard input, as much as the buffer holds. A matrix as text has no room beside the input: it is written over it, when the
 // collection has been filled.
-fn take_input(input: &mut [u8; 4206592], store: &mut [u8; 778760]) {
-    let n = io::read_full(libc::STDIN_FILENO, input);
-    let wanted = take_bytes(input, n, store);
-    matrices::write_over(wanted, store, input);
+fn take_input(rt: &impl CpuClock, input: &mut [u8; 4206592], store: &mut [u8; 778760]) {
+    let n = io::read_full(STDIN, input);
+    let wanted = take_bytes(rt, input, n, store);
+    matrices::write_over(rt, wanted, store, input);
 }
 
 // Takes the first n bytes.
-fn take_bytes(input: &[u8], n: usize, store: &mut [u8; 778760]) -> Wanted {
+fn take_bytes(rt: &impl CpuClock, input: &[u8], n: usize, store: &mut [u8; 778760]) -> Wanted {
     if input.len() < n {
         return lines::nothing();
     }
-    take_lines(&input[..n], store)
+    take_lines(rt, &input[..n], store)
 }
 
 // Takes the line that says what is wanted.
-fn take_lines(input: &[u8], store: &mut [u8; 778760]) -> Wanted {
+fn take_lines(rt: &impl CpuClock, input: &[u8], store: &mut [u8; 778760]) -> Wanted {
     let e = lines::place_of(10, input, 0);
     if e == input.len() {
         return lines::nothing();
     }
-    take_names(&input[..e], &input[e + 1..], store)
+    take_names(rt, &input[..e], &input[e + 1..], store)
 }
 
 // Takes the line of names and the texts behind it.
-fn take_names(wanted: &[u8], input: &[u8], store: &mut [u8; 778760]) -> Wanted {
+fn take_names(rt: &impl CpuClock, wanted: &[u8], input: &[u8], store: &mut [u8; 778760]) -> Wanted {
     let e = lines::place_of(10, input, 0);
     if e == input.len() {
         return lines::nothing();
     }
-    take_kept(wanted, &input[..e], &input[e + 1..], store)
+    take_kept(rt, wanted, &input[..e], &input[e + 1..], store)
 }
 
 // Takes the word `kept`, where it stands before the others.
-fn take_kept(wanted: &[u8], names: &[u8], texts: &[u8], store: &mut [u8; 778760]) -> Wanted {
+fn take_kept(
+    rt: &impl CpuClock,
+    wanted: &[u8],
+    names: &[u8],
+    texts: &[u8],
+    store: &mut [u8; 778760],
+) -> Wanted {
     let kept = lines::first_byte(wanted) == b'k';
     if kept {
-        return take_wanted(lines::past_word(wanted), kept, names, texts, store);
+        return take_wanted(rt, lines::past_word(wanted), kept, names, texts, store);
     }
-    take_wanted(wanted, kept, names, texts, store)
+    take_wanted(rt, wanted, kept, names, texts, store)
 }
 
 // Makes the calls that are wanted but for those that write over the input, for which it leaves the collection full.
 fn take_wanted(
+    rt: &impl CpuClock,
     line: &[u8],
     kept: bool,
     names: &[u8],
@@ -74,7 +85,7 @@ fn take_wanted(
 ) -> Wanted {
     let wanted = lines::wanted_in(line);
     if wanted.part != b'h' {
-        make_calls(wanted.part, wanted.times, kept, names, texts, store);
+        make_calls(rt, wanted.part, wanted.times, kept, names, texts, store);
     }
     if lines::is_written_over(wanted.part) {
         opened::fill(store, kept, names, texts);
@@ -83,15 +94,23 @@ fn take_wanted(
 }
 
 // Makes the calls of a part n times.
-fn make_calls(part: u8, n: u64, kept: bool, names: &[u8], texts: &[u8], store: &mut [u8; 778760]) {
+fn make_calls(
+    rt: &impl CpuClock,
+    part: u8,
+    n: u64,
+    kept: bool,
+    names: &[u8],
+    texts: &[u8],
+    store: &mut [u8; 778760],
+) {
     let mut matrix = [0u16; 1048576];
     if part == b'a' {
-        answered::write_answers(kept, names, texts, store, &mut matrix);
+        answered::write_answers(rt, kept, names, texts, store, &mut matrix);
         return;
     }
     if lines::is_of_files(part) {
-        clock::write_time(parts::time_files(part, n, kept, names, texts, store));
+        clock::write_time(parts::time_files(rt, part, n, kept, names, texts, store));
         return;
     }
-    clock::write_time(parts::time_part(part, n, kept, names, texts, store, &mut matrix));
+    clock::write_time(parts::time_part(rt, part, n, kept, names, texts, store, &mut matrix));
 }

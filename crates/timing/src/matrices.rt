@@ -1,16 +1,17 @@
 // The collection's distances as text, in PHYLIP's layout, up to 4,205,573 bytes.
 use crate::lines::Wanted;
 use crate::{answered, clock, files};
+use std::time::CpuClock;
 
 // Writes the text of a full collection over the input, if it is wanted: once for its length and a sum over its bytes, or for the
 // nanoseconds of one time.
-pub(crate) fn write_over(wanted: Wanted, s: &[u8], input: &mut [u8]) {
+pub(crate) fn write_over(rt: &impl CpuClock, wanted: Wanted, s: &[u8], input: &mut [u8]) {
     if wanted.part == b'a' {
         write_answer(s, input);
         return;
     }
     if wanted.part == b'h' {
-        write_time(wanted.times, s, input);
+        write_time(rt, wanted.times, s, input);
     }
 }
 
@@ -22,17 +23,17 @@ fn write_answer(s: &[u8], out: &mut [u8]) {
 }
 
 // Writes the nanoseconds of one of n times.
-fn write_time(n: u64, s: &[u8], out: &mut [u8]) {
-    clock::write_time(time_text(n, s, out));
+fn write_time(rt: &impl CpuClock, n: u64, s: &[u8], out: &mut [u8]) {
+    clock::write_time(time_text(rt, n, s, out));
 }
 
 // Writes the text n times, and answers the nanoseconds of one time.
-fn time_text(n: u64, s: &[u8], out: &mut [u8]) -> u64 {
-    let from = clock::now();
+fn time_text(rt: &impl CpuClock, n: u64, s: &[u8], out: &mut [u8]) -> u64 {
+    let from = clock::now(rt);
     let mut i = 0u64;
     while i < n {
         phylip::write_matrix(s, out);
         i += 1;
     }
-    clock::nanoseconds(from, n)
+    clock::nanoseconds(rt, from, n)
 }

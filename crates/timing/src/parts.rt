@@ -2,9 +2,11 @@
 use crate::files::Made;
 use crate::{clock, files, measured, opened};
 use answers::{Lane, Tree};
+use std::time::CpuClock;
 
 // Fills the collection, makes a part n times, and answers the nanoseconds of one time.
 pub(crate) fn time_part(
+    rt: &impl CpuClock,
     part: u8,
     n: u64,
     kept: bool,
@@ -14,17 +16,18 @@ pub(crate) fn time_part(
     matrix: &mut [u16; 1048576],
 ) -> u64 {
     opened::fill(s, kept, names, texts);
-    let from = clock::now();
+    let from = clock::now(rt);
     let mut i = 0u64;
     while i < n {
         make_part(part, i, kept, names, texts, s, matrix);
         i += 1;
     }
-    clock::nanoseconds(from, n)
+    clock::nanoseconds(rt, from, n)
 }
 
 // Fills the collection, makes a part of split files n times, and answers the nanoseconds of one time.
 pub(crate) fn time_files(
+    rt: &impl CpuClock,
     part: u8,
     n: u64,
     kept: bool,
@@ -33,7 +36,7 @@ pub(crate) fn time_files(
     s: &mut [u8; 778760],
 ) -> u64 {
     opened::fill(s, kept, names, texts);
-    let made: Made = files::make_files(part, n, names, s);
+    let made: Made = files::make_files(rt, part, n, names, s);
     keep(made.sum, s);
     made.time
 }

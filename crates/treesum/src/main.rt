@@ -6,8 +6,8 @@
 mod input;
 mod output;
 
-fn main() {
+fn main(rt: HostRuntime) {
     let mut names = [0u8; 4288];
     let mut lent = [0u8; 22024];
-    input::take_all(&mut names, &mut lent);
+    input::take_all(rt.stdin(), &mut names, &mut lent);
 }

@@ -1,6 +1,10 @@
 // What is printed.
 use answers::{Both, Number};
-use libc::{STDERR_FILENO, STDOUT_FILENO};
+
+// The numbers that the system gives standard output and standard error.
+const STDOUT: i32 = 1;
+
+const STDERR: i32 = 2;
 
 // Prints the sheet, as many lines at a time as fit into 65,536 bytes.
 pub(crate) fn print_sheet(answer: Number, lent: &[u8]) {
@@ -42,7 +46,7 @@ fn print_front(out: &[u8], n: usize) -> bool {
 
 // Writes bytes to standard output; false, with a complaint, where that fails.
 fn write(bytes: &[u8]) -> bool {
-    if io::write_all(STDOUT_FILENO, bytes) {
+    if io::write_all(STDOUT, bytes) {
         return true;
     }
     complain(b"treesum: writing failed\n");
@@ -51,5 +55,5 @@ fn write(bytes: &[u8]) -> bool {
 
 // Says on standard error what went wrong.
 pub(crate) fn complain(message: &[u8]) {
-    io::write_all(STDERR_FILENO, message);
+    io::write_all(STDERR, message);
 }
