@@ -1,9 +1,5 @@
-use Prim.Native.Nat.{◌≤◌, ◌-◌}
-use mathlib.Core.Path.{◌≡◌, refl, sym, ◌∙◌}
+use mathlib.Core.Path.{refl, sym, ◌∙◌}
 use native.Mathlib.Omega.{arith}
-use lib.ListN.{length, drop}
-use borrow.Author.Rules.{rules}
-use Rattle.trees.specs.Plain.{every}
 use Rattle.trees.specs.Text.{is_blank}
 use Rattle.opening.specs.GivenLaws.{failed, passed, every_more, every-not, every-none}
 use Rattle.lanes.proofs.all_blanks.Goals as goal
@@ -22,4 +18,4 @@ loop-i-preserved c =
     (omega arith, l.invariant.1 ∙ every_more is_blank c.args.bytes.now 0 l.i (omega arith) (passed _ _ c.is_blank.ensures.value c.if-not-is_blank.false-raw))
 
 pub returns : goal.returns
-returns-then-not-is_blank c = let l = c.loop-i in sym (l.invariant.1 ∙ every-none is_blank c.args.bytes.now 0 l.i (omega arith))
+returns c = let l = c.loop-i in sym (l.invariant.1 ∙ every-none is_blank c.args.bytes.now 0 l.i (omega arith))

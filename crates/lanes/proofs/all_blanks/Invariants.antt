@@ -1,12 +1,9 @@
 -- `lanes::all_blanks` meets its contract. The loop's invariant: the bytes from i on decide. Assumes nothing.
 use Prim.Native.Nat.{◌≤◌, ◌-◌}
-use mathlib.Core.Path.{◌≡◌, refl, sym, ◌∙◌}
-use native.Mathlib.Omega.{arith}
+use mathlib.Core.Path.{◌≡◌}
 use lib.ListN.{length, drop}
-use borrow.Author.Rules.{rules}
 use Rattle.trees.specs.Plain.{every}
 use Rattle.trees.specs.Text.{is_blank}
-use Rattle.opening.specs.GivenLaws.{failed, passed, every_more, every-not, every-none}
 use Rattle.lanes.proofs.all_blanks.Given as goal
 
 abbrev pub invariant-loop-i : goal.invariant-loop-i

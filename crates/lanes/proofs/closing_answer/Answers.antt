@@ -1,6 +1,5 @@
 -- `lanes::closing_answer` meets its contract: one law for each answer. Assumes nothing.
 use native.Mathlib.Omega.{arith}
-use borrow.Author.Rules.{rules}
 use Rattle.opening.specs.GivenLaws.{failed, passed}
 use Rattle.lanes.specs.LaneLaws.{lane-few, lane-end}
 use Rattle.lanes.specs.ClosingLaws.{closing-over, closing-full, closing-done}
@@ -21,6 +20,6 @@ returns-then-not-all_blanks c =
     (failed _ _ c.all_blanks.ensures c.if-not-all_blanks.true-raw)
 
 pub returns : goal.returns
-returns-then-n-gt-MOST_TEXT c =
+returns c =
     closing-done _ _ c.requires.l_bound c.requires.s_value _ c.lane_length-n.ensures.value c.if-n-gt-MOST_TEXT.false _ c.lane_from-b.ensures.value
     (passed _ _ c.all_blanks.ensures c.if-not-all_blanks.false-raw)

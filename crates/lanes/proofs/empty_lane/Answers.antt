@@ -1,6 +1,5 @@
 -- `lanes::empty_lane` meets its contract: the length is made 0. Assumes nothing.
 use native.Mathlib.Omega.{arith}
-use borrow.Author.Rules.{rules}
 use Rattle.lanes.specs.LaneLaws.{lane-few, lane-end}
 use Rattle.lanes.specs.LaneWritingLaws.{emptied}
 use Rattle.lanes.proofs.empty_lane.Goals as goal
@@ -14,4 +13,4 @@ put16-requires c = omega (arith, c.lane_from.ensures.value, lane-end _ c.require
 pub returns : goal.returns
 returns c =
     rw (c.put16.ensures, c.lane_from.ensures.value)
-    (emptied _ c.requires.s_value _ c.requires.l_bound (λ i. omega (arith, c.type_inv.s i)))
+    (emptied _ c.requires.s_value _ c.requires.l_bound (λ i. omega (arith, c.slice_known-1.given i)))

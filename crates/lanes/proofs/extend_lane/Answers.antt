@@ -4,7 +4,6 @@ use mathlib.Core.Path.{ap, ◌∙◌}
 use mathlib.Core.Bool.{Bool}
 use native.Mathlib.Omega.{arith}
 use lib.ListN.{length}
-use borrow.Author.Rules.{rules}
 use borrow.Author.Tests.{leb-true}
 use Rattle.trees.specs.Text.{open_after}
 use Rattle.trees.specs.Held.{most_text}
@@ -15,7 +14,7 @@ use Rattle.lanes.proofs.extend_lane.Goals as goal
 
 pub returns-then-not-has_room : goal.returns-then-not-has_room
 returns-then-not-has_room c =
-    runs-over _ c.requires.s_value _ c.requires.l_bound (λ i. omega (arith, c.type_inv.s i)) _ _ c.lane_length-n.ensures.value
+    runs-over _ c.requires.s_value _ c.requires.l_bound (λ i. omega (arith, c.slice_known-1.given i)) _ _ c.lane_length-n.ensures.value
     (failed _ _ c.has_room.ensures c.if-not-has_room.true-raw) _
     (c.open_after.ensures ∙ ap (λ (x : Bool). open_after x c.args.piece.now) c.quotes_open-quoted.ensures) c.run_over.ensures
 
@@ -32,6 +31,6 @@ pub put16-requires : goal.put16-requires
 put16-requires c = omega (arith, c.lane_from-from.ensures.value, lane-end _ c.requires.s_value _ c.requires.l_bound)
 
 pub returns : goal.returns
-returns-then-not-has_room c =
-    holds_more _ c.requires.s_value _ c.requires.l_bound (λ i. omega (arith, c.type_inv.s i)) _ _ c.lane_length-n.ensures.value
+returns c =
+    holds_more _ c.requires.s_value _ c.requires.l_bound (λ i. omega (arith, c.slice_known-1.given i)) _ _ c.lane_length-n.ensures.value
     (passed _ _ c.has_room.ensures c.if-not-has_room.false-raw) _ c.lane_from-from.ensures.value c.copy_from.ensures c.put16.ensures

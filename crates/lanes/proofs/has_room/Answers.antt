@@ -12,7 +12,7 @@ pub returns-then-n-gt-MOST_TEXT : goal.returns-then-n-gt-MOST_TEXT
 returns-then-n-gt-MOST_TEXT c = let a = c.args in sym (lt-leb (a.n + a.more) most_text (omega arith))
 
 pub returns : goal.returns
-returns-then-n-gt-MOST_TEXT c =
+returns c =
     let n = c.args.n in
     let more = c.args.more in
     same_bool (leb more (most_text - n)) (leb (n + more) most_text) (λ e. le-leb (n + more) most_text (omega (arith, leb-true more (most_text - n) e)))

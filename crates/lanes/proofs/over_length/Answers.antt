@@ -1,5 +1,4 @@
 -- `lanes::over_length` meets its contract: the definition's two cases. Assumes nothing.
-use borrow.Author.Rules.{rules}
 use Rattle.lanes.specs.Lanes.{over_length}
 use Rattle.lanes.proofs.over_length.Goals as goal
 
@@ -9,4 +8,4 @@ returns-then-q c = rw c.if-q.true
 
 pub returns : goal.returns
 unfolding over_length
-returns-then-q c = rw c.if-q.false
+returns c = rw c.if-q.false

@@ -2,7 +2,6 @@
 use Prim.Native.Nat.{◌+◌, ◌-◌}
 use mathlib.Core.Path.{◌≡◌}
 use native.Mathlib.Omega.{arith}
-use borrow.Author.Rules.{rules}
 use Rattle.lanes.specs.LaneLaws.{lane-few, lane-end}
 use Rattle.lanes.proofs.text_of.Goals as goal
 
