@@ -4,7 +4,7 @@
 --   ran_over         its length is made one that says that it ran over
 --   runs-over        the piece does not fit: it ran over, and quotes are open as they are behind the piece
 --   holds_more       the piece is copied behind the held bytes, and the length put
-use Rattle.std.specs.Prelude.{ℕ, ◌+◌, ◌-◌, ◌≤◌, ◌<◌, ◌≡◌, refl, ◌⊎◌, Bool, true, leb, get_or, take, drop}
+use Rattle.std.specs.Prelude.{ℕ, ◌+◌, ◌≤◌, ◌<◌, ◌≡◌, refl, ◌⊎◌, Bool, true, leb, get_or, take, drop}
 use native.Mathlib.Omega.{arith}
 use Rattle.std.proofs.Common.{sym, ap, ap₂, subst, ◌∙◌, inl, inr, length-drop, length-append, length-take-le, take-add, drop-drop}
 use Rattle.std.proofs.Math.Logic.{⊎_elim}
