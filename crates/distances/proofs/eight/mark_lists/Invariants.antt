@@ -1,0 +1,12 @@
+-- `distances::eight::mark_lists` meets its contract. The loop's invariant: the words are those of the first b lists. Assumes nothing.
+use Rattle.std.proofs.Common.{◌≡◌, ◌+◌, ◌-◌, ◌<◌, ◌≤◌, sym, subst, arith}
+use Rattle.distances.specs.Short.{Rows}
+use Rattle.distances.specs.Eight.{Words}
+use Rattle.distances.specs.EightLaws.{words_more}
+use Rattle.distances.proofs.eight.mark_lists.Given as goal
+
+abbrev pub invariant-loop-b : goal.invariant-loop-b
+invariant-loop-b l = (l.b ≤ l.n) × Words l.short l.sizes l.i l.b l.words
+
+abbrev pub decreases-loop-b : goal.decreases-loop-b
+decreases-loop-b l = l.n - l.b

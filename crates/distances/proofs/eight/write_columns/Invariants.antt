@@ -1,0 +1,13 @@
+-- `distances::eight::write_columns` meets its contract. The loop's invariant: the columns below j are put. Assumes nothing.
+use Rattle.std.proofs.Common.{◌≡◌, ◌-◌, ◌<◌, ◌≤◌, sym, ap, ◌∙◌, subst, arith}
+use Rattle.distances.specs.Marks.{mark_sum}
+use Rattle.distances.specs.Short.{Rows}
+use Rattle.distances.specs.Eight.{Columns}
+use Rattle.distances.specs.EightLaws.{words_small, words-sum, column_fits, columns-none, columns-more}
+use Rattle.distances.proofs.eight.write_columns.Given as goal
+
+abbrev pub invariant-loop-j : goal.invariant-loop-j
+invariant-loop-j l = (l.j ≤ l.trees) × Columns l.short l.sizes l.i l.n l.j l.out
+
+abbrev pub decreases-loop-j : goal.decreases-loop-j
+decreases-loop-j l = l.trees - l.j
