@@ -47,7 +47,7 @@ use Rattle.store.specs.HeldWholeLaws.{held_whole}
 use Rattle.phylip.specs.Reading.{trees_given, values_given}
 use Rattle.phylip.proofs.read_matrix.Reads as reads_matrix
 use Rattle.promises.specs.Calls.{matrix, write-matrix, Reply, filled, fill, reply}
-use Rattle.promises.specs.Steps.{lent, Asked}
+use Rattle.promises.specs.Steps.{lent, lent_mut, Asked}
 use Rattle.promises.specs.StepLaws.{asked-follows}
 use Rattle.promises.specs.ReadBackCallLaws.{given_is}
 use Rattle.promises.specs.SplitFileCallLaws.{filled-refusal, answered}
@@ -56,7 +56,7 @@ use Rattle.promises.specs.SplitFileCallLaws.{filled-refusal, answered}
 
 abbrev pub ReadMatrix : List ℕ → List ℕ → Reply → Type 0
 ReadMatrix f out a =
-    (r : Number) × (left : List ℕ) × reads_matrix.Post ([], ([], tt)) (lent f, (lent out, tt)) r (lent f, (lent left, tt)) × (a ≡ filled (number_given r) left)
+    (r : Number) × (left : List ℕ) × reads_matrix.Post ([], ([], tt)) (lent f, (lent_mut out, tt)) r (lent f, (lent_mut left, tt)) × (a ≡ filled (number_given r) left)
 
 unfoldable pub fill_matrix : Answer Square → List ℕ → Reply
 unfolding trees_given values_given front

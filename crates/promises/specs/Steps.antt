@@ -2,13 +2,13 @@
 -- contract allows, and its term is the contract's own: `Post`, of the call's lifetimes, of which no contract speaks, its arguments, its
 -- answer and its arguments afterwards. A clause that is dropped from a contract is missed here.
 --
---   lent s             a slice with the elements s; no contract depends on where it lies
+--   lent s, lent_mut s     a slice with the elements s, to be read or to be written; no contract depends on where it lies, nor on the name that the prover gives a loan
 --   Asked s q a        the question q of the lent bytes s may be answered a
 --   Step s c a t       the call c on the lent bytes s may answer a and leave t
 --   Steps s cs as t    the calls cs, one after another, each on what the one before left
 --   Opens x names first second before s     an opening may be accepted in the bytes `before` and leave s
 use Rattle.std.specs.Prelude.{ℕ, ◌≡◌, Bool, List, [], ◌∷◌}
-use Rattle.std.specs.Borrow.{Bor}
+use Rattle.std.specs.Borrow.{Bor, MutBor}
 use Rattle.trees.specs.Plain.{refused, gives}
 use Rattle.trees.specs.Opening.{Numbers}
 use Rattle.trees.specs.Runs.{feed, hand, close, withdraw, fed, closed_lane, withdrew}
@@ -56,6 +56,9 @@ use Rattle.promises.specs.Calls.{Question, tree-count, split-count, one_split, s
 abbrev pub lent : List ℕ → Bor (List ℕ)
 lent s = record { ref_ptr = (0, 0); now = s }
 
+abbrev pub lent_mut : List ℕ → MutBor (List ℕ)
+lent_mut s = record { ref_ptr = (0, 0); ghost_name = 0; now = s }
+
 -- ---- questions
 
 -- a call may answer a number; or a number, and leave a buffer so
@@ -74,43 +77,43 @@ Asked s (one_split k) = λ a.
     (r : Recorded) × one_split_call.Post ([], tt) (lent s, (record { 0 = k }, tt)) r (lent s, (record { 0 = k }, tt)) × (a ≡ split (split_given r))
 Asked s (split-list m c) = λ a.
     (r : Number) × (m' : List ℕ) × (c' : List ℕ)
-    × split_list.Post ([], ([], ([], tt))) (lent s, (lent m, (lent c, tt))) r (lent s, (lent m', (lent c', tt)))
+    × split_list.Post ([], ([], ([], tt))) (lent s, (lent_mut m, (lent_mut c, tt))) r (lent s, (lent_mut m', (lent_mut c', tt)))
     × (a ≡ both_filled (number_given r) m' c')
 Asked s (tree-splits i m) =
-    Fills (λ r m'. tree_splits.Post ([], ([], tt)) (lent s, (record { 0 = i }, (lent m, tt))) r (lent s, (record { 0 = i }, (lent m', tt))))
+    Fills (λ r m'. tree_splits.Post ([], ([], tt)) (lent s, (record { 0 = i }, (lent_mut m, tt))) r (lent s, (record { 0 = i }, (lent_mut m', tt))))
 Asked s (one-sided i j) =
     Counts (λ r. one_sided.Post ([], tt) (lent s, (record { 0 = i }, (record { 0 = j }, tt))) r (lent s, (record { 0 = i }, (record { 0 = j }, tt))))
 Asked s (doubled i j) =
     Counts (λ r. doubles.Post ([], tt) (lent s, (record { 0 = i }, (record { 0 = j }, tt))) r (lent s, (record { 0 = i }, (record { 0 = j }, tt))))
-Asked s (matrix o) = Fills (λ r o'. matrices.Post ([], ([], tt)) (lent s, (lent o, tt)) r (lent s, (lent o', tt)))
+Asked s (matrix o) = Fills (λ r o'. matrices.Post ([], ([], tt)) (lent s, (lent_mut o, tt)) r (lent s, (lent_mut o', tt)))
 Asked s collisions = Counts (λ r. colliding.Post ([], tt) (lent s, tt) r (lent s, tt))
-Asked s (strict o) = Fills (λ r o'. stricts.Post ([], ([], tt)) (lent s, (lent o, tt)) r (lent s, (lent o', tt)))
-Asked s (majority o) = Fills (λ r o'. majorities.Post ([], ([], tt)) (lent s, (lent o, tt)) r (lent s, (lent o', tt)))
+Asked s (strict o) = Fills (λ r o'. stricts.Post ([], ([], tt)) (lent s, (lent_mut o, tt)) r (lent s, (lent_mut o', tt)))
+Asked s (majority o) = Fills (λ r o'. majorities.Post ([], ([], tt)) (lent s, (lent_mut o, tt)) r (lent s, (lent_mut o', tt)))
 Asked s (both m c) = λ a.
     (r : Both) × (m' : List ℕ) × (c' : List ℕ)
-    × boths.Post ([], ([], ([], tt))) (lent s, (lent m, (lent c, tt))) r (lent s, (lent m', (lent c', tt)))
+    × boths.Post ([], ([], ([], tt))) (lent s, (lent_mut m, (lent_mut c, tt))) r (lent s, (lent_mut m', (lent_mut c', tt)))
     × (a ≡ each_filled (both_given r) m' c')
 Asked s (write-accepted i o) =
-    Fills (λ r o'. writes.Post ([], ([], tt)) (lent s, (record { 0 = i }, (lent o, tt))) r (lent s, (record { 0 = i }, (lent o', tt))))
+    Fills (λ r o'. writes.Post ([], ([], tt)) (lent s, (record { 0 = i }, (lent_mut o, tt))) r (lent s, (record { 0 = i }, (lent_mut o', tt))))
 Asked s (weighted i j) = λ a.
     (r : Weight) × weighs.Post ([], tt) (lent s, (record { 0 = i }, (record { 0 = j }, tt))) r (lent s, (record { 0 = i }, (record { 0 = j }, tt)))
     × (a ≡ weight (weight_given r))
 Asked s (split-lengths k) = λ a.
     (r : SplitLengths) × split_lengths.Post ([], tt) (lent s, (record { 0 = k }, tt)) r (lent s, (record { 0 = k }, tt)) × (a ≡ sums (split_lengths_given r))
-Asked s (write-splits o) = Fills (λ r o'. writes_splits.Post ([], ([], tt)) (lent s, (lent o, tt)) r (lent s, (lent o', tt)))
+Asked s (write-splits o) = Fills (λ r o'. writes_splits.Post ([], ([], tt)) (lent s, (lent_mut o, tt)) r (lent s, (lent_mut o', tt)))
 Asked s (read-splits f m c) = λ a.
     (r : Both) × (m' : List ℕ) × (c' : List ℕ)
-    × reads_splits.Post ([], ([], ([], ([], tt)))) (lent s, (lent f, (lent m, (lent c, tt)))) r (lent s, (lent f, (lent m', (lent c', tt))))
+    × reads_splits.Post ([], ([], ([], ([], tt)))) (lent s, (lent f, (lent_mut m, (lent_mut c, tt)))) r (lent s, (lent f, (lent_mut m', (lent_mut c', tt))))
     × (a ≡ each_filled (both_given r) m' c')
 Asked s (merge f g o) =
-    Fills (λ r o'. merges.Post ([], ([], ([], ([], tt)))) (lent s, (lent f, (lent g, (lent o, tt)))) r (lent s, (lent f, (lent g, (lent o', tt)))))
+    Fills (λ r o'. merges.Post ([], ([], ([], ([], tt)))) (lent s, (lent f, (lent g, (lent_mut o, tt)))) r (lent s, (lent f, (lent g, (lent_mut o', tt)))))
 Asked s (strict_tree f o) =
-    Fills (λ r o'. strict_trees.Post ([], ([], ([], tt))) (lent s, (lent f, (lent o, tt))) r (lent s, (lent f, (lent o', tt))))
+    Fills (λ r o'. strict_trees.Post ([], ([], ([], tt))) (lent s, (lent f, (lent_mut o, tt))) r (lent s, (lent f, (lent_mut o', tt))))
 Asked s (majority-tree f o) =
-    Fills (λ r o'. majority_trees.Post ([], ([], ([], tt))) (lent s, (lent f, (lent o, tt))) r (lent s, (lent f, (lent o', tt))))
-Asked s (write-matrix o) = Fills (λ r o'. writes_matrix.Post ([], ([], tt)) (lent s, (lent o, tt)) r (lent s, (lent o', tt)))
+    Fills (λ r o'. majority_trees.Post ([], ([], ([], tt))) (lent s, (lent f, (lent_mut o, tt))) r (lent s, (lent f, (lent_mut o', tt))))
+Asked s (write-matrix o) = Fills (λ r o'. writes_matrix.Post ([], ([], tt)) (lent s, (lent_mut o, tt)) r (lent s, (lent_mut o', tt)))
 Asked s (claim t) = λ a. (r : Claim) × claims.Post ([], ([], tt)) (lent s, (lent t, tt)) r (lent s, (lent t, tt)) × (a ≡ claimed (claim_given r))
-Asked s (release n x o) = Fills (λ r o'. releases.Post ([], ([], tt)) (lent s, (n, (x, (lent o, tt)))) r (lent s, (n, (x, (lent o', tt)))))
+Asked s (release n x o) = Fills (λ r o'. releases.Post ([], ([], tt)) (lent s, (n, (x, (lent_mut o, tt)))) r (lent s, (n, (x, (lent_mut o', tt)))))
 
 -- ---- openings
 
@@ -120,9 +123,9 @@ abbrev pub Opened : Numbers → List ℕ → List ℕ → List ℕ → List ℕ 
 Opened x names first second s r t =
     (kept : Bool) × (flag_of kept ≡ x.kept)
     × opens.Post ([], ([], ([], ([], tt))))
-    (lent s, (x.taxa, (x.lanes, (x.tree_room, (x.split_room, (x.places, (kept, (lent names, (lent first, (lent second, tt))))))))))
+    (lent_mut s, (x.taxa, (x.lanes, (x.tree_room, (x.split_room, (x.places, (kept, (lent names, (lent first, (lent second, tt))))))))))
     r
-    (lent t, (x.taxa, (x.lanes, (x.tree_room, (x.split_room, (x.places, (kept, (lent names, (lent first, (lent second, tt))))))))))
+    (lent_mut t, (x.taxa, (x.lanes, (x.tree_room, (x.split_room, (x.places, (kept, (lent names, (lent first, (lent second, tt))))))))))
 
 unfoldable pub Opens : Numbers → List ℕ → List ℕ → List ℕ → List ℕ → List ℕ → Type 0
 unfolding finish_given
@@ -133,21 +136,21 @@ Opens x names first second before s = (r : Finish) × Opened x names first secon
 unfoldable pub Step : List ℕ → Made → Told → List ℕ → Type 0
 unfolding progress_given finish_given number_given Asked
 Step s (one (feed l p)) a t =
-    (r : Fed) × feeds.Post ([], ([], tt)) (lent s, (record { 0 = l }, (lent p, tt))) r (lent t, (record { 0 = l }, (lent p, tt)))
+    (r : Fed) × feeds.Post ([], ([], tt)) (lent_mut s, (record { 0 = l }, (lent p, tt))) r (lent_mut t, (record { 0 = l }, (lent p, tt)))
     × (a ≡ heard (fed r.taken (progress_given r.progress)))
 -- a text is handed in by a file alone
 Step s (one (hand x)) a t = ⊥
 Step s (one (close l)) a t =
-    (r : Finish) × closes.Post ([], tt) (lent s, (record { 0 = l }, tt)) r (lent t, (record { 0 = l }, tt)) × (a ≡ heard (closed_lane (finish_given r)))
+    (r : Finish) × closes.Post ([], tt) (lent_mut s, (record { 0 = l }, tt)) r (lent_mut t, (record { 0 = l }, tt)) × (a ≡ heard (closed_lane (finish_given r)))
 Step s (one (withdraw k)) a t =
-    (r : Finish) × withdraws.Post ([], tt) (lent s, (record { 0 = k }, tt)) r (lent t, (record { 0 = k }, tt)) × (a ≡ heard (withdrew (finish_given r)))
+    (r : Finish) × withdraws.Post ([], tt) (lent_mut s, (record { 0 = k }, tt)) r (lent_mut t, (record { 0 = k }, tt)) × (a ≡ heard (withdrew (finish_given r)))
 Step s (many l p v) a t =
     (r : Number) × (w : List ℕ)
-    × batches.Post ([], ([], ([], tt))) (lent s, (record { 0 = l }, (lent p, (lent v, tt)))) r (lent t, (record { 0 = l }, (lent p, (lent w, tt))))
+    × batches.Post ([], ([], ([], tt))) (lent_mut s, (record { 0 = l }, (lent p, (lent_mut v, tt)))) r (lent_mut t, (record { 0 = l }, (lent p, (lent_mut w, tt))))
     × (a ≡ batched (number_given r) w)
 Step s (file f v) a t =
     (r : Number) × (w : List ℕ)
-    × files.Post ([], ([], ([], tt))) (lent s, (lent f, (lent v, tt))) r (lent t, (lent f, (lent w, tt)))
+    × files.Post ([], ([], ([], tt))) (lent_mut s, (lent f, (lent_mut v, tt))) r (lent_mut t, (lent f, (lent_mut w, tt)))
     × (a ≡ batched (number_given r) w)
 -- a question has the store as a `&[u8]`, which stays
 Step s (ask q) a t = (x : Reply) × Asked s q x × (a ≡ replied x) × (t ≡ s)
