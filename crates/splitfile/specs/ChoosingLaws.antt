@@ -40,6 +40,9 @@ module _ (l : List ℕ) (m : ℕ) where
       with-m y k = agree-true m y (every-at (agree m) l e y k)
 
       go : (x y : ℕ) → Mem x l ⊎ Mem x (m ∷ []) → Mem y l ⊎ Mem y (m ∷ []) → Ag x y
+      go x y (inr (inr x7)) _ = elim x7 [ ]
+      go x y (inr (inl h)) (inr (inr x8)) = elim x8 [ ]
+      go x y (inl h) (inr (inr x5)) = elim x5 [ ]
       go x y (inl h) (inl k) = pairs-at l a x y h k
       go x y (inl h) (inr (inl k)) = rw k (ag-sym m x (with-m x h))
       go x y (inr (inl h)) (inl k) = rw h (with-m y k)
@@ -119,11 +122,13 @@ kept_same p q (r ∷ rs) e = rw (e r (inl refl), kept_same p q rs (λ x h. e x (
 
 masks-mem : (rs : List Record) (m : ℕ) → Mem m (masks_of rs) → (r : Record) × Mem r rs × (m ≡ r.mask)
 unfolding masks_of
+masks-mem [] m x' = elim x' [ ]
 masks-mem (r ∷ rs) m (inl e) = (r, inl refl, e)
 masks-mem (r ∷ rs) m (inr h) = let x = masks-mem rs m h in (x.0, inr x.1, x.2)
 
 mem-masks : (rs : List Record) (r : Record) → Mem r rs → Mem r.mask (masks_of rs)
 unfolding masks_of
+mem-masks [] r x' = elim x' [ ]
 mem-masks (x ∷ rs) r (inl e) = inl (ap (λ (y : Record). y.mask) e)
 mem-masks (x ∷ rs) r (inr h) = inr (mem-masks rs r h)
 

@@ -159,6 +159,8 @@ proper-lower (suc k) l m p h f o =
 
 -- the last of rising masks is the highest
 last-highest : (l : List ℕ) (k : ℕ) → length l ≡ suc k → Rising l → (y : ℕ) → Mem y l → y ≤ slice_index l k
+last-highest (x ∷ []) zero e r y (inr h) = elim h [ ]
+last-highest [] k e r y h = elim h [ ]
 last-highest (x ∷ []) zero e r y (inl d) = omega arith
 last-highest (x ∷ []) (suc k) e r y h = absurd (omega arith)
 last-highest (x ∷ z ∷ l) zero e r y h = absurd (omega arith)
@@ -213,6 +215,7 @@ module _ (n t : ℕ) where
   -- no proper mask is 0
   some-taxa : (rs : List Record) → every (proper_record n t) rs ≡ true → (y : ℕ) → Mem y (masks_of rs) → 0 < y
   unfolding every masks_of proper_record
+  some-taxa [] e y x'' = elim x'' [ ]
   some-taxa (r ∷ rs) e y (inl d) = rw d (proper-some n r.mask (and_left (proper n r.mask) _ (and_left (proper_record n t r) _ e)))
   some-taxa (r ∷ rs) e y (inr h) = some-taxa rs (and_right (proper_record n t r) _ e) y h
 

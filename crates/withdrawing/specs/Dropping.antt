@@ -26,7 +26,7 @@ use Rattle.withdrawing.specs.Moved.{renamed}
 
 pub record LeftIn (p : Parts) (n m : ℕ) (rows entries : List ℕ) : Type 0 where
   pub count : m ≡ new_row p n
-  pub rows_left_lem : take m rows ≡ rows_left p n
+  pub rows-left : take m rows ≡ rows_left p n
   pub entries-left : take (suc n) entries ≡ entries_left p n
 
 abbrev pub Becoming : Parts → List ℕ → Type 0

@@ -239,9 +239,9 @@ module _ (s : List ℕ) (h : HeadAt s) (f : Sound (opening_at s) (parts_at s)) (
 
     module _ (u : List ℕ) (second : OrderClosed count es t u) where
       pub columns-asked : Columned u (take m rows)
-      columns-asked = rw (left.rows_left, held) (columns-next s h f es names-asked t (rw held at first) u (rw held at second))
+      columns-asked = rw (left.rows-left, held) (columns-next s h f es names-asked t (rw held at first) u (rw held at second))
 
       pub dropped : (v w : List ℕ) → ColumnsClosed (take m rows) u v → w ≡ put 2 v 12 m → ((i : ℕ) → get_or s i 0 < 256) → Turned s (without_rows (parts_at s)) w
       dropped v w third e bytes =
           rw (e, left.count, held)
-          (all-steps s h f u (rows_named s h f es names-asked t (rw held at first) u (rw held at second)) v (rw (left.rows_left, held) at third) bytes)
+          (all-steps s h f u (rows_named s h f es names-asked t (rw held at first) u (rw held at second)) v (rw (left.rows-left, held) at third) bytes)

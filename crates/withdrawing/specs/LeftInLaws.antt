@@ -11,7 +11,7 @@ use Rattle.withdrawing.specs.LeftLaws.{left-none, left-more, left_less, row_firs
 use Rattle.withdrawing.specs.Dropping.{LeftIn, Becoming}
 
 pub walk_none : (p : Parts) (rows entries : List ℕ) → 0 < length entries → LeftIn p 0 0 rows (set entries 0 0)
-walk_none p rows entries h = record { count = sym (row_first p); rows_left = sym (left-none p); entries-left = take-suc-set entries 0 0 h ∙ sym (entries-first p) }
+walk_none p rows entries h = record { count = sym (row_first p); rows-left = sym (left-none p); entries-left = take-suc-set entries 0 0 h ∙ sym (entries-first p) }
 
 -- a list with one more at its end
 abbrev more : List ℕ → ℕ → List ℕ
@@ -23,7 +23,7 @@ module _ (p : Parts) (k m : ℕ) (rows entries : List ℕ) (f : LeftIn p k m row
       rw (add-one k, add-one m)
       record {
         count = ap suc f.count ∙ sym (row_next p k e);
-        rows_left = take-suc-set rows m k l ∙ ap (λ (x : List ℕ). more x k) f.rows_left ∙ sym (left-more p k e);
+        rows-left = take-suc-set rows m k l ∙ ap (λ (x : List ℕ). more x k) f.rows-left ∙ sym (left-more p k e);
         entries-left = take-suc-set entries (suc k) (suc m) h ∙ ap₂ more f.entries-left (ap suc f.count) ∙ sym (entries-more p k e);
       }
 
@@ -33,7 +33,7 @@ module _ (p : Parts) (k m : ℕ) (rows entries : List ℕ) (f : LeftIn p k m row
       rw (add-one k)
       record {
         count = f.count ∙ sym (row-held p k e);
-        rows_left = f.rows_left ∙ sym (left_less p k e);
+        rows-left = f.rows-left ∙ sym (left_less p k e);
         entries-left = take-suc-set entries (suc k) _ h ∙ ap₂ more f.entries-left x ∙ sym (entries-less p k e);
       }
 

@@ -1,8 +1,6 @@
-use Prim.Native.Nat.{◌+◌, ◌-◌, ◌≤◌}
-use mathlib.Core.Path.{◌≡◌}
+use Prim.Native.Nat.{◌-◌}
 use native.Mathlib.Omega.{arith}
-use borrow.Author.Rules.{rules}
-use Rattle.colliding.specs.Collisions.{alike, count_from}
+use Rattle.colliding.specs.Collisions.{alike}
 use Rattle.colliding.specs.CollisionLaws.{count-more, count-done, from-most}
 use Rattle.colliding.proofs.count_alike.Goals as goal
 

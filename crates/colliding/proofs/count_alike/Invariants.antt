@@ -2,10 +2,7 @@
 -- Assumes nothing.
 use Prim.Native.Nat.{◌+◌, ◌-◌, ◌≤◌}
 use mathlib.Core.Path.{◌≡◌}
-use native.Mathlib.Omega.{arith}
-use borrow.Author.Rules.{rules}
 use Rattle.colliding.specs.Collisions.{alike, count_from}
-use Rattle.colliding.specs.CollisionLaws.{count-more, count-done, from-most}
 use Rattle.colliding.proofs.count_alike.Given as goal
 
 abbrev pub invariant-loop-j : goal.invariant-loop-j

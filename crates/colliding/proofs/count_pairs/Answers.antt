@@ -1,7 +1,6 @@
-use Prim.Native.Nat.{◌+◌, ◌-◌, ◌*◌, ◌≤◌}
+use Prim.Native.Nat.{◌-◌}
 use mathlib.Core.Path.{◌≡◌, ap}
 use native.Mathlib.Omega.{arith}
-use Rattle.trees.specs.Opening.{most_room}
 use Rattle.colliding.specs.Collisions.{pairs_from}
 use Rattle.colliding.specs.CollisionLaws.{count_most, pairs-more, pairs-done}
 use Rattle.colliding.proofs.count_pairs.Goals as goal

@@ -1,11 +1,9 @@
 -- `colliding::count_pairs` meets its contract. The loop's invariant: the sum so far and the pairs from k on make all pairs; each number
 -- adds at most 4,096. Assumes nothing.
 use Prim.Native.Nat.{◌+◌, ◌-◌, ◌*◌, ◌≤◌}
-use mathlib.Core.Path.{◌≡◌, ap}
-use native.Mathlib.Omega.{arith}
+use mathlib.Core.Path.{◌≡◌}
 use Rattle.trees.specs.Opening.{most_room}
 use Rattle.colliding.specs.Collisions.{pairs_from}
-use Rattle.colliding.specs.CollisionLaws.{count_most, pairs-more, pairs-done}
 use Rattle.colliding.proofs.count_pairs.Given as goal
 
 abbrev pub invariant-loop-k : goal.invariant-loop-k

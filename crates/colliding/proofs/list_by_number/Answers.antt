@@ -1,9 +1,6 @@
-use Prim.Native.Nat.{◌-◌, ◌≤◌}
 use mathlib.Core.Path.{◌≡◌}
 use native.Mathlib.Omega.{arith}
-use Rattle.trees.specs.Opening.{most_room}
 use Rattle.layout.specs.Store.{splits_held_at}
-use Rattle.colliding.specs.Collisions.{Numbered}
 use Rattle.colliding.specs.PlacedLaws.{head_at, held-most}
 use Rattle.colliding.specs.CollisionLaws.{row_below, numbered_more}
 use Rattle.colliding.proofs.list_by_number.Goals as goal
@@ -17,11 +14,11 @@ loop-k-init c = (omega arith, c.splits_held-held.ensures.value, omega (arith, he
 pub row_of-row-requires : goal.row_of-row-requires
 row_of-row-requires c = record { head_at = head_at _ c.requires.s_value; k_bound = omega arith }
 
+pub offset_bounds-rows-row : goal.offset_bounds-rows-row
+offset_bounds-rows-row c = omega (arith, held-most _ c.requires.s_value, row_below _ c.requires.s_value c.loop-k.k _ (omega arith) c.row_of-row.ensures)
+
 pub bounds-rows-row : goal.bounds-rows-row
 bounds-rows-row c = omega (arith, held-most _ c.requires.s_value, row_below _ c.requires.s_value c.loop-k.k _ (omega arith) c.row_of-row.ensures)
-
-pub offset_bounds-rows-row : goal.offset_bounds-rows-row
-offset_bounds-rows-row c = omega (arith, bounds-rows-row c)
 
 pub identifier_at-requires : goal.identifier_at-requires
 identifier_at-requires c = record { head_at = head_at _ c.requires.s_value; row_bound = row_below _ c.requires.s_value c.loop-k.k _ (omega arith) c.row_of-row.ensures }

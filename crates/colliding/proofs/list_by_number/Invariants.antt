@@ -1,12 +1,9 @@
 -- `colliding::list_by_number` meets its contract. The loop's invariant: the splits with numbers below k are listed. Assumes nothing.
 use Prim.Native.Nat.{◌-◌, ◌≤◌}
 use mathlib.Core.Path.{◌≡◌}
-use native.Mathlib.Omega.{arith}
 use Rattle.trees.specs.Opening.{most_room}
 use Rattle.layout.specs.Store.{splits_held_at}
 use Rattle.colliding.specs.Collisions.{Numbered}
-use Rattle.colliding.specs.PlacedLaws.{head_at, held-most}
-use Rattle.colliding.specs.CollisionLaws.{row_below, numbered_more}
 use Rattle.colliding.proofs.list_by_number.Given as goal
 
 abbrev pub invariant-loop-k : goal.invariant-loop-k

@@ -3,7 +3,6 @@ use native.Mathlib.Omega.{arith}
 use mathlib.Core.Path.{◌≡◌}
 use Rattle.layout.specs.InsideLaws.{places-few}
 use Rattle.store.specs.ChainLaws.{link-falls}
-use Rattle.colliding.specs.Collisions.{PlacedPart}
 use Rattle.colliding.specs.PlacedLaws.{head_at, held-most, part-starts, part-more, part-ends}
 use Rattle.colliding.proofs.note_place.Goals as goal
 

@@ -1,8 +1,6 @@
-use Prim.Native.Nat.{◌-◌, ◌≤◌}
 use mathlib.Core.Path.{◌≡◌}
 use native.Mathlib.Omega.{arith}
 use Rattle.head.specs.Head.{numbers_at}
-use Rattle.colliding.specs.Collisions.{Placed}
 use Rattle.colliding.specs.PlacedLaws.{head_at}
 use Rattle.colliding.proofs.note_places.Goals as goal
 

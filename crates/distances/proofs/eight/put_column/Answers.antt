@@ -1,19 +1,19 @@
-use Rattle.std.proofs.Common.{◌≡◌, ℕ, ◌+◌, ◌-◌, ◌*◌, ◌%◌, ◌≤◌, length, get_or, sym, ap, ◌∙◌, zero-add, arith}
-use Rattle.distances.specs.Eight.{byte_at, Column}
+use Rattle.std.proofs.Common.{◌≡◌, ℕ, ◌+◌, ◌-◌, ◌*◌, ◌%◌, get_or, sym, ap, ◌∙◌, zero-add, arith}
+use Rattle.distances.specs.Eight.{byte_at}
 use Rattle.distances.specs.EightLaws.{column-none, column-more, bytes_next, byte-first}
 use Rattle.distances.proofs.eight.put_column.Goals as goal
 
 pub loop-b-init : goal.loop-b-init
 loop-b-init c = (omega arith, c.requires.out_len, column-none _ _ _ _ _, λ a. ap (byte_at c.args.w) (sym (zero-add a)))
 
-pub bounds-sizes-i : goal.bounds-sizes-i
-bounds-sizes-i c = let f = c.requires.fits in omega (arith, f.there.0, f.trees)
-
 pub overflow_add-out : goal.overflow_add-out
-overflow_add-out c = let r = bounds-sizes-i c in omega (arith, c.requires.fits.there.0)
+overflow_add-out c = let f = c.requires.fits in omega (arith, f.there.0, f.trees, c.requires.fits.there.0)
 
 pub offset_bounds-sizes-i : goal.offset_bounds-sizes-i
 offset_bounds-sizes-i c = omega (arith, c.requires.fits.there.0)
+
+pub bounds-sizes-i : goal.bounds-sizes-i
+bounds-sizes-i c = let f = c.requires.fits in omega (arith, f.there.0, f.trees)
 
 pub offset_bounds-sizes-j : goal.offset_bounds-sizes-j
 offset_bounds-sizes-j c = omega (arith, c.requires.fits.there.1)

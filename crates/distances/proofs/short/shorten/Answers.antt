@@ -1,6 +1,5 @@
-use Rattle.std.proofs.Common.{◌≡◌, ◌-◌, ◌≤◌, arith}
+use Rattle.std.proofs.Common.{◌≡◌, arith}
 use Rattle.layout.specs.InsideLaws.{trees-few}
-use Rattle.distances.specs.Short.{Shortened}
 use Rattle.distances.specs.ShortLaws.{short-few, shortened-none, shortened-more}
 use Rattle.distances.specs.WholeTreeLaws.{head_at}
 use Rattle.distances.proofs.short.shorten.Goals as goal
@@ -16,13 +15,14 @@ overflow_cast-sizes c =
     let l = c.loop-i in
     omega (arith, c.shorten_tree-size.ensures.value, short-few c.args.s.now c.requires.s_value l.i (omega (arith, c.requires.n_bound)))
 
+pub offset_bounds-sizes-i : goal.offset_bounds-sizes-i
+offset_bounds-sizes-i c = let l = c.loop-i in
+    omega (arith, c.requires.n_bound, trees-few _ (head_at _ c.requires.s_value))
+
 pub bounds-sizes-i : goal.bounds-sizes-i
 bounds-sizes-i c =
     let l = c.loop-i in
     omega (arith, c.requires.n_bound, trees-few _ (head_at _ c.requires.s_value))
-
-pub offset_bounds-sizes-i : goal.offset_bounds-sizes-i
-offset_bounds-sizes-i c = let r = bounds-sizes-i c in omega arith
 
 pub loop-i-preserved : goal.loop-i-preserved
 loop-i-preserved c =
