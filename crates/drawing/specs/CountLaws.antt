@@ -3,7 +3,7 @@
 --   search-here, search-next, search-end     the mask stands at place j, stands behind it, is not among them
 --   counted-length                           there are as many counts
 --   count-found                              what is found of a mask of the list is its count
-use Rattle.std.specs.Prelude.{ℕ, ◌+◌, ◌≤◌, ◌<◌, ◌≡◌, refl, ◌⊎◌, Bool, true, false, List, ◌∷◌, map, eqb, length, get_or, drop}
+use Rattle.std.specs.Prelude.{ℕ, ◌+◌, ◌≤◌, ◌<◌, ◌≡◌, refl, ◌⊎◌, Bool, true, false, List, [], ◌∷◌, map, eqb, length, get_or, drop}
 use Rattle.std.proofs.Math.Numerals.{add-one}
 use Rattle.std.proofs.Common.{arith, sym, ap, ◌∙◌, inl, inr, drop_of_length-le, eqb-true}
 use Rattle.std.proofs.lemmas.List.{length-map}
@@ -32,6 +32,7 @@ module _ (ms cs : List ℕ) (x j : ℕ) where
 
 found : (f : ℕ → ℕ) (ms : List ℕ) (x : ℕ) → Mem x ms → count_in ms (map f ms) x ≡ f x
 unfolding count_in
+found f [] x k = elim k [ ]
 found f (m ∷ ms) x k = go (eqb m x) refl k (found f ms x)
   where
     go : (b : Bool) → eqb m x ≡ b → (x ≡ m) ⊎ Mem x ms → (Mem x ms → count_in ms (map f ms) x ≡ f x) → (if b then f m else count_in ms (map f ms) x) ≡ f x

@@ -5,7 +5,7 @@
 --   groups-are, counts-are       its splits and their counts, as they are found
 --   groups-counted               these are counts of those
 --   root_none, root-put          of no trees nothing is put; else the branches of all taxa
-use Rattle.std.specs.Prelude.{ℕ, ◌+◌, ◌≤◌, ◌≡◌, true, length, take, drop}
+use Rattle.std.specs.Prelude.{ℕ, ◌≤◌, ◌≡◌, true, length, take, drop}
 use Rattle.std.proofs.Common.{arith, sym, ap, ◌∙◌, take_at, eq-eqb, ne_eqb}
 use mathlib.Core.List.{List, [], ◌∷◌, ◌++◌, map, flat_map}
 use Rattle.std.specs.Int.Count.{ones}

@@ -110,6 +110,7 @@ mem_below (suc n) j l = go (equal_or_not j n) (λ k. mem_below n j k)
 
 pub below-mem : (n j : ℕ) → Mem j (below n) → j < n
 unfolding below
+below-mem zero j x' = elim x' [ ]
 below-mem (suc n) j (inl e) = omega arith
 below-mem (suc n) j (inr m) = let h = below-mem n j m in omega arith
 
