@@ -94,13 +94,7 @@ fn put_split(mask: u64, count: u32, out: &mut [u8], before: Waiting) -> Waiting 
 }
 
 // Prints all that waits and the two trees of the file.
-fn show_trees(
-    rt: &impl Env,
-    file: &[u8],
-    lent: &[u8],
-    out: &mut [u8],
-    before: Waiting,
-) -> u32
+fn show_trees(rt: &impl Env, file: &[u8], lent: &[u8], out: &mut [u8], before: Waiting) -> u32
     ensures { result ≤ 2 }
 {
     let majority = put_majority(file, lent, out, before);
