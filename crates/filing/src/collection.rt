@@ -88,6 +88,7 @@ fn taxa_in(line: &[u8]) -> u32
 }
 
 // 1, where b is a space outside quotes; else 0.
+#[tactic(auto, unfolding(crate::specs::Names::spaces_at))]
 fn space_at(quoted: bool, b: u8) -> usize
     ensures { (result ≡ spaces_at quoted b) × (result ≤ 1) }
 {
@@ -101,6 +102,7 @@ fn space_at(quoted: bool, b: u8) -> usize
 }
 
 // Whether quotes are open behind b.
+#[tactic(auto, unfolding(trees::specs::Text::turned))]
 fn turn_quotes(quoted: bool, b: u8) -> bool
     ensures { result ≡ turned quoted b }
 {
@@ -111,6 +113,7 @@ fn turn_quotes(quoted: bool, b: u8) -> bool
 }
 
 // One more than so many spaces; 0, where that is more than there can be taxa.
+#[tactic(auto, unfolding(crate::specs::Names::taxa_of))]
 fn one_more(spaces: usize) -> u32
     ensures upper_bound { result ≤ 64 }
     ensures value { result ≡ taxa_of (spaces + 1) }

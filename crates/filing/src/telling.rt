@@ -56,6 +56,7 @@ pub(crate) fn tell(name: &[u8], k: u32) -> Waiting
 }
 
 // Puts the lines of the verdicts that are refusals, of texts behind `first` others of their file. Texts are counted from 1.
+#[tactic(auto, using(crate::specs::VerdictLaws::verdict_laws))]
 pub fn put_verdicts(
     out: &mut [u8],
     name: &[u8],
