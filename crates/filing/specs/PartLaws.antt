@@ -17,3 +17,6 @@ begins-whole s t r e = e ∙ ap (same_bytes (take (length t) s)) (take-length t)
 
 pub begins-longer : (s t : List ℕ) → length s < length t → same_bytes (take (length t) s) t ≡ false
 begins-longer s t h = run-unlike (take (length t) s) t (λ e. let l = length-take (length t) s in omega (arith, l, e, h))
+
+-- bytes of other lengths differ, and no bytes begin with longer ones
+pub ruleset by_length = (run-unlike, begins-longer)

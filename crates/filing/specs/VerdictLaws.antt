@@ -27,3 +27,5 @@ module _ (v : List ℕ) (i : ℕ) where
   pub verdicts-none : length v ≤ i → refused_in (drop i v) ≡ 0
   unfolding refused_in keep
   verdicts-none h = rw (drop_of_length-le v h)
+
+pub ruleset verdict_laws = (verdict-refused, verdict-accepted, verdicts-none)

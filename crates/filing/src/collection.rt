@@ -5,8 +5,9 @@ ghost use Rattle.trees.specs.Text.{turned};
 ghost use Rattle.trees.specs.Names.{name_count};
 ghost use Rattle.filing.specs.Names.{taxa_of, spaces_at};
 
-use crate::{parts, reading, telling};
+use crate::{arguments, parts, reading, telling};
 use answers::Finish;
+use std::rt::{Env, Files};
 
 // The rooms, and as many hash places as they allow.
 const TREE_ROOM: u32 = 1024;
@@ -17,22 +18,36 @@ const PLACES: u32 = 8192;
 
 // Opens a collection of so many lanes in the lent bytes over the names in the first line of the file that argument i names. The file is
 // read into `names`. Answers the number of taxa; 0, where that is told to be impossible.
-pub fn open_names(program: &[u8], i: usize, lanes: u32, names: &mut [u8], lent: &mut [u8]) -> u32
+pub fn open_names<R: Env + Files + Input>(
+    rt: &R,
+    program: &[u8],
+    i: usize,
+    lanes: u32,
+    names: &mut [u8],
+    lent: &mut [u8],
+) -> u32
     ensures { result ≤ 64 }
 {
     let mut path = io::buffer();
-    let n = os::arg(i, &mut path);
-    if !reading::is_named(program) {
+    let had = rt.arg(i, &mut path);
+    if !reading::is_named(program, had) {
         return 0;
     }
-    open_file(&path[..n], lanes, names, lent)
+    let n = arguments::bytes_of(had, &path);
+    open_file(rt, &path[..n], lanes, names, lent)
 }
 
 // The same of the file of this name.
-fn open_file(path: &[u8], lanes: u32, names: &mut [u8], lent: &mut [u8]) -> u32
+fn open_file<R: Files + Input>(
+    rt: &R,
+    path: &[u8],
+    lanes: u32,
+    names: &mut [u8],
+    lent: &mut [u8],
+) -> u32
     ensures { result ≤ 64 }
 {
-    let held = reading::read_named(path, false, names);
+    let held = reading::read_named(rt, path, false, names);
     if !held.is_good {
         return 0;
     }
@@ -73,6 +88,7 @@ fn taxa_in(line: &[u8]) -> u32
 }
 
 // 1, where b is a space outside quotes; else 0.
+#[tactic(auto, unfolding(crate::specs::Names::spaces_at))]
 fn space_at(quoted: bool, b: u8) -> usize
     ensures { (result ≡ spaces_at quoted b) × (result ≤ 1) }
 {
@@ -86,6 +102,7 @@ fn space_at(quoted: bool, b: u8) -> usize
 }
 
 // Whether quotes are open behind b.
+#[tactic(auto, unfolding(trees::specs::Text::turned))]
 fn turn_quotes(quoted: bool, b: u8) -> bool
     ensures { result ≡ turned quoted b }
 {
@@ -96,6 +113,7 @@ fn turn_quotes(quoted: bool, b: u8) -> bool
 }
 
 // One more than so many spaces; 0, where that is more than there can be taxa.
+#[tactic(auto, unfolding(crate::specs::Names::taxa_of))]
 fn one_more(spaces: usize) -> u32
     ensures upper_bound { result ≤ 64 }
     ensures value { result ≡ taxa_of (spaces + 1) }

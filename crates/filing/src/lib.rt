@@ -7,6 +7,7 @@
 //
 //     within, numbers_within        so many elements of a list as there are
 //     same, begins                  bytes compared
+//     argument, arguments_within    an argument, and how many there are
 //     name_at                       an argument that names a file
 //     read_file                     a file, whole
 //     begin_file, next_piece, read_rest     a file by pieces, or what is left of it
@@ -17,16 +18,19 @@
 //     open_names                    a collection
 #![tactic(auto)]
 
+mod arguments;
 mod collection;
+mod failing;
 mod parts;
 mod reading;
 mod saving;
 mod telling;
 mod waiting;
 
+pub use arguments::{argument, arguments_within};
 pub use collection::open_names;
 pub use parts::{begins, numbers_within, same, within};
-pub use reading::{Held, Named, begin_file, name_at, next_piece, read_file, read_rest};
+pub use reading::{Held, Named, Source, begin_file, name_at, next_piece, read_file, read_rest};
 pub use saving::save_answer;
 pub use telling::{Told, put_closing, put_verdicts, tell_refused, tell_refused_argument};
-pub use waiting::{Waiting, flush, nothing_waits, put, put_counted};
+pub use waiting::{STDERR_FILENO, STDOUT_FILENO, Waiting, flush, nothing_waits, put, put_counted};

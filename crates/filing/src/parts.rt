@@ -28,6 +28,7 @@ pub fn numbers_within(n: usize, list: &[u32]) -> usize
 }
 
 // Whether two lists of bytes are the same.
+#[tactic(auto, using(crate::specs::PartLaws::by_length))]
 pub fn same(s: &[u8], t: &[u8]) -> bool
     ensures { result ≡ same_bytes s.now t.now }
 {
@@ -38,6 +39,7 @@ pub fn same(s: &[u8], t: &[u8]) -> bool
 }
 
 // Whether s begins with t.
+#[tactic(auto, using(crate::specs::PartLaws::by_length))]
 pub fn begins(s: &[u8], t: &[u8]) -> bool
     ensures { result ≡ same_bytes (take (length t.now) s.now) t.now }
 {

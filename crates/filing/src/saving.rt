@@ -1,22 +1,33 @@
 // A file that is written: first under another name beside it, so that it is never left half written.
 ghost use Rattle.filing.specs.Saving.{SavedAs};
 
-use crate::{parts, telling};
+use crate::waiting::STDERR_FILENO;
+use crate::{arguments, parts, telling};
 use answers::Number;
-use libc::STDERR_FILENO;
+use std::fs;
+use std::fs::OpenFile;
+use std::io::Write;
+use std::rt::{Env, Files};
 
 // What stands behind the name while the file is written.
 const PART: usize = 5;
 
 // Writes the bytes that a call left in `file` to the file that argument i names, and answers whether that was done. What a call refused is
 // told under the name `what`.
-pub fn save_answer(program: &[u8], i: usize, what: &[u8], answer: Number, file: &[u8]) -> bool
+pub fn save_answer<R: Env + Files>(
+    rt: &R,
+    program: &[u8],
+    i: usize,
+    what: &[u8],
+    answer: Number,
+    file: &[u8],
+) -> bool
     ensures { SavedAs answer result }
 {
     match answer {
         Number::Gives(n) => {
             let k = parts::front(n, file);
-            save(program, i, &file[..k])
+            save(rt, program, i, &file[..k])
         }
         Number::Refused(r) => {
             telling::tell(what, answers::refusal_number(r));
@@ -26,10 +37,11 @@ pub fn save_answer(program: &[u8], i: usize, what: &[u8], answer: Number, file: 
 }
 
 // Writes the bytes to the file that argument i names, and answers whether that was done.
-fn save(program: &[u8], i: usize, bytes: &[u8]) -> bool {
+fn save<R: Env + Files>(rt: &R, program: &[u8], i: usize, bytes: &[u8]) -> bool {
     let mut path = io::buffer();
-    let n = os::arg(i, &mut path);
-    if save_named(&path[..n], bytes) {
+    let had = rt.arg(i, &mut path);
+    let n = arguments::bytes_of(had, &path);
+    if save_named(rt, &path[..n], bytes) {
         return true;
     }
     tell_failed(program, &path[..n]);
@@ -45,7 +57,7 @@ fn tell_failed(program: &[u8], path: &[u8]) {
 }
 
 // Writes the bytes to the file of this name.
-fn save_named(path: &[u8], bytes: &[u8]) -> bool {
+fn save_named<R: Files>(rt: &R, path: &[u8], bytes: &[u8]) -> bool {
     let n = path.len();
     if 4095 - PART < n {
         return false;
@@ -53,34 +65,34 @@ fn save_named(path: &[u8], bytes: &[u8]) -> bool {
     let mut part = io::buffer();
     fields::copy_from(&mut part, 0, path, 0, n);
     fields::copy_from(&mut part, n, b".part", 0, PART);
-    replace(&part[..n + PART], path, bytes)
+    replace_named(rt, &part[..n + PART], path, bytes)
+}
+
+// The same with the name of the file beside it. A name that is no UTF-8 cannot be written to.
+fn replace_named<R: Files>(rt: &R, part: &[u8], path: &[u8], bytes: &[u8]) -> bool {
+    match (std::str::from_utf8(part), std::str::from_utf8(path)) {
+        (Ok(part), Ok(path)) => replace(rt, part, path, bytes),
+        _ => false,
+    }
 }
 
 // Writes the bytes to a file beside the one of this name, and puts it in that one's place.
-fn replace(part: &[u8], path: &[u8], bytes: &[u8]) -> bool {
-    let fd = os::open_overwrite(part);
-    if fd < 0 {
+fn replace<R: Files>(rt: &R, part: &str, path: &str, bytes: &[u8]) -> bool {
+    let Ok(file) = fs::create(rt, part) else {
         return false;
-    }
-    if write(fd, bytes) {
-        if os::rename(part, path) == 0 {
+    };
+    if write(file, bytes) {
+        if fs::rename(rt, part, path).is_ok() {
             return true;
         }
     }
-    os::unlink(part);
+    let _ = fs::remove_file(rt, part);
     false
 }
 
 // Writes the bytes, sees that they are kept, and closes the file.
-fn write(fd: i32, bytes: &[u8]) -> bool {
-    let is_written = io::write_all(fd, bytes);
-    let kept = libc::fsync(fd);
-    let closed = libc::close(fd);
-    if !is_written {
-        return false;
-    }
-    if kept != 0 {
-        return false;
-    }
-    closed == 0
+fn write<F: Write + OpenFile + Drop>(mut file: F, bytes: &[u8]) -> bool {
+    let is_written = file.write_all(bytes).is_ok();
+    let is_kept = file.sync_all().is_ok();
+    is_written && is_kept
 }

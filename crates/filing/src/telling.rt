@@ -4,10 +4,10 @@ ghost use Rattle.io.specs.Counts.{IsPrefixLen};
 ghost use Rattle.answers.specs.Answers.{finish_given};
 ghost use Rattle.trees.specs.Batch.{refused_in, refused_after};
 
-use crate::waiting::Waiting;
-use crate::{parts, waiting};
+use crate::waiting::{STDERR_FILENO, Waiting};
+use crate::{arguments, parts, waiting};
 use answers::{Finish, Number};
-use libc::STDERR_FILENO;
+use std::rt::Env;
 
 // The least verdict that is no refusal: an accepted tree's number is given with 256 added.
 const TAKEN: u32 = 256;
@@ -20,18 +20,19 @@ const NOTHING_TOLD: Waiting = Waiting {
 };
 
 // What waits behind verdicts, and how many of them are refusals.
-#[derive(Drop)]
+#[derive(Clone, Copy)]
 pub struct Told {
     pub waiting: Waiting,
     pub refused: usize,
 }
 
 // Tells that what argument i names is refused with the number k. Nothing waits behind it.
-pub fn tell_refused_argument(i: usize, k: u32) -> Waiting
+pub fn tell_refused_argument(rt: &impl Env, i: usize, k: u32) -> Waiting
     ensures { result.bytes ≡ 0 }
 {
     let mut path = io::buffer();
-    let n = os::arg(i, &mut path);
+    let had = rt.arg(i, &mut path);
+    let n = arguments::bytes_of(had, &path);
     tell(&path[..n], k)
 }
 
@@ -55,6 +56,7 @@ pub(crate) fn tell(name: &[u8], k: u32) -> Waiting
 }
 
 // Puts the lines of the verdicts that are refusals, of texts behind `first` others of their file. Texts are counted from 1.
+#[tactic(auto, using(crate::specs::VerdictLaws::verdict_laws))]
 pub fn put_verdicts(
     out: &mut [u8],
     name: &[u8],

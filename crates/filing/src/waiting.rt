@@ -3,8 +3,13 @@ ghost use Rattle.std.specs.Prelude.{◌≡◌, ◌≤◌, length};
 
 use crate::parts;
 
+// Standard output and standard error.
+pub const STDOUT_FILENO: i32 = 1;
+
+pub const STDERR_FILENO: i32 = 2;
+
 // The bytes that wait, for which descriptor, and whether every write so far went well.
-#[derive(Drop)]
+#[derive(Clone, Copy)]
 pub struct Waiting {
     pub fd: i32,
     pub bytes: usize,

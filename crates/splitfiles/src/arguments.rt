@@ -1,4 +1,6 @@
 // What the program's arguments ask for. The first is its own name.
+use filing::STDERR_FILENO;
+use std::rt::Env;
 
 // Which use is asked for.
 pub(crate) const NONE: u32 = 0;
@@ -9,11 +11,14 @@ pub(crate) const MERGE: u32 = 2;
 
 pub(crate) const SHOW: u32 = 3;
 
+// The most arguments that a use has.
+const MOST: usize = 6;
+
 // The use that the arguments ask for.
-pub(crate) fn asked() -> u32 {
+pub(crate) fn asked(rt: &impl Env) -> u32 {
     let mut word = io::buffer();
-    let n = os::arg(1, &mut word);
-    use_of(&word[..n], os::arg_count())
+    let n = filing::argument(rt, 1, &mut word);
+    use_of(&word[..n], filing::arguments_within(rt, MOST + 1))
 }
 
 // The use of this word with so many arguments.
@@ -39,15 +44,15 @@ pub(crate) fn names_of(kind: u32) -> usize {
 // Says on standard error how the program is used.
 pub(crate) fn tell_use() {
     io::write_all(
-        libc::STDERR_FILENO,
+        STDERR_FILENO,
         b"splitfiles write OUT NAMES TREES     the splits of the trees in TREES, as a split file OUT\n",
     );
     io::write_all(
-        libc::STDERR_FILENO,
+        STDERR_FILENO,
         b"splitfiles merge OUT NAMES A B       two split files, merged into OUT\n",
     );
     io::write_all(
-        libc::STDERR_FILENO,
+        STDERR_FILENO,
         b"splitfiles show NAMES FILE           what a split file holds, on standard output\n",
     );
 }

@@ -2,6 +2,7 @@
 ghost use Rattle.std.specs.Prelude.{◌≤◌};
 
 use answers::Both;
+use std::rt::{Env, Files};
 
 // The arguments.
 const OUT: usize = 2;
@@ -14,36 +15,48 @@ const SECOND: usize = 5;
 const SHORT: u32 = 4;
 
 // Merges the bytes of the first file and the second file, which is read once the first is known to be a split file.
-pub(crate) fn merge(first: &[u8], lent: &[u8], second: &mut [u8], file: &mut [u8]) -> u32
+pub(crate) fn merge<R: Env + Files + Input>(
+    rt: &R,
+    first: &[u8],
+    lent: &[u8],
+    second: &mut [u8],
+    file: &mut [u8],
+) -> u32
     ensures { result ≤ 2 }
 {
-    if !is_split_file(FIRST, first, lent) {
+    if !is_split_file(rt, FIRST, first, lent) {
         return 2;
     }
-    let held = filing::read_file(b"splitfiles", SECOND, false, second);
+    let held = filing::read_file(rt, b"splitfiles", SECOND, false, second);
     if !held.is_good {
         return 2;
     }
     let n = filing::within(held.bytes, second);
-    merge_bytes(first, &second[..n], lent, file)
+    merge_bytes(rt, first, &second[..n], lent, file)
 }
 
 // Merges the bytes of two files.
-fn merge_bytes(first: &[u8], second: &[u8], lent: &[u8], file: &mut [u8]) -> u32
+fn merge_bytes<R: Env + Files>(
+    rt: &R,
+    first: &[u8],
+    second: &[u8],
+    lent: &[u8],
+    file: &mut [u8],
+) -> u32
     ensures { result ≤ 2 }
 {
-    if !is_split_file(SECOND, second, lent) {
+    if !is_split_file(rt, SECOND, second, lent) {
         return 2;
     }
     let answer = splitfile::merge(lent, first, second, file);
-    if filing::save_answer(b"splitfiles", OUT, b"merge", answer, file) {
+    if filing::save_answer(rt, b"splitfiles", OUT, b"merge", answer, file) {
         return 0;
     }
     2
 }
 
 // Whether the bytes of the file that argument i names are a split file, and tells where they are none.
-fn is_split_file(i: usize, bytes: &[u8], lent: &[u8]) -> bool {
+fn is_split_file(rt: &impl Env, i: usize, bytes: &[u8], lent: &[u8]) -> bool {
     let k = refusal(bytes, lent);
     if k == 0 {
         return true;
@@ -51,7 +64,7 @@ fn is_split_file(i: usize, bytes: &[u8], lent: &[u8]) -> bool {
     if k == SHORT {
         return true;
     }
-    filing::tell_refused_argument(i, k);
+    filing::tell_refused_argument(rt, i, k);
     false
 }
 

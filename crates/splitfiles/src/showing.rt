@@ -2,14 +2,14 @@
 ghost use Rattle.std.specs.Prelude.{◌≤◌};
 
 use answers::{Both, Number};
-use filing::Waiting;
-use libc::{STDERR_FILENO, STDOUT_FILENO};
+use filing::{STDERR_FILENO, STDOUT_FILENO, Waiting};
+use std::rt::Env;
 
 // The argument.
 const FILE: usize = 3;
 
 // What waits behind a tree, and what its call answered.
-#[derive(Drop)]
+#[derive(Clone, Copy)]
 struct Shown {
     pub waiting: Waiting,
     pub answer: Number,
@@ -17,6 +17,7 @@ struct Shown {
 
 // Prints what the bytes of the file hold.
 pub(crate) fn show(
+    rt: &impl Env,
     taxa: u32,
     file: &[u8],
     lent: &[u8],
@@ -27,15 +28,16 @@ pub(crate) fn show(
 {
     match splitfile::read_splits(lent, file, masks, counts) {
         Both::Refused(r) => {
-            filing::tell_refused_argument(FILE, answers::refusal_number(r));
+            filing::tell_refused_argument(rt, FILE, answers::refusal_number(r));
             2
         }
-        Both::Gives(trees, n) => show_records(taxa, trees, file, lent, masks, counts, n),
+        Both::Gives(trees, n) => show_records(rt, taxa, trees, file, lent, masks, counts, n),
     }
 }
 
 // Prints the counts, the n splits and the two trees of the file.
 fn show_records(
+    rt: &impl Env,
     taxa: u32,
     trees: usize,
     file: &[u8],
@@ -49,7 +51,7 @@ fn show_records(
     let mut out = [0u8; 512];
     let counted = put_counts(taxa, trees, n, &mut out);
     let listed = put_splits(masks, counts, n, &mut out, counted);
-    show_trees(file, lent, &mut out, listed)
+    show_trees(rt, file, lent, &mut out, listed)
 }
 
 // Puts the line of the counts. Of how many trees a file without records is, is not known.
@@ -92,14 +94,14 @@ fn put_split(mask: u64, count: u32, out: &mut [u8], before: Waiting) -> Waiting 
 }
 
 // Prints all that waits and the two trees of the file.
-fn show_trees(file: &[u8], lent: &[u8], out: &mut [u8], before: Waiting) -> u32
+fn show_trees(rt: &impl Env, file: &[u8], lent: &[u8], out: &mut [u8], before: Waiting) -> u32
     ensures { result ≤ 2 }
 {
     let majority = put_majority(file, lent, out, before);
     let strict = put_strict(file, lent, out, majority.waiting);
     let all = filing::flush(out, strict);
     let answer = majority.answer;
-    status(all.is_good, answer)
+    status(rt, all.is_good, answer)
 }
 
 // Puts the line of the majority tree.
@@ -138,7 +140,7 @@ fn put_answer(answer: Number, text: &[u8], out: &mut [u8], before: Waiting) -> W
 }
 
 // The exit status. The strict splits are among the majority's, and agree where those do.
-fn status(is_written: bool, majority: Number) -> u32
+fn status(rt: &impl Env, is_written: bool, majority: Number) -> u32
     ensures { result ≤ 2 }
 {
     if !is_written {
@@ -147,17 +149,17 @@ fn status(is_written: bool, majority: Number) -> u32
     }
     match majority {
         Number::Gives(_) => 0,
-        Number::Refused(r) => status_refused(answers::refusal_number(r)),
+        Number::Refused(r) => status_refused(rt, answers::refusal_number(r)),
     }
 }
 
 // The exit status where no majority tree is given: the file is empty, or chosen splits disagree, which is told.
-fn status_refused(k: u32) -> u32
+fn status_refused(rt: &impl Env, k: u32) -> u32
     ensures { result ≤ 2 }
 {
     if k == 14 {
         return 0;
     }
-    filing::tell_refused_argument(FILE, k);
+    filing::tell_refused_argument(rt, FILE, k);
     1
 }

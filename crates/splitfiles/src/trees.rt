@@ -2,17 +2,23 @@
 ghost use Rattle.std.specs.Prelude.{◌≤◌};
 
 use answers::{Finish, Lane, Number};
-use filing::Waiting;
-use libc::STDERR_FILENO;
+use filing::{STDERR_FILENO, Waiting};
+use std::rt::Env;
 
 // Feeds the trees of the file that argument i names, tells which are refused, and answers the exit status: 2, where the file is refused.
-pub(crate) fn feed_all(i: usize, trees: &[u8], lent: &mut [u8], verdicts: &mut [u32]) -> u32
+pub(crate) fn feed_all(
+    rt: &impl Env,
+    i: usize,
+    trees: &[u8],
+    lent: &mut [u8],
+    verdicts: &mut [u32],
+) -> u32
     ensures { result ≤ 2 }
 {
     let answer = feed(trees, lent, verdicts);
     let closing = feeding::close(lent, Lane(0));
     let mut path = io::buffer();
-    let n = os::arg(i, &mut path);
+    let n = filing::argument(rt, i, &mut path);
     tell(&path[..n], answer, verdicts, closing)
 }
 

@@ -2,6 +2,7 @@
 ghost use Rattle.std.specs.Prelude.{◌≤◌};
 
 use crate::trees;
+use std::rt::{Env, Files};
 
 // The arguments.
 const OUT: usize = 2;
@@ -9,15 +10,21 @@ const OUT: usize = 2;
 const TREES: usize = 4;
 
 // Feeds the trees to the open collection, and writes its splits.
-pub(crate) fn write(trees: &[u8], lent: &mut [u8], verdicts: &mut [u32], file: &mut [u8]) -> u32
+pub(crate) fn write<R: Env + Files>(
+    rt: &R,
+    trees: &[u8],
+    lent: &mut [u8],
+    verdicts: &mut [u32],
+    file: &mut [u8],
+) -> u32
     ensures { result ≤ 2 }
 {
-    let status = trees::feed_all(TREES, trees, lent, verdicts);
+    let status = trees::feed_all(rt, TREES, trees, lent, verdicts);
     if status == 2 {
         return 2;
     }
     let answer = splitfile::write_splits(lent, file);
-    if filing::save_answer(b"splitfiles", OUT, b"write", answer, file) {
+    if filing::save_answer(rt, b"splitfiles", OUT, b"write", answer, file) {
         return status;
     }
     2

@@ -1,12 +1,13 @@
 // What the program's arguments ask for. The first is its own name; options stand before the names, each at most once.
 ghost use Rattle.std.specs.Prelude.{◌+◌, ◌≤◌};
 
-use libc::STDERR_FILENO;
+use filing::STDERR_FILENO;
+use std::rt::Env;
 use words::Number;
 
 // Which argument names the file of names: 0, where the program is not used so. Which ones stand behind the options `--matrix` and
 // `--apart`: 0, where they are not given. How many texts of each file are dropped. Whether `--splits` and `--newick` are given.
-#[derive(Drop)]
+#[derive(Clone, Copy)]
 pub(crate) struct Asked {
     pub names: usize,
     pub matrix: usize,
@@ -36,11 +37,11 @@ const UNKNOWN: usize = 6;
 const MOST_DROPPED: usize = 1000000;
 
 // Reads what is asked for.
-pub(crate) fn read() -> Asked {
+pub(crate) fn read(rt: &impl Env) -> Asked {
     let mut at = [0usize; 5];
-    let names = note_options(&mut at);
-    let dropped = dropped_by(at[DROP]);
-    let is_good = is_use(names, dropped, &at);
+    let names = note_options(rt, &mut at);
+    let dropped = dropped_by(rt, at[DROP]);
+    let is_good = is_use(rt, names, dropped, &at);
     Asked {
         names: if is_good { names } else { 0 },
         matrix: at[MATRIX],
@@ -53,11 +54,11 @@ pub(crate) fn read() -> Asked {
 
 // Notes for each option which argument stands behind it, and answers which one is no option; 0, where one is unknown, comes twice or has no
 // value. There is a turn for each option, and one more.
-fn note_options(at: &mut [usize; 5]) -> usize {
+fn note_options(rt: &impl Env, at: &mut [usize; 5]) -> usize {
     let mut i = 1;
     let mut turns = 6usize;
     while turns > 0 {
-        let k = kind_of(i);
+        let k = kind_of(rt, i);
         if k == NAME {
             return i;
         }
@@ -69,7 +70,7 @@ fn note_options(at: &mut [usize; 5]) -> usize {
         }
         i += 1;
         at[k] = i;
-        i = past_value(k, i);
+        i = past_value(rt, k, i);
         if i == 0 {
             return 0;
         }
@@ -79,7 +80,7 @@ fn note_options(at: &mut [usize; 5]) -> usize {
 }
 
 // Which argument stands behind the value of option k, which would be argument i; 0, where it wants one and there is none that can be had.
-fn past_value(k: usize, i: usize) -> usize
+fn past_value(rt: &impl Env, k: usize, i: usize) -> usize
     requires { i ≤ 64 }
     ensures { result ≤ i + 1 }
 {
@@ -89,25 +90,24 @@ fn past_value(k: usize, i: usize) -> usize
     if k == NEWICK {
         return i;
     }
-    if !can_be_had(i) {
+    if !can_be_had(rt, i) {
         return 0;
     }
     i + 1
 }
 
 // Whether there is an argument i, and it is not too long.
-fn can_be_had(i: usize) -> bool {
+fn can_be_had(rt: &impl Env, i: usize) -> bool {
     let mut word = io::buffer();
-    os::arg(i, &mut word);
-    os::errno() == 0
+    rt.arg(i, &mut word).is_ok()
 }
 
 // What argument i is. One that is not there is no option; of one that is too long the first bytes are looked at.
-fn kind_of(i: usize) -> usize
+fn kind_of(rt: &impl Env, i: usize) -> usize
     ensures { result ≤ 6 }
 {
     let mut word = io::buffer();
-    let n = os::arg(i, &mut word);
+    let n = filing::argument(rt, i, &mut word);
     if n == 0 {
         return no_option(&word);
     }
@@ -163,12 +163,12 @@ fn no_option(word: &[u8]) -> usize
 }
 
 // How many texts argument i says are dropped of each file: none for argument 0; one more than can be, where it is no such number.
-fn dropped_by(i: usize) -> usize {
+fn dropped_by(rt: &impl Env, i: usize) -> usize {
     if i == 0 {
         return 0;
     }
     let mut word = io::buffer();
-    let n = os::arg(i, &mut word);
+    let n = filing::argument(rt, i, &mut word);
     match words::decimal(&word, 0, n) {
         Number::Is(v) => most_dropped(v),
         Number::Nothing => MOST_DROPPED + 1,
@@ -184,11 +184,11 @@ fn most_dropped(v: u64) -> usize {
 }
 
 // Whether the program is used so: with names and a file behind them, and the two trees alone with nothing else.
-fn is_use(names: usize, dropped: usize, at: &[usize; 5]) -> bool {
+fn is_use(rt: &impl Env, names: usize, dropped: usize, at: &[usize; 5]) -> bool {
     if names == 0 {
         return false;
     }
-    if os::arg_count() <= std::num::wrapping_add_usize(names, 1) {
+    if count(rt) <= std::num::wrapping_add_usize(names, 1) {
         return false;
     }
     if MOST_DROPPED < dropped {
@@ -201,6 +201,11 @@ fn is_use(names: usize, dropped: usize, at: &[usize; 5]) -> bool {
         return false;
     }
     at[APART] == 0
+}
+
+// How many arguments there are.
+pub(crate) fn count(rt: &impl Env) -> usize {
+    filing::arguments_within(rt, usize::MAX)
 }
 
 // Says on standard error how the program is used.

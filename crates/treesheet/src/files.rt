@@ -1,8 +1,9 @@
 // The files of trees, fed to the collection one after another: Newick texts by pieces, a NEXUS file whole.
-use crate::texts;
 use crate::texts::{LOST, NOTHING, Tally};
+use crate::{arguments, texts};
 use answers::Lane;
 use filing::Held;
+use std::rt::{Env, Files};
 
 // How many bytes are fed at once: few, as long as texts are dropped, so that each makes room before many more come.
 const PIECE: usize = 65536;
@@ -13,7 +14,8 @@ const LONG_PIECE: usize = 1048576;
 pub(crate) const LANES: u32 = 8;
 
 // Takes every file that is named behind argument `names`, and drops the first texts of each.
-pub(crate) fn take_all(
+pub(crate) fn take_all<R: Env + Files + Input>(
+    rt: &R,
     names: usize,
     dropped: usize,
     file: &mut [u8],
@@ -21,12 +23,13 @@ pub(crate) fn take_all(
     verdicts: &mut [u32],
 ) -> Tally {
     let first = std::num::wrapping_add_usize(names, 1);
-    let files = std::num::wrapping_sub_usize(os::arg_count(), first);
+    let files = std::num::wrapping_sub_usize(arguments::count(rt), first);
     let mut all = NOTHING;
     let mut k = 0;
     while k < files {
         let i = std::num::wrapping_add_usize(first, k);
         all = take_file(
+            rt,
             i,
             Lane(k % LANES as usize),
             dropped,
@@ -44,7 +47,8 @@ pub(crate) fn take_all(
 }
 
 // Takes the file that argument i names.
-fn take_file(
+fn take_file<R: Env + Files + Input>(
+    rt: &R,
     i: usize,
     lane: Lane,
     dropped: usize,
@@ -54,18 +58,19 @@ fn take_file(
     before: Tally,
 ) -> Tally {
     let mut name = io::buffer();
-    let named = filing::name_at(b"treesheet", i, &mut name);
+    let named = filing::name_at(rt, b"treesheet", i, &mut name);
     if !named.is_good {
         return LOST;
     }
     let n = named.bytes;
     let mut begun = before;
     begun.texts = 0;
-    take_named(&name[..n], lane, dropped, file, lent, verdicts, begun)
+    take_named(rt, &name[..n], lane, dropped, file, lent, verdicts, begun)
 }
 
 // Takes the file with this name. What it begins with says which kind it is.
-fn take_named(
+fn take_named<R: Files + Input>(
+    rt: &R,
     name: &[u8],
     lane: Lane,
     dropped: usize,
@@ -75,28 +80,29 @@ fn take_named(
     before: Tally,
 ) -> Tally {
     let k = filing::within(piece_behind(0, dropped), file);
-    let held = filing::begin_file(name, true, &mut file[..k]);
+    let held = filing::begin_file(rt, name, true, &mut file[..k]);
     if !held.is_good {
         return LOST;
     }
     let n = filing::within(held.bytes, file);
     if filing::begins(&file[..n], b"#NEXUS") {
-        return take_nexus(name, held, dropped, file, lent, verdicts, before);
+        return take_nexus(rt, name, held, dropped, file, lent, verdicts, before);
     }
-    take_pieces(name, lane, held, dropped, file, lent, verdicts, before)
+    take_pieces(rt, name, lane, held, dropped, file, lent, verdicts, before)
 }
 
 // Takes a NEXUS file, of which the first piece is held.
-fn take_nexus(
+fn take_nexus<R: Files + Input>(
+    rt: &R,
     name: &[u8],
-    first: Held,
+    first: Held<R::File>,
     dropped: usize,
     file: &mut [u8],
     lent: &mut [u8],
     verdicts: &mut [u32],
     before: Tally,
 ) -> Tally {
-    let whole = filing::read_rest(name, file, first);
+    let whole = filing::read_rest(rt, name, file, first);
     if !whole.is_good {
         return LOST;
     }
@@ -106,10 +112,11 @@ fn take_nexus(
 }
 
 // Takes Newick texts, of which the first piece is held. The turns are so many that no run uses them up.
-fn take_pieces(
+fn take_pieces<R: Files + Input>(
+    rt: &R,
     name: &[u8],
     lane: Lane,
-    first: Held,
+    first: Held<R::File>,
     dropped: usize,
     file: &mut [u8],
     lent: &mut [u8],
@@ -124,7 +131,7 @@ fn take_pieces(
         if held.has_ended {
             return texts::take_end(name, lane, lent, tally);
         }
-        held = next_piece(name, piece_behind(tally.texts, dropped), file, held);
+        held = next_piece(rt, name, piece_behind(tally.texts, dropped), file, held);
         if !held.is_good {
             return LOST;
         }
@@ -139,9 +146,15 @@ fn piece_behind(texts: usize, dropped: usize) -> usize {
 }
 
 // Reads the next piece, of so many bytes.
-fn next_piece(name: &[u8], bytes: usize, file: &mut [u8], before: Held) -> Held {
+fn next_piece<R: Files + Input>(
+    rt: &R,
+    name: &[u8],
+    bytes: usize,
+    file: &mut [u8],
+    before: Held<R::File>,
+) -> Held<R::File> {
     let k = filing::within(bytes, file);
-    filing::next_piece(name, &mut file[..k], before)
+    filing::next_piece(rt, name, &mut file[..k], before)
 }
 
 // Takes the piece that the first n bytes are.

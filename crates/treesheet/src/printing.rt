@@ -4,14 +4,22 @@ ghost use Rattle.std.specs.Prelude.{◌≤◌};
 use crate::arguments::Asked;
 use crate::strains::NOBODY;
 use answers::{Number, Taxon};
-use libc::{STDERR_FILENO, STDOUT_FILENO};
+use filing::{STDERR_FILENO, STDOUT_FILENO};
 use release::{Apart, Wanted};
+use std::rt::{Env, Files};
 
 // Writes the matrix, if it is asked for, prints the sheet, and answers the exit status. `file` is for their bytes.
-pub(crate) fn print(asked: Asked, apart: u32, lent: &[u8], refused: usize, file: &mut [u8]) -> u32
+pub(crate) fn print<R: Env + Files>(
+    rt: &R,
+    asked: Asked,
+    apart: u32,
+    lent: &[u8],
+    refused: usize,
+    file: &mut [u8],
+) -> u32
     ensures { result ≤ 2 }
 {
-    if !save_matrix(asked.matrix, lent, file) {
+    if !save_matrix(rt, asked.matrix, lent, file) {
         return 2;
     }
     let wanted = Wanted {
@@ -23,12 +31,12 @@ pub(crate) fn print(asked: Asked, apart: u32, lent: &[u8], refused: usize, file:
 }
 
 // Writes the matrix to the file that argument i names, and answers whether that was done; argument 0 asks for none.
-fn save_matrix(i: usize, lent: &[u8], file: &mut [u8]) -> bool {
+fn save_matrix<R: Env + Files>(rt: &R, i: usize, lent: &[u8], file: &mut [u8]) -> bool {
     if i == 0 {
         return true;
     }
     let answer = phylip::write_matrix(lent, file);
-    filing::save_answer(b"treesheet", i, b"matrix", answer, file)
+    filing::save_answer(rt, b"treesheet", i, b"matrix", answer, file)
 }
 
 // The strain whose stand-ins are asked for.

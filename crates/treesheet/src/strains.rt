@@ -2,7 +2,8 @@
 ghost use Rattle.std.specs.Prelude.{◌<◌, ◌≤◌, length};
 
 use answers::Taxon;
-use libc::STDERR_FILENO;
+use filing::STDERR_FILENO;
+use std::rt::Env;
 
 // No strain is asked for; there is no such strain.
 pub(crate) const NOBODY: u32 = 64;
@@ -10,14 +11,14 @@ pub(crate) const NOBODY: u32 = 64;
 pub(crate) const UNKNOWN: u32 = 65;
 
 // The strain that argument i names, in the open collection. None of that name is told.
-pub(crate) fn asked_for(i: usize, taxa: u32, lent: &[u8]) -> u32
+pub(crate) fn asked_for(rt: &impl Env, i: usize, taxa: u32, lent: &[u8]) -> u32
     requires { taxa ≤ 64 }
 {
     if i == 0 {
         return NOBODY;
     }
     let mut name = io::buffer();
-    let named = filing::name_at(b"treesheet", i, &mut name);
+    let named = filing::name_at(rt, b"treesheet", i, &mut name);
     if !named.is_good {
         return UNKNOWN;
     }

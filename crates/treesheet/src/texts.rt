@@ -2,11 +2,11 @@
 // withdrawn again.
 use crate::dropping;
 use answers::{Finish, Lane, Number};
-use libc::STDERR_FILENO;
+use filing::STDERR_FILENO;
 
 // How many texts of the file that is being read there were, how many of all files are refused and withdrawn, and whether every file could
 // be read. A refused file counts as one text.
-#[derive(Drop)]
+#[derive(Clone, Copy)]
 pub(crate) struct Tally {
     pub texts: usize,
     pub refused: usize,

@@ -1,6 +1,6 @@
 // The last line that is told.
 use crate::texts::Tally;
-use libc::STDERR_FILENO;
+use filing::STDERR_FILENO;
 
 // Tells how many trees are held, and how many texts were refused and withdrawn.
 pub(crate) fn tell(lent: &[u8], all: Tally) {

@@ -1,5 +1,4 @@
 -- `comparing::collisions` meets its contract. Assumes nothing.
-use borrow.Author.Rules.{rules}
 use Rattle.answers.specs.AnswerLaws.{number-refused, number-given}
 use Rattle.opening.specs.GivenLaws.{failed, passed}
 use Rattle.store.specs.LentLaws.{not-whole}

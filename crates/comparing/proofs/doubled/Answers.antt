@@ -1,6 +1,5 @@
 -- `comparing::doubled` meets its contract. Assumes nothing.
 use native.Mathlib.Omega.{arith}
-use borrow.Author.Rules.{rules}
 use Rattle.trees.specs.Distance.{doubled}
 use Rattle.answers.specs.AnswerLaws.{number-refused}
 use Rattle.opening.specs.GivenLaws.{failed, passed}

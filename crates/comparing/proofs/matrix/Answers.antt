@@ -1,6 +1,5 @@
 -- `comparing::matrix` meets its contract. Assumes nothing.
 use native.Mathlib.Omega.{arith}
-use borrow.Author.Rules.{rules}
 use Rattle.answers.specs.AnswerLaws.{filled-refused}
 use Rattle.opening.specs.GivenLaws.{failed, passed}
 use Rattle.store.specs.LentLaws.{not-whole}

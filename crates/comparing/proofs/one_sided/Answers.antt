@@ -1,6 +1,5 @@
 -- `comparing::one_sided` meets its contract. Assumes nothing.
 use native.Mathlib.Omega.{arith}
-use borrow.Author.Rules.{rules}
 use Rattle.trees.specs.Distance.{one_sided}
 use Rattle.answers.specs.AnswerLaws.{number-refused}
 use Rattle.opening.specs.GivenLaws.{failed, passed}

@@ -1,7 +1,6 @@
 -- `comparing::weighted` meets its contract. Assumes nothing.
 use mathlib.Core.Path.{sym, ◌∙◌}
 use native.Mathlib.Omega.{arith}
-use borrow.Author.Rules.{rules}
 use Rattle.answers.specs.AnswerLaws.{weight-refused}
 use Rattle.opening.specs.GivenLaws.{failed, passed}
 use Rattle.store.specs.LentLaws.{not-whole}
@@ -29,12 +28,12 @@ kept-requires c = long _ (passed _ _ c.is_whole.ensures c.if-not-is_whole.false-
 pub returns-then-kept-eq0 : goal.returns-then-kept-eq0
 returns-then-kept-eq0 c =
     let w = passed _ _ c.is_whole.ensures c.if-not-is_whole.false-raw in
-    weight-refused _ _ (weighted-unkept _ w _ _ (omega arith) (omega arith) (omega (arith, (c.kept.ensures.value, c.kept.ensures.upper_bound))))
+    weight-refused _ _ (weighted-unkept _ w _ _ (omega arith) (omega arith) (omega (arith, c.kept.ensures.value)))
 
 pub weigh-requires : goal.weigh-requires
-weigh-requires c = record { s_value = passed _ _ c.is_whole.ensures c.if-not-is_whole.false-raw; bound = omega (arith, (c.kept.ensures.value, c.kept.ensures.upper_bound)); a_bound = (omega arith, omega arith) }
+weigh-requires c = record { s_value = passed _ _ c.is_whole.ensures c.if-not-is_whole.false-raw; bound = omega (arith, c.kept.ensures.value); a_bound = (omega arith, omega arith) }
 
 pub returns : goal.returns
 returns c =
     let w = passed _ _ c.is_whole.ensures c.if-not-is_whole.false-raw in
-    c.weigh.ensures ∙ sym (weighted-found _ w _ _ (omega arith) (omega arith) (λ z. omega (arith, (c.kept.ensures.value, c.kept.ensures.upper_bound))))
+    c.weigh.ensures ∙ sym (weighted-found _ w _ _ (omega arith) (omega arith) (λ z. omega (arith, c.kept.ensures.value)))

@@ -3,7 +3,6 @@ use mathlib.Core.Path.{refl, sym}
 use native.Mathlib.Omega.{arith}
 use lib.ListN.{take}
 use lib.Seq.{length-take-le}
-use borrow.Author.Rules.{rules}
 use Rattle.answers.specs.AnswerLaws.{filled-short, filled-given}
 use Rattle.consensus.specs.BothLaws.{copied-front}
 use Rattle.sheet.proofs.give.Goals as goal

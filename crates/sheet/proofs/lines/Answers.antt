@@ -1,6 +1,5 @@
 -- `sheet::lines` meets its contract. Assumes nothing.
 use native.Mathlib.Omega.{arith}
-use borrow.Author.Rules.{rules}
 use Rattle.opening.specs.GivenLaws.{failed, passed}
 use Rattle.layout.specs.WholeFacts.{whole-at-facts}
 use Rattle.layout.specs.InsideLaws.{trees-few}

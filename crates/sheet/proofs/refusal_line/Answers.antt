@@ -2,7 +2,6 @@
 use Prim.Native.Nat.{ℕ}
 use native.Mathlib.Omega.{arith}
 use lib.ListN.{replicate, length-replicate}
-use borrow.Author.Rules.{rules}
 use Rattle.putting.specs.PutLaws.{put-taken}
 use Rattle.sheet.specs.AskedLaws.{refusal-put, refusal-given}
 use Rattle.sheet.proofs.refusal_line.Goals as goal

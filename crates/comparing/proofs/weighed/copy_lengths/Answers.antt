@@ -1,10 +1,6 @@
-use Prim.Native.Nat.{◌≤◌, ◌-◌}
 use mathlib.Core.Path.{◌≡◌, refl, sym, ap, ◌∙◌}
-use mathlib.Core.Option.{some}
 use native.Mathlib.Omega.{arith}
-use borrow.Author.Rules.{rules}
-use lib.ListN.{length, take, length-set}
-use Rattle.trees.specs.Questions.{all_given}
+use lib.ListN.{length, length-set}
 use Rattle.doubles.specs.Stored.{branch_given}
 use Rattle.layout.specs.Store.{branches_at}
 use Rattle.layout.specs.WholeFacts.{whole-at-facts}

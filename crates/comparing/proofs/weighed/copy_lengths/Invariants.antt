@@ -1,18 +1,10 @@
 -- `comparing::weighed::copy_lengths` meets its contract. The loop's invariant: the first j lengths are given, and copied. Assumes nothing.
 use Prim.Native.Nat.{◌≤◌, ◌-◌}
-use mathlib.Core.Path.{◌≡◌, refl, sym, ap, ◌∙◌}
+use mathlib.Core.Path.{◌≡◌}
 use mathlib.Core.Option.{some}
-use native.Mathlib.Omega.{arith}
-use borrow.Author.Rules.{rules}
-use lib.ListN.{length, take, length-set}
+use lib.ListN.{length, take}
 use Rattle.trees.specs.Questions.{all_given}
-use Rattle.doubles.specs.Stored.{branch_given}
 use Rattle.layout.specs.Store.{branches_at}
-use Rattle.layout.specs.WholeFacts.{whole-at-facts}
-use Rattle.store.specs.BranchTestLaws.{branches-full}
-use Rattle.rows.specs.ReadLaws.{rows_at}
-use Rattle.comparing.specs.Weighed.{if_copied}
-use Rattle.comparing.specs.WeighedLaws.{absent-one, front-none, front-more, front-all, length-good}
 use Rattle.comparing.proofs.weighed.copy_lengths.Given as goal
 
 abbrev pub invariant-loop-j : goal.invariant-loop-j

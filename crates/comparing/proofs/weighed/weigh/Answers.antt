@@ -3,8 +3,6 @@
 use mathlib.Core.Path.{refl, sym, ◌∙◌}
 use native.Mathlib.Omega.{arith}
 use lib.Seq.{length-take-le}
-use borrow.Author.Rules.{rules}
-use borrow.Author.Tests.{not-true, not-false}
 use Rattle.answers.specs.AnswerLaws.{weight-refused, weight-given}
 use Rattle.layout.specs.WholeFacts.{whole-at-facts}
 use Rattle.rows.specs.ReadLaws.{rows_at}
@@ -36,13 +34,13 @@ pub slice_bounds-xs-end : goal.slice_bounds-xs-end
 slice_bounds-xs-end c = omega (arith, c.splits_in-n.ensures, (rows_at _ c.requires.s_value _ c.requires.a_bound.0).few)
 
 pub slice_bounds-weigh_given-end : goal.slice_bounds-weigh_given-end
-slice_bounds-weigh_given-end c = sym (length-take-le _ _ (omega (arith, c.copy_lengths.auto.1.1.0, c.splits_in-n.ensures, (rows_at _ c.requires.s_value _ c.requires.a_bound.0).few)))
+slice_bounds-weigh_given-end c = sym (length-take-le _ _ (omega (arith, c.copy_lengths.auto.lengths, c.splits_in-n.ensures, (rows_at _ c.requires.s_value _ c.requires.a_bound.0).few)))
 
 pub slice_bounds-ys-end : goal.slice_bounds-ys-end
 slice_bounds-ys-end c = omega (arith, c.splits_in-m.ensures, (rows_at _ c.requires.s_value _ c.requires.a_bound.1).few)
 
 pub slice_bounds-weigh_given-end-2 : goal.slice_bounds-weigh_given-end-2
-slice_bounds-weigh_given-end-2 c = sym (length-take-le _ _ (omega (arith, c.copy_lengths-2.auto.1.1.0, c.splits_in-m.ensures, (rows_at _ c.requires.s_value _ c.requires.a_bound.1).few)))
+slice_bounds-weigh_given-end-2 c = sym (length-take-le _ _ (omega (arith, c.copy_lengths-2.auto.lengths, c.splits_in-m.ensures, (rows_at _ c.requires.s_value _ c.requires.a_bound.1).few)))
 
 pub weigh_given-requires : goal.weigh_given-requires
 weigh_given-requires c =
@@ -53,8 +51,8 @@ weigh_given-requires c =
       s_value = c.requires.s_value;
       a_bound = c.requires.a_bound;
       xs_len = (
-        length-take-le _ _ (omega (arith, c.copy_lengths.auto.1.1.0, n, f)) ∙ n,
-        length-take-le _ _ (omega (arith, c.copy_lengths-2.auto.1.1.0, m, g)) ∙ m,
+        length-take-le _ _ (omega (arith, c.copy_lengths.auto.lengths, n, f)) ∙ n,
+        length-take-le _ _ (omega (arith, c.copy_lengths-2.auto.lengths, m, g)) ∙ m,
       );
     }
 

@@ -1,6 +1,5 @@
 -- `comparing::weighed::weigh_given` meets its contract. Assumes nothing.
 use native.Mathlib.Omega.{arith}
-use borrow.Author.Rules.{rules}
 use Rattle.layout.specs.WholeFacts.{whole-at-facts}
 use Rattle.rows.specs.ReadLaws.{rows_at}
 use Rattle.comparing.specs.WeighedLaws.{tree-front, tree-count, tree-rises, weighted-as}

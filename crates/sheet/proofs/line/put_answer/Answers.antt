@@ -1,7 +1,6 @@
 -- `sheet::line::put_answer` meets its contract. Assumes nothing.
 use native.Mathlib.Omega.{arith}
 use lib.ListN.{length-take}
-use borrow.Author.Rules.{rules}
 use Rattle.trees.specs.Plain.{bytes}
 use Rattle.sheet.specs.LineLaws.{shown-fits, answer-given, answer-none}
 use Rattle.sheet.proofs.line.put_answer.Goals as goal

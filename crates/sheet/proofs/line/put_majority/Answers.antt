@@ -2,7 +2,6 @@
 use Prim.Native.Nat.{ℕ}
 use native.Mathlib.Omega.{arith}
 use lib.ListN.{replicate, length-replicate}
-use borrow.Author.Rules.{rules}
 use Rattle.sheet.specs.LineLaws.{majority-shown, majority-put}
 use Rattle.sheet.proofs.line.put_majority.Goals as goal
 

@@ -2,7 +2,6 @@
 use Prim.Native.Nat.{ℕ}
 use native.Mathlib.Omega.{arith}
 use lib.ListN.{replicate, length-replicate}
-use borrow.Author.Rules.{rules}
 use Rattle.sheet.specs.LineLaws.{strict-shown, strict-put}
 use Rattle.sheet.proofs.line.put_strict.Goals as goal
 

@@ -1,6 +1,5 @@
 -- `sheet::line::tree_line` meets its contract. Assumes nothing.
 use native.Mathlib.Omega.{arith}
-use borrow.Author.Rules.{rules}
 use Rattle.putting.specs.PutLaws.{put_then}
 use Rattle.sheet.specs.LineLaws.{shown-word, shown-alone}
 use Rattle.sheet.proofs.line.tree_line.Goals as goal

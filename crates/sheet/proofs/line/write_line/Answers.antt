@@ -1,7 +1,6 @@
 -- `sheet::line::write_line` meets its contract: each line has its number. Assumes nothing.
 use native.Mathlib.Omega.{arith}
 use mathlib.Core.Path.{◌∙◌}
-use borrow.Author.Rules.{rules}
 use Rattle.trees.specs.Plain.{bytes}
 use Rattle.layout.specs.WholeFacts.{whole-at-facts}
 use Rattle.layout.specs.InsideLaws.{trees-few}
@@ -10,6 +9,12 @@ use Rattle.putting.specs.PutLaws.{put_as}
 use Rattle.sheet.specs.LineLaws.{majority-line, strict-line}
 use Rattle.sheet.specs.SheetLaws.{line-counts, line-split, line_row, line-majority, line-strict}
 use Rattle.sheet.proofs.line.write_line.Goals as goal
+
+pub splits_held-splits-requires : goal.splits_held-splits-requires
+splits_held-splits-requires c = long _ c.requires.s_value
+
+pub trees_held-trees-requires : goal.trees_held-trees-requires
+trees_held-trees-requires c = long _ c.requires.s_value
 
 pub returns-then-j-eq0 : goal.returns-then-j-eq0
 returns-then-j-eq0 c = record { put = put_as (line-counts _ c.requires.s_value _ _ c.if-j-eq0.true) c.put_counts.ensures.put; upper_bound = omega (arith, c.put_counts.ensures.upper_bound) }

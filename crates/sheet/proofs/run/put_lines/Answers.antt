@@ -1,12 +1,9 @@
-use Prim.Native.Nat.{ℕ, ◌-◌, ◌≤◌}
-use mathlib.Core.Path.{◌≡◌, ◌∙◌}
+use Prim.Native.Nat.{ℕ}
+use mathlib.Core.Path.{◌∙◌}
 use native.Mathlib.Omega.{arith}
-use lib.ListN.{length, length-replicate}
-use Rattle.layout.specs.Store.{held_at}
-use Rattle.sheet.specs.Sheet.{sheet_lines}
+use lib.ListN.{length-replicate}
 use Rattle.sheet.specs.SheetLaws.{sheet-length}
 use Rattle.putting.specs.PutLaws.{put-length, put-taken}
-use Rattle.sheet.specs.Run.{Printing}
 use Rattle.sheet.specs.RunLaws.{run-start, run_more, run_end, run-full, run_length}
 use Rattle.sheet.proofs.run.put_lines.Goals as goal
 

@@ -1,14 +1,10 @@
 -- `sheet::run::put_lines` meets its contract. The loop's invariant: the lines below j stand at the front of out, and the rest is still to come. Assumes nothing.
-use Prim.Native.Nat.{ℕ, ◌-◌, ◌≤◌}
-use mathlib.Core.Path.{◌≡◌, ◌∙◌}
-use native.Mathlib.Omega.{arith}
-use lib.ListN.{length, length-replicate}
+use Prim.Native.Nat.{◌-◌, ◌≤◌}
+use mathlib.Core.Path.{◌≡◌}
+use lib.ListN.{length}
 use Rattle.layout.specs.Store.{held_at}
 use Rattle.sheet.specs.Sheet.{sheet_lines}
-use Rattle.sheet.specs.SheetLaws.{sheet-length}
-use Rattle.putting.specs.PutLaws.{put-length, put-taken}
 use Rattle.sheet.specs.Run.{Printing}
-use Rattle.sheet.specs.RunLaws.{run-start, run_more, run_end, run-full, run_length}
 use Rattle.sheet.proofs.run.put_lines.Given as goal
 
 abbrev pub invariant-loop-j : goal.invariant-loop-j
