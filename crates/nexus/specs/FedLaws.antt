@@ -11,11 +11,11 @@ use Rattle.std.proofs.Math.ListN.{length}
 use Rattle.std.proofs.lemmas.List.{length-map}
 use Rattle.trees.specs.Plain.{Answer, gives}
 use Rattle.trees.specs.Names.{different}
-use Rattle.trees.specs.Held.{Held}
+use Rattle.trees.specs.Held.{Held, recording}
 use Rattle.trees.specs.Batch.{Batched, with_verdict}
 use Rattle.trees.specs.Nexus.{File}
 use Rattle.trees.specs.NexusReading.{read_file}
-use Rattle.trees.specs.NexusCall.{keys_of, replaced, plain_texts, handing, handed_in, nexus}
+use Rattle.trees.specs.NexusCall.{keys_of, replaced, on_text, plain_texts, handing, handed_in, nexus}
 use Rattle.theorems.specs.ListLaws.{if-true, if-false}
 use Rattle.answers.specs.declared.Refusal.{Refusal}
 use Rattle.answers.specs.declared.Refusal.TheVariants as why
@@ -31,10 +31,10 @@ pub nexus-refused : (x : Answer Batched) (s v : List ℕ) (r : Refusal) → x �
 unfolding NexusAs number_given
 nexus-refused x s v r e = rw e (refl, refl, refl)
 
-handing-length : (ts : List (List ℕ)) (h : Held) → length (handing h ts).verdicts ≡ length ts
+handing-length : (h : Held) (ts : List (List ℕ)) → length (handing h ts).verdicts ≡ length ts
 unfolding handing with_verdict
-handing-length [] h = refl
-handing-length (t ∷ ts) h = ap suc (handing-length ts _)
+handing-length h [] = refl
+handing-length h (t ∷ ts) = ap suc (handing-length (recording h (on_text h t)) ts)
 
 module _ (s f v : List ℕ) (w : whole_at s ≡ true) where
   nexus-whole : nexus_of s f (length v) ≡ nexus (held_at s) f (length v)
@@ -67,7 +67,7 @@ module _ (s f v : List ℕ) (w : whole_at s ≡ true) where
           given = unfold handed_in plain_texts in nexus-read ∙ if-true _ _ d ∙ if-false _ _ (le-ltb _ _ (subst (λ (m : ℕ). m ≤ length v) q h))
 
           count : n ≡ length (handing (held_at s) (map (replaced x.pairs) x.texts)).verdicts
-          count = q ∙ sym (length-map x.texts (replaced x.pairs)) ∙ sym (handing-length (map (replaced x.pairs) x.texts) (held_at s))
+          count = q ∙ sym (length-map x.texts (replaced x.pairs)) ∙ sym (handing-length (held_at s) (map (replaced x.pairs) x.texts))
 
           done : NexusAs (gives (handing (held_at s) (map (replaced x.pairs) x.texts))) (number.Gives n) s v t u
           done = unfold NexusAs number_given in (ap gives count, g.holds, g.verdicts, g.found)
