@@ -11,11 +11,11 @@ use Rattle.std.proofs.Math.ListN.{length}
 use Rattle.std.proofs.lemmas.List.{length-map}
 use Rattle.trees.specs.Plain.{Answer, gives}
 use Rattle.trees.specs.Names.{different}
-use Rattle.trees.specs.Held.{Held}
+use Rattle.trees.specs.Held.{Held, recording}
 use Rattle.trees.specs.Batch.{Batched, with_verdict}
 use Rattle.trees.specs.Nexus.{File}
 use Rattle.trees.specs.NexusReading.{read_file}
-use Rattle.trees.specs.NexusCall.{keys_of, replaced, plain_texts, handing, handed_in, nexus}
+use Rattle.trees.specs.NexusCall.{keys_of, replaced, on_text, plain_texts, handing, handed_in, nexus}
 use Rattle.theorems.specs.ListLaws.{if-true, if-false}
 use Rattle.answers.specs.declared.Refusal.{Refusal}
 use Rattle.answers.specs.declared.Refusal.TheVariants as why
@@ -34,7 +34,7 @@ nexus-refused x s v r e = rw e (refl, refl, refl)
 handing-length : (h : Held) (ts : List (List ℕ)) → length (handing h ts).verdicts ≡ length ts
 unfolding handing with_verdict
 handing-length h [] = refl
-handing-length h (t ∷ ts) = ap suc (handing-length _ ts)
+handing-length h (t ∷ ts) = ap suc (handing-length (recording h (on_text h t)) ts)
 
 module _ (s f v : List ℕ) (w : whole_at s ≡ true) where
   nexus-whole : nexus_of s f (length v) ≡ nexus (held_at s) f (length v)

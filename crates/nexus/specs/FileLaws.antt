@@ -4,7 +4,7 @@
 --   trees-no-list, trees-no-lines, trees-no-end, trees-found     the TREES block: its list, its lines, or what stands behind it is wrong, or nothing
 --   file-begins, file-reads     the first token is #NEXUS, and what is read behind it
 --   file-none, file-wrong, file-ends, file-trees     it is not; then comes a wrong command, no TREES block, or one
-use Rattle.std.specs.Prelude.{ℕ, ◌+◌, ◌≤◌, ◌<◌, ◌≡◌, Bool, true, length}
+use Rattle.std.specs.Prelude.{ℕ, ◌≤◌, ◌<◌, ◌≡◌, Bool, true, length}
 use Rattle.std.proofs.Math.Path.{refl, ap}
 use Rattle.std.proofs.Common.{sym, ◌∙◌, true≢false}
 use Rattle.std.proofs.Math.Bool.{false}

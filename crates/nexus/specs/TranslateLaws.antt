@@ -7,7 +7,7 @@
 --   same_read          another command reads the same, whether the block has just begun or not
 --   list-moves, listed-pairs     what a TRANSLATE command does, and where it lists pairs
 --   no-list, bad-list, good-list     the paths of `read_list`
-use Rattle.std.specs.Prelude.{ℕ, ◌+◌, ◌≤◌, ◌≡◌, refl, ◌⊎◌, Bool, true, ◌&&◌}
+use Rattle.std.specs.Prelude.{ℕ, ◌+◌, ◌≤◌, ◌≡◌, refl, Bool, true, ◌&&◌}
 use native.Mathlib.Omega.{arith}
 use Rattle.std.proofs.Math.Path.{sym, ap}
 use Rattle.std.proofs.Common.{◌∙◌, le-leb}

@@ -9,10 +9,10 @@
 --   FeedsLines ps f i n s v t w     the trees whose lines begin at i are fed, n in all
 use Rattle.std.specs.Prelude.{ℕ, ◌+◌, ◌≤◌, ◌<◌, ◌≡◌, true, false, List, [], ◌∷◌, ◌++◌, map, ltb, length, take, drop}
 use Rattle.std.proofs.Math.Option.{some}
-use Rattle.trees.specs.Plain.{if◌then◌else◌, refused, gives}
+use Rattle.trees.specs.Plain.{if◌then◌else◌, refused}
 use Rattle.trees.specs.Held.{Lane, holding, overrun, most_text, verdict, finished, recording}
 use Rattle.trees.specs.Batch.{none_accepted, Batched}
-use Rattle.trees.specs.Nexus.{uncommented, Pair, File}
+use Rattle.trees.specs.Nexus.{uncommented, Pair}
 use Rattle.trees.specs.NexusReading.{in_trees, reads}
 use Rattle.trees.specs.NexusCall.{replaced, on_text, handing}
 use Rattle.answers.specs.Answers.{progress_given}

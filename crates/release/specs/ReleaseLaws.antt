@@ -7,12 +7,12 @@
 --   taxon-nobody, taxon-of, taxon-there     whether the taxon that is asked for is one of the collection's
 --   all-newick, all-put        all lines
 --   release-missing, release-there     what is answered of a whole store
-use Rattle.std.specs.Prelude.{ℕ, ◌+◌, ◌≤◌, ◌<◌, ◌≡◌, Bool, true, false, ltb, length, drop}
+use Rattle.std.specs.Prelude.{ℕ, ◌+◌, ◌≤◌, ◌<◌, ◌≡◌, Bool, true, false, ltb, drop}
 use Rattle.std.proofs.Common.{arith, sym, ap, ◌∙◌}
 use Rattle.std.proofs.Math.Path.{refl}
 use mathlib.Core.List.{List, [], ◌∷◌, ◌++◌, map, flat_map, append-nil}
 use borrow.Author.Tests.{eq-eqb, ne_eqb, ltb-true}
-use Rattle.trees.specs.Plain.{bytes, Answer}
+use Rattle.trees.specs.Plain.{bytes}
 use Rattle.trees.specs.Consensus.{recorded, strict, majority}
 use Rattle.trees.specs.Written.{written}
 use Rattle.trees.specs.Held.{Held}

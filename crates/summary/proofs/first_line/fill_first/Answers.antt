@@ -1,0 +1,22 @@
+use Prim.Native.Nat.{◌-◌, ◌≤◌}
+use mathlib.Core.Path.{◌≡◌, refl}
+use mathlib.Core.List.{◌++◌}
+use native.Mathlib.Omega.{arith}
+use lib.ListN.{length, take, drop, length-set}
+use Rattle.head.specs.Head.{up_to}
+use Rattle.summary.specs.Summary.{first_constant}
+use Rattle.summary.specs.OpeningLaws.{constants-more, constants-all}
+use Rattle.summary.proofs.first_line.fill_first.Goals as goal
+
+pub loop-i-init : goal.loop-i-init
+loop-i-init c = (omega arith, refl, c.requires, refl, refl)
+
+pub loop-i-preserved : goal.loop-i-preserved
+loop-i-preserved c =
+    let l = c.loop-i in
+    (omega arith, l.invariant.1, l.invariant.2, simp length-set l.invariant.3, constants-more first_constant c.args.list.now l.list l.i _ l.invariant.4 (omega arith) c.first_constant.ensures)
+
+pub returns : goal.returns
+returns c =
+    let l = c.loop-i in
+    constants-all first_constant c.args.list.now l.list l.i l.invariant.4 (omega arith)

@@ -1,0 +1,23 @@
+use Prim.Native.Nat.{◌-◌, ◌≤◌}
+use mathlib.Core.Path.{◌≡◌, refl, sym, ◌∙◌}
+use native.Mathlib.Omega.{arith}
+use lib.ListN.{length, drop}
+use borrow.Author.Rules.{rules}
+use Rattle.summary.specs.FirstLine.{kept_after}
+use Rattle.summary.specs.FirstLineLaws.{kept-none, kept_more}
+use Rattle.summary.proofs.first_line.keep_bytes.Goals as goal
+
+pub loop-i-init : goal.loop-i-init
+loop-i-init c = (omega arith, refl, refl)
+
+pub loop-i-preserved : goal.loop-i-preserved
+loop-i-preserved c =
+    let l = c.loop-i in
+    let p = c.args.piece.now in
+    let e = kept_more l.used l.spaces l.quoted l.out p l.i (omega arith) _ _ _ _ c.count_space-spaces.ensures c.turn_quotes-quoted.ensures c.keep_byte-used.ensures.value c.keep_byte-used.ensures.out_after in
+    (omega arith, omega arith, sym e ∙ l.invariant.2)
+
+pub returns : goal.returns
+returns c =
+    let l = c.loop-i in
+    kept-none (record { used = l.used; spaces = l.spaces; quoted = l.quoted; bytes = l.out }) c.args.piece.now l.i (omega arith) ∙ l.invariant.2
