@@ -1,5 +1,4 @@
 -- `summary::feed` meets its contract: each return is a law. Assumes nothing.
-use borrow.Author.Rules.{rules}
 use Rattle.summary.specs.CallLaws.{feeds-given, feeds-refused}
 use Rattle.summary.proofs.feed.Goals as goal
 

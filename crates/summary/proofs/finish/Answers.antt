@@ -1,5 +1,4 @@
 -- `summary::finish` meets its contract: each return is a law. Assumes nothing.
-use borrow.Author.Rules.{rules}
 use Rattle.summary.specs.CallLaws.{finished-line, finished-texts, finished-refused}
 use Rattle.summary.proofs.finish.Goals as goal
 

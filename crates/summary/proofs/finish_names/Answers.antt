@@ -1,5 +1,4 @@
 -- `summary::finish_names` meets its contract: each return is a law. Assumes nothing.
-use borrow.Author.Rules.{rules}
 use Rattle.summary.specs.CallLaws.{closes-refused, closes-done}
 use Rattle.summary.proofs.finish_names.Goals as goal
 

@@ -1,5 +1,4 @@
 -- `summary::lines` meets its contract: each return is a law. Assumes nothing.
-use borrow.Author.Rules.{rules}
 use Rattle.summary.specs.CallLaws.{printed-sheet, printed-refusal}
 use Rattle.summary.proofs.lines.Goals as goal
 

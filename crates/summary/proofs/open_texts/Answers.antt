@@ -1,5 +1,4 @@
 -- `summary::open_texts` meets its contract: each return is a law. Assumes nothing.
-use borrow.Author.Rules.{rules}
 use Rattle.summary.specs.CallLaws.{opens-refused, opens-done}
 use Rattle.summary.proofs.open_texts.Goals as goal
 

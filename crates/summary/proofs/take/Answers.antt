@@ -1,5 +1,4 @@
 -- `summary::take` meets its contract: each return is a law. Assumes nothing.
-use borrow.Author.Rules.{rules}
 use Rattle.summary.specs.CallLaws.{took-line, took-texts, took-refused}
 use Rattle.summary.proofs.take.Goals as goal
 

@@ -1,7 +1,6 @@
 -- `summary::take_names` meets its contract: each return is a law. Assumes nothing.
 use mathlib.Core.List.{[]}
 use borrow.Author.Tests.{not-true, not-false}
-use borrow.Author.Rules.{rules}
 use Rattle.summary.specs.CallLaws.{taken-fits, names-go, names-end}
 use Rattle.summary.proofs.take_names.Goals as goal
 

@@ -1,9 +1,6 @@
-use Prim.Native.Nat.{◌-◌, ◌≤◌}
-use mathlib.Core.Path.{◌≡◌, refl}
-use mathlib.Core.List.{◌++◌}
+use mathlib.Core.Path.{refl}
 use native.Mathlib.Omega.{arith}
-use lib.ListN.{length, take, drop, length-set}
-use Rattle.head.specs.Head.{up_to}
+use lib.ListN.{length-set}
 use Rattle.summary.specs.Summary.{second_constant}
 use Rattle.summary.specs.OpeningLaws.{constants-more, constants-all}
 use Rattle.summary.proofs.first_line.fill_second.Goals as goal

@@ -1,12 +1,10 @@
 -- `summary::first_line::fill_second` meets its contract. The loop's invariant: the first i constants are there. Assumes nothing.
 use Prim.Native.Nat.{◌-◌, ◌≤◌}
-use mathlib.Core.Path.{◌≡◌, refl}
+use mathlib.Core.Path.{◌≡◌}
 use mathlib.Core.List.{◌++◌}
-use native.Mathlib.Omega.{arith}
-use lib.ListN.{length, take, drop, length-set}
+use lib.ListN.{length, take, drop}
 use Rattle.head.specs.Head.{up_to}
 use Rattle.summary.specs.Summary.{second_constant}
-use Rattle.summary.specs.OpeningLaws.{constants-more, constants-all}
 use Rattle.summary.proofs.first_line.fill_second.Given as goal
 
 abbrev pub invariant-loop-i : goal.invariant-loop-i

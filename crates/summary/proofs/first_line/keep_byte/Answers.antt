@@ -2,7 +2,6 @@
 use mathlib.Core.Path.{refl, sym}
 use native.Mathlib.Omega.{arith}
 use lib.Seq.{set_out}
-use borrow.Author.Rules.{rules}
 use Rattle.summary.specs.FirstLineLaws.{used-full, used-more}
 use Rattle.summary.proofs.first_line.keep_byte.Goals as goal
 

@@ -1,9 +1,5 @@
-use Prim.Native.Nat.{◌-◌, ◌≤◌}
-use mathlib.Core.Path.{◌≡◌, refl, sym, ◌∙◌}
+use mathlib.Core.Path.{refl, sym, ◌∙◌}
 use native.Mathlib.Omega.{arith}
-use lib.ListN.{length, drop}
-use borrow.Author.Rules.{rules}
-use Rattle.summary.specs.FirstLine.{kept_after}
 use Rattle.summary.specs.FirstLineLaws.{kept-none, kept_more}
 use Rattle.summary.proofs.first_line.keep_bytes.Goals as goal
 

@@ -1,8 +1,4 @@
-use Prim.Native.Nat.{◌+◌, ◌≤◌, ◌-◌}
-use mathlib.Core.Path.{◌≡◌}
 use native.Mathlib.Omega.{arith}
-use lib.ListN.{length, drop}
-use Rattle.summary.specs.Summary.{first_line}
 use Rattle.summary.specs.FirstLineLaws.{end-here, end_more, end_none}
 use Rattle.summary.proofs.first_line.line_end.Goals as goal
 

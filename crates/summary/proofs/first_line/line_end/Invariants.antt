@@ -1,10 +1,8 @@
 -- `summary::first_line::line_end` meets its contract. The loop's invariant: the bytes so far, and those of the rest. Assumes nothing.
 use Prim.Native.Nat.{◌+◌, ◌≤◌, ◌-◌}
 use mathlib.Core.Path.{◌≡◌}
-use native.Mathlib.Omega.{arith}
 use lib.ListN.{length, drop}
 use Rattle.summary.specs.Summary.{first_line}
-use Rattle.summary.specs.FirstLineLaws.{end-here, end_more, end_none}
 use Rattle.summary.proofs.first_line.line_end.Given as goal
 
 abbrev pub invariant-loop-i : goal.invariant-loop-i

@@ -1,7 +1,6 @@
 -- `summary::first_line::open_line` meets its contract. Assumes nothing.
 use mathlib.Core.Path.{refl, sym}
 use lib.Seq.{length-take-le}
-use borrow.Author.Rules.{rules}
 use Rattle.summary.specs.OpeningLaws.{opened_out, opened-kept}
 use Rattle.summary.proofs.first_line.open_line.Goals as goal
 

@@ -1,7 +1,6 @@
 -- `summary::first_line::take_line` meets its contract. Assumes nothing.
 use mathlib.Core.Path.{sym}
 use lib.Seq.{length-take-le}
-use borrow.Author.Rules.{rules}
 use Rattle.summary.specs.FirstLineLaws.{taken-all, taken-line}
 use Rattle.summary.proofs.first_line.take_line.Goals as goal
 

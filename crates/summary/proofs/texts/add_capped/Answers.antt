@@ -1,6 +1,5 @@
 -- `summary::texts::add_capped` meets its contract. Assumes nothing.
 use native.Mathlib.Omega.{arith}
-use borrow.Author.Rules.{rules}
 use Rattle.summary.specs.TextsLaws.{capped_small, capped-large}
 use Rattle.summary.proofs.texts.add_capped.Goals as goal
 

@@ -1,5 +1,4 @@
 -- `summary::texts::close_texts` meets its contract. Assumes nothing.
-use borrow.Author.Rules.{rules}
 use Rattle.opening.specs.GivenLaws.{failed, passed}
 use Rattle.summary.specs.TextsLaws.{closed-refused, closed-given}
 use Rattle.summary.proofs.texts.close_texts.Goals as goal

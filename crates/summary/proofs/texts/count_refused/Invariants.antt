@@ -1,12 +1,8 @@
 -- `summary::texts::count_refused` meets its contract. The loop's invariant: those so far, and those of the rest. Assumes nothing.
 use Prim.Native.Nat.{◌+◌, ◌-◌, ◌≤◌}
 use mathlib.Core.Path.{◌≡◌}
-use mathlib.Core.Logic.{⊎_elim}
-use native.Mathlib.Omega.{arith}
 use lib.ListN.{length, take, drop}
-use lib.Seq.{length-take-le, get_or-take}
 use Rattle.trees.specs.Batch.{refused_in}
-use Rattle.summary.specs.TextsLaws.{verdict-refused, verdict-accepted, verdicts-none}
 use Rattle.summary.proofs.texts.count_refused.Given as goal
 
 abbrev pub invariant-loop-i : goal.invariant-loop-i

@@ -1,6 +1,5 @@
 -- `summary::texts::one_if_refused` meets its contract. Assumes nothing.
 use mathlib.Core.Path.{sym, ap}
-use borrow.Author.Rules.{rules}
 use Rattle.trees.specs.Batch.{refused_after}
 use Rattle.answers.specs.Answers.{finish_given}
 use Rattle.summary.proofs.texts.one_if_refused.Goals as goal

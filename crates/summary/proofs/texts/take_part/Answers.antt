@@ -2,7 +2,6 @@
 use Prim.Native.Nat.{ℕ}
 use native.Mathlib.Omega.{arith}
 use lib.ListN.{length-replicate}
-use borrow.Author.Rules.{rules}
 use Rattle.summary.specs.Texts.{part}
 use Rattle.summary.specs.PartLaws.{part-refused, part-given, verdicts-there}
 use Rattle.summary.proofs.texts.take_part.Goals as goal

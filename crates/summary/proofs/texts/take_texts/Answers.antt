@@ -1,10 +1,8 @@
 use Prim.Native.Nat.{◌+◌, ◌-◌}
 use mathlib.Core.Path.{◌∙◌}
 use native.Mathlib.Omega.{arith}
-use lib.ListN.{length}
-use borrow.Author.Rules.{rules}
 use Rattle.summary.specs.Texts.{part}
-use Rattle.summary.specs.PartLaws.{texts-size, Rest, rest-none, rest_more, rest-refused, rest-last}
+use Rattle.summary.specs.PartLaws.{texts-size, rest-none, rest_more, rest-refused, rest-last}
 use Rattle.summary.proofs.texts.take_texts.Goals as goal
 
 pub loop-at-init : goal.loop-at-init
