@@ -6,8 +6,8 @@
 --   file-touches-no-lane     every lane holds afterwards what it held
 --   file-as-feeding          the verdicts and the collection afterwards are those of the plain texts fed one after another to an empty lane
 --   written-file-reads-back  a plain file around the trees that a collection writes reads back as these trees
-use Rattle.std.specs.Prelude.{ℕ, ◌≤◌, ◌≡◌, Bool, true, false, List, [], ◌∷◌, ◌++◌, map, length, drop}
-use Rattle.std.proofs.Common.{arith, sym, ◌∙◌}
+use Rattle.std.specs.Prelude.{ℕ, ◌≤◌, ◌≡◌, true, List, ◌++◌, map, length, drop}
+use Rattle.std.proofs.Common.{arith, ◌∙◌}
 use Rattle.std.proofs.Math.Path.{refl, ap, subst}
 use Rattle.trees.specs.Plain.{Answer, refused, gives}
 use Rattle.trees.specs.Written.{written}

@@ -19,7 +19,7 @@ use Rattle.trees.specs.Batch.{verdict_number, Batched, with_verdict}
 use Rattle.trees.specs.Nexus.{File}
 use Rattle.trees.specs.NexusReading.{read_file}
 use Rattle.trees.specs.NexusCall.{keys_of, plain_texts, on_text, handing, handed_in, nexus}
-use Rattle.trees.specs.Runs.{Call, hand, Heard, answer, next, answers, ending, Final, finals}
+use Rattle.trees.specs.Runs.{hand, Heard, answer, next, answers, ending, Final, finals}
 use Rattle.theorems.specs.NexusFedLaws.{heard_verdict}
 use Rattle.answers.specs.Filled.{length_given, front}
 use Rattle.promises.specs.Calls.{file, Told, batched, numbers_in, after_batch, told, texts_for, file_texts, verdict_of, verdicts_told}
