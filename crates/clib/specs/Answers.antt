@@ -10,10 +10,9 @@
 --                             that have no meaning in it are 0
 --   progress_out n p           the same of n bytes taken and the progress p
 --   FinishAs, NumberAs, TwoAs, SplitAs, LengthsAs, WeightAs, ClaimAs, TakenAs, SummedAs           numbers g are those that the answer a is given as, and stand for it
-use Rattle.std.specs.Prelude.{ℕ, ◌-◌, ◌≡◌, true, false, List, [], ◌∷◌, eqb, get_or, Float}
+use Rattle.std.specs.Prelude.{ℕ, ◌-◌, ◌≡◌, true, false, List, [], ◌∷◌, eqb, get_or, Float, if◌then◌else◌}
 use Rattle.std.specs.Float.{binary64}
 use Rattle.std.specs.Float.Ieee.{of_bits}
-use Rattle.trees.specs.Plain.{if◌then◌else◌}
 use Rattle.answers.specs.Answers.{refusal_number}
 use Rattle.answers.specs.declared.Refusal.{Refusal}
 use Rattle.answers.specs.declared.Refusal.TheVariants as why

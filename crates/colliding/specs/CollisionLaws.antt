@@ -8,12 +8,12 @@
 use Prim.Native.Nat.{ℕ, zero, suc, ◌+◌, ◌-◌, ◌≤◌, ◌<◌}
 use Rattle.std.proofs.Common.{add-one, sym, ◌∙◌, inl, inr, length-set, get_or-set_same, get_or-set_other}
 use native.Mathlib.Omega.{arith}
-use Rattle.std.specs.Prelude.{◌≡◌, ◌⊎◌, Bool, true, false, List, ◌∷◌, length, get_or, set, replicate}
+use Rattle.std.specs.Prelude.{◌≡◌, ◌⊎◌, Bool, true, false, List, ◌∷◌, length, get_or, set, replicate, if◌then◌else◌}
 use Rattle.std.proofs.Math.Path.{refl, ap, ap₂}
 use Rattle.std.proofs.lemmas.List.{length-replicate}
 use Rattle.trees.specs.Opening.{most_room}
 use Rattle.theorems.specs.ListLaws.{equal_or_not}
-use Rattle.trees.specs.Plain.{if◌then◌else◌, keep}
+use Rattle.trees.specs.Plain.{keep}
 use Rattle.trees.specs.Hash.{identifier, collide, collisions}
 use Rattle.head.specs.Head.{from_to, up_to, numbers_at, first_at, second_at}
 use Rattle.layout.specs.Store.{parts_at, splits_held_at, mask_at, order_at, split_at, masks_at, identifier_at}

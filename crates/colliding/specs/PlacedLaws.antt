@@ -6,7 +6,7 @@
 --   part-starts, part-more, part-ends     one place: its start, a row along it, its end
 use Prim.Native.Nat.{ℕ, zero, suc, ◌+◌, ◌≤◌, ◌<◌}
 use native.Mathlib.Omega.{arith}
-use Rattle.std.specs.Prelude.{◌≡◌, ◌⊎◌, Bool, List, get_or, set, replicate}
+use Rattle.std.specs.Prelude.{◌≡◌, ◌⊎◌, Bool, List, get_or, set, replicate, if◌then◌else◌}
 use Rattle.std.proofs.Math.Path.{refl}
 use Rattle.std.proofs.Common.{sym, ap, ◌∙◌, inl, inr, length-set, get_or-set_same, get_or-set_other}
 use Rattle.std.proofs.Math.Bool.{true, false}
@@ -15,7 +15,6 @@ use Rattle.std.proofs.lemmas.List.{length-replicate}
 use borrow.Author.Tests.{eqb-true, eqb-false}
 use Rattle.trees.specs.Opening.{most_room}
 use Rattle.theorems.specs.ListLaws.{less-or-not, equal_or_not}
-use Rattle.trees.specs.Plain.{if◌then◌else◌}
 use Rattle.head.specs.Head.{numbers_at}
 use Rattle.layout.specs.Store.{splits_held_at, mask_at, link_at, start_at}
 use Rattle.layout.specs.WholeStore.{highest_below, whole_at, highest_in, place_in}

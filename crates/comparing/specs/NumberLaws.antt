@@ -4,12 +4,12 @@
 --                       and somebody else may have written lengths whose sum is too large for a double
 --   weighted-both-ways  it is the same both ways round, and so is a refusal
 --   weighted-zero       it is plus zero for trees with the same splits and the same lengths
-use Rattle.std.specs.Prelude.{ℕ, ◌≡◌, Bool, true, false, List, ltb, eqb, length, Float}
+use Rattle.std.specs.Prelude.{ℕ, ◌≡◌, Bool, true, false, List, ltb, eqb, length, Float, if◌then◌else◌}
 use Rattle.std.proofs.Common.{arith, sym, ap, subst, ◌∙◌}
 use Rattle.std.proofs.Math.Path.{refl}
 use Rattle.std.proofs.Math.Option.{Option, none, some}
 use borrow.Author.Tests.{ltb-true}
-use Rattle.trees.specs.Plain.{if◌then◌else◌, every, Answer, refused, gives}
+use Rattle.trees.specs.Plain.{every, Answer, refused, gives}
 use Rattle.trees.specs.Value.{Length}
 use Rattle.trees.specs.Sums.{plus_zero}
 use Rattle.trees.specs.Weighted.{weighted}

@@ -2,9 +2,9 @@
 --
 --   if_copied b k xs        the first k elements of a buffer xs, where a call says that lengths were copied there
 --   weighted_kept s i j     the weighted distance of the trees i and j, or 18 where a split of either has no length
-use Rattle.std.specs.Prelude.{ℕ, Bool, List, take, Float}
+use Rattle.std.specs.Prelude.{ℕ, Bool, List, take, Float, if◌then◌else◌}
 use Rattle.std.proofs.Math.Option.{Option, none, some}
-use Rattle.trees.specs.Plain.{if◌then◌else◌, Answer}
+use Rattle.trees.specs.Plain.{Answer}
 use Rattle.trees.specs.Questions.{if_both_given}
 use Rattle.trees.specs.Weighted.{weighted}
 use Rattle.layout.specs.Store.{tree_at, branches_at}

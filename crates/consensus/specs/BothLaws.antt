@@ -7,12 +7,12 @@
 use Prim.Native.Nat.{ℕ, ◌≤◌, ◌<◌}
 use Rattle.std.proofs.Common.{arith, zero-add, sym, ◌∙◌, take_at, lt-ltb, le-ltb}
 use Rattle.std.proofs.Math.Path.{◌≡◌, ap}
-use Rattle.std.specs.Prelude.{refl, Bool, true, false, eqb, take, drop}
+use Rattle.std.specs.Prelude.{refl, Bool, true, false, eqb, take, drop, if◌then◌else◌}
 use mathlib.Core.List.{List, ◌++◌}
 use Rattle.std.proofs.Math.ListN.{length, length-append}
 use Rattle.std.proofs.lemmas.List.Edits.{sets-eq}
 use Rattle.std.proofs.Math.Seq.{length-take-le}
-use Rattle.trees.specs.Plain.{if◌then◌else◌, Answer, refused, gives}
+use Rattle.trees.specs.Plain.{Answer, refused, gives}
 use Rattle.trees.specs.Held.{Held}
 use Rattle.trees.specs.Consensus.{strict}
 use Rattle.trees.specs.Written.{written}

@@ -16,8 +16,8 @@
 --   Columns short sizes i n j m     the columns below j are put
 --   Few n r               r is n, or 8 if that is less
 --   Block s i m           the rows of tree i and of those that are counted with it by eights
-use Rattle.std.specs.Prelude.{◌≡◌, ℕ, zero, suc, ◌+◌, ◌-◌, ◌*◌, ◌/◌, ◌%◌, ◌^◌, ◌<◌, ◌≤◌, List, [], ◌∷◌, length, ◌≢◌, slice_index, slice_index_or, slice_set}
-use Rattle.trees.specs.Plain.{if◌then◌else◌, member}
+use Rattle.std.specs.Prelude.{◌≡◌, ℕ, zero, suc, ◌+◌, ◌-◌, ◌*◌, ◌/◌, ◌%◌, ◌^◌, ◌<◌, ◌≤◌, List, [], ◌∷◌, length, ◌≢◌, slice_index, slice_index_or, slice_set, if◌then◌else◌}
+use Rattle.trees.specs.Plain.{member}
 use Rattle.trees.specs.Opening.{most_room}
 use Rattle.trees.specs.Distance.{doubled}
 use Rattle.layout.specs.Store.{trees_held_at, tree_at}

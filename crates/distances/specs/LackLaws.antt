@@ -8,10 +8,10 @@
 --   one_sided-keep        members that both lists have are left out of both
 --   rising-different, different-map, different-keep     lists whose members are all different
 --   one_sided-balance     what a has and b has not, beside b, is as much as what b has and a has not, beside a
-use Rattle.std.specs.Prelude.{◌≡◌, ℕ, suc, ◌+◌, ◌≤◌, Bool, true, false, not, List, [], ◌∷◌, map, length, ◌==◌, ◌≢◌, refl}
+use Rattle.std.specs.Prelude.{◌≡◌, ℕ, suc, ◌+◌, ◌≤◌, Bool, true, false, not, List, [], ◌∷◌, map, length, ◌==◌, ◌≢◌, refl, if◌then◌else◌}
 use Rattle.std.proofs.Common.{arith, ap, sym, ◌∙◌, inl, inr, eqb-true, ne_eqb}
 use Rattle.std.proofs.lemmas.Bool.{eqb-false}
-use Rattle.trees.specs.Plain.{if◌then◌else◌, keep, member}
+use Rattle.trees.specs.Plain.{keep, member}
 use Rattle.trees.specs.Distance.{one_sided}
 use Rattle.theorems.specs.ListLaws.{Mem, same_bool, by-test, member-mem, mem-member, member-not, not-member, keep-mem, mem-keep, keep-most}
 use Rattle.theorems.specs.RisingLaws.{Rising}

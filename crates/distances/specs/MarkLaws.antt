@@ -8,12 +8,12 @@
 --   marks-gone                     a list's marks, taken away
 --   sum_more, sum-end              one turn of the loop that sums
 --   sum-lacks                      the sum of the marks is how many rows the marked list lacks
-use Rattle.std.specs.Prelude.{◌≡◌, ℕ, ◌+◌, ◌<◌, ◌≤◌, Bool, true, false, ◌||◌, List, [], ◌∷◌, length, drop, ◌==◌, slice_index, slice_set, refl}
+use Rattle.std.specs.Prelude.{◌≡◌, ℕ, ◌+◌, ◌<◌, ◌≤◌, Bool, true, false, ◌||◌, List, [], ◌∷◌, length, drop, ◌==◌, slice_index, slice_set, refl, if◌then◌else◌}
 use Rattle.std.proofs.Common.{add-one, arith, ap, sym, ◌∙◌, inl, inr, length-set, drop_of_length-le, drop-cons, get_or-set_same, get_or-set_other, ext_get_or, eqb-true}
 use Rattle.std.proofs.lemmas.List.{length-replicate, get_or-replicate}
 use Rattle.std.proofs.lemmas.Bool.{eqb-false}
 use Rattle.trees.specs.Opening.{most_room}
-use Rattle.trees.specs.Plain.{if◌then◌else◌, member}
+use Rattle.trees.specs.Plain.{member}
 use Rattle.trees.specs.Distance.{one_sided}
 use Rattle.theorems.specs.ListLaws.{Mem}
 use Rattle.theorems.specs.DistanceLaws.{one_sided-nil, one_sided-has, one_sided-lacks}

@@ -4,9 +4,8 @@
 --   length_at s at        the length in the 8 bytes of s from at
 --   good_length_at s at    these bytes hold none, or a double that is finite and not minus zero
 --   put_length s at x     s with x in the 8 bytes from at
-use Rattle.std.specs.Prelude.{ℕ, Bool, List, eqb}
+use Rattle.std.specs.Prelude.{ℕ, Bool, List, eqb, if◌then◌else◌}
 use Rattle.std.proofs.Math.Option.{none, some}
-use Rattle.trees.specs.Plain.{if◌then◌else◌}
 use Rattle.trees.specs.Value.{Length}
 use Rattle.trees.specs.Whole.{good_length}
 use Rattle.fields.specs.Field.{number, put}

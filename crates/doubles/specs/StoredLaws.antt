@@ -8,14 +8,13 @@
 --   put-length-length    the list keeps its length
 --   put-length-outside, number-put-length-outside, length-put-outside   a byte, a number, a length before or behind is kept
 --   length-same, good-same   equal bytes hold equal lengths
-use Rattle.std.specs.Prelude.{◌≡◌, ◌⊎◌, ℕ, ◌+◌, ◌^◌, ◌≤◌, ◌<◌, Bool, true, List, T, eqb, length, get_or}
+use Rattle.std.specs.Prelude.{◌≡◌, ◌⊎◌, ℕ, ◌+◌, ◌^◌, ◌≤◌, ◌<◌, Bool, true, List, T, eqb, length, get_or, if◌then◌else◌}
 use Rattle.std.proofs.Math.Path.{ap}
 use Rattle.std.proofs.Common.{sym, ◌∙◌, inl, inr, lit<, eq-eqb, ne_eqb}
 use Rattle.std.proofs.Math.Bool.{false}
 use Rattle.std.proofs.Math.Option.{none, some}
 use Rattle.std.specs.Float.Ieee.{binary64, fits, of_bits, to_bits}
 use Rattle.std.specs.Float.Ieee.Bits.{to_bits-lt, of_bits-fits}
-use Rattle.trees.specs.Plain.{if◌then◌else◌}
 use Rattle.trees.specs.Value.{Length, proper}
 use Rattle.trees.specs.Whole.{good_length}
 use Rattle.theorems.specs.ListLaws.{equal_or_not}

@@ -3,13 +3,12 @@
 --   search-here, search-next, search-end     the mask stands at place j, stands behind it, is not among them
 --   counted-length                           there are as many counts
 --   count-found                              what is found of a mask of the list is its count
-use Rattle.std.specs.Prelude.{ℕ, ◌+◌, ◌≤◌, ◌<◌, ◌≡◌, refl, ◌⊎◌, Bool, true, false, List, [], ◌∷◌, map, eqb, length, get_or, drop}
+use Rattle.std.specs.Prelude.{ℕ, ◌+◌, ◌≤◌, ◌<◌, ◌≡◌, refl, ◌⊎◌, Bool, true, false, List, [], ◌∷◌, map, eqb, length, get_or, drop, if◌then◌else◌}
 use Rattle.std.proofs.Math.Numerals.{add-one}
 use Rattle.std.proofs.Common.{arith, sym, ap, ◌∙◌, inl, inr, drop_of_length-le, eqb-true}
 use Rattle.std.proofs.lemmas.List.{length-map}
 use Rattle.std.proofs.Math.Seq.{drop-cons}
 use Rattle.std.proofs.lemmas.Bool.{eqb-false}
-use Rattle.trees.specs.Plain.{if◌then◌else◌}
 use Rattle.trees.specs.Consensus.{count}
 use Rattle.theorems.specs.ListLaws.{Mem}
 use Rattle.drawing.specs.Drawing.{count_in, Counted}

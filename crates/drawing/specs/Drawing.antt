@@ -12,9 +12,9 @@
 --   count_in ms cs x            the count beside the mask x, of the masks ms and their counts cs
 --   Counted ts ms cs           the counts cs of the masks ms in the trees ts, each below 65,536
 --   Fits r p at e              no line is longer than 600 bytes: the lines of the taxa r, and one prefix, from `at` up to e
-use Rattle.std.specs.Prelude.{ℕ, suc, ◌+◌, ◌*◌, ◌≤◌, ◌<◌, ◌≡◌, Bool, true, false, List, [], ◌∷◌, ◌++◌, map, eqb, length, get_or}
+use Rattle.std.specs.Prelude.{ℕ, suc, ◌+◌, ◌*◌, ◌≤◌, ◌<◌, ◌≡◌, Bool, true, false, List, [], ◌∷◌, ◌++◌, map, eqb, length, get_or, if◌then◌else◌}
 use Rattle.std.specs.Int.Count.{ones}
-use Rattle.trees.specs.Plain.{if◌then◌else◌, bytes, byte}
+use Rattle.trees.specs.Plain.{bytes, byte}
 use Rattle.trees.specs.Consensus.{count}
 use Rattle.trees.specs.Written.{written_name}
 use Rattle.trees.specs.Drawn.{branch_to, blank}

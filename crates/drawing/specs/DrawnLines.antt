@@ -1,8 +1,8 @@
 -- The majority tree of a collection, drawn.
 --
 --   drawn_lines h     its lines, with their line ends
-use Rattle.std.specs.Prelude.{ℕ, List, [], ◌∷◌, ◌++◌, map, eqb, length}
-use Rattle.trees.specs.Plain.{if◌then◌else◌, byte}
+use Rattle.std.specs.Prelude.{ℕ, List, [], ◌∷◌, ◌++◌, map, eqb, length, if◌then◌else◌}
+use Rattle.trees.specs.Plain.{byte}
 use Rattle.trees.specs.Consensus.{majority}
 use Rattle.trees.specs.Drawn.{drawn}
 use Rattle.trees.specs.Held.{Held}

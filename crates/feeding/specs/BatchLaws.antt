@@ -11,7 +11,7 @@
 --   batched-length     the verdicts' buffer is as long as before
 --   batch-refused      what a refusal promises
 --   batch-no-lane, batch-short, batch-done     what each return promises, of whole bytes
-use Rattle.std.specs.Prelude.{ℕ, zero, suc, ◌+◌, ◌-◌, ◌≤◌, ◌<◌, ◌≡◌, Bool, ltb, length, get_or, set, take}
+use Rattle.std.specs.Prelude.{ℕ, zero, suc, ◌+◌, ◌-◌, ◌≤◌, ◌<◌, ◌≡◌, Bool, ltb, length, get_or, set, take, if◌then◌else◌}
 use Rattle.std.proofs.Math.Numerals.{add-one}
 use Rattle.std.proofs.Common.{arith, ap₂, subst, ◌∙◌, length-append, length-drop, take-append-drop, take_all, drop-set-lt, drop-drop}
 use Rattle.std.proofs.Math.Path.{refl, sym, ap}
@@ -21,7 +21,7 @@ use Rattle.std.proofs.Math.ListN.{drop, length-set}
 use Rattle.std.proofs.Math.Seq.{take-suc-set}
 use borrow.Author.Tests.{lt-ltb, le-ltb, ltb-true}
 use Rattle.theorems.specs.ListLaws.{and_left, and_right}
-use Rattle.trees.specs.Plain.{if◌then◌else◌, every, Answer, refused, gives}
+use Rattle.trees.specs.Plain.{every, Answer, refused, gives}
 use Rattle.trees.specs.Opening.{Opening, store_size}
 use Rattle.trees.specs.Verdict.{Branches}
 use Rattle.trees.specs.Held.{Held, more_wanted, accepted, lane_of, open_in, longer, verdict, finished, finishing, feeding}

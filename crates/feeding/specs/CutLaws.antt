@@ -9,14 +9,14 @@
 --   batching-opening       a batch changes no opening
 --   batching-open          quotes are open behind a batch as behind its bytes
 --   batching-append        a batch of p, and then one of q on what it leaves, are a batch of p ++ q
-use Rattle.std.specs.Prelude.{ℕ, zero, suc, ◌+◌, ◌<◌, ◌≡◌, Bool, true, false, ◌||◌, ltb, length, drop}
+use Rattle.std.specs.Prelude.{ℕ, zero, suc, ◌+◌, ◌<◌, ◌≡◌, Bool, true, false, ◌||◌, ltb, length, drop, if◌then◌else◌}
 use Rattle.std.proofs.Common.{zero-add, suc-add, arith, sym, ap₂, ◌∙◌, true≢false, length-append, length-set, set-set, lt-ltb}
 use Rattle.std.proofs.Math.Path.{refl, ap}
 use mathlib.Core.List.{List, [], ◌∷◌, ◌++◌}
 use Rattle.std.proofs.Math.ListN.{get_or, set}
 use Rattle.std.proofs.Math.Seq.{get_or-set_same, drop-append-add}
 use Rattle.std.proofs.lemmas.List.{drop-append-le}
-use Rattle.trees.specs.Plain.{if◌then◌else◌, Answer, refused, gives}
+use Rattle.trees.specs.Plain.{Answer, refused, gives}
 use Rattle.trees.specs.Text.{turned, open_after, ends_text, has_end, before_end}
 use Rattle.trees.specs.Held.{Held, Lane, holding, overrun, Fed, more_wanted, accepted, lane_of, with_lane, with_tree, open_in, longer, new_splits, room_for, with_room, verdict, finished, recording, finishing, feeding}
 use Rattle.trees.specs.Verdict.{Branches, judged_with}

@@ -8,13 +8,13 @@
 use Prim.Native.Nat.{ℕ, suc, ◌+◌, ◌≤◌, ◌<◌}
 use Rattle.std.proofs.Math.Numerals.{add-one}
 use Rattle.std.proofs.Common.{arith, ◌∙◌, inr, set-set}
-use Rattle.std.specs.Prelude.{◌≡◌, true, false, take}
+use Rattle.std.specs.Prelude.{◌≡◌, true, false, take, if◌then◌else◌}
 use Rattle.std.proofs.Math.Path.{refl, sym, ap, subst}
 use mathlib.Core.List.{List, []}
 use Rattle.std.proofs.Math.ListN.{length}
 use Rattle.std.proofs.Math.Seq.{get_or-set_same}
 use borrow.Author.Tests.{lt-ltb, le-ltb}
-use Rattle.trees.specs.Plain.{if◌then◌else◌, Answer, refused, gives}
+use Rattle.trees.specs.Plain.{Answer, refused, gives}
 use Rattle.trees.specs.Opening.{Opening, store_size}
 use Rattle.trees.specs.Held.{Held, Lane, holding, overrun, lane_of, with_lane, with_tree, open_in, longer, room_for, with_room, verdict, more_wanted, finished, recording, finishing, feeding}
 use Rattle.trees.specs.Held as held

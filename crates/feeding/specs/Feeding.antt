@@ -9,9 +9,9 @@
 --   FedAs s l p r t        feeding answers r and leaves t
 --   ClosedAs s l r t       closing answers r and leaves t
 --   BatchedAs b l r s v t w     a batch that is b, on lane l, answers r and leaves the lent bytes t, which were s, and the verdicts w, which were v
-use Rattle.std.specs.Prelude.{ℕ, ◌+◌, ◌≤◌, ◌<◌, ◌≡◌, ◌⊎◌, Bool, true, false, ◌&&◌, List, ◌++◌, ltb, length, get_or, drop}
+use Rattle.std.specs.Prelude.{ℕ, ◌+◌, ◌≤◌, ◌<◌, ◌≡◌, ◌⊎◌, Bool, true, false, ◌&&◌, List, ◌++◌, ltb, length, get_or, drop, if◌then◌else◌}
 use Rattle.trees.specs.Opening.{lane_bytes}
-use Rattle.trees.specs.Plain.{if◌then◌else◌, Answer, refused, gives}
+use Rattle.trees.specs.Plain.{Answer, refused, gives}
 use Rattle.trees.specs.Held.{Closed, more_wanted, accepted, feeding, closing}
 use Rattle.trees.specs.Held as held
 use Rattle.trees.specs.Batch.{none_accepted, Batched, batch}

@@ -4,7 +4,7 @@
 --   judged-refused, judged-gives      what is known of either answer
 --   splits_of_lem, lengths-of     what accepting the tree asks
 --   tree-given         the tree that is accepted is the one of the verdict
-use Rattle.std.specs.Prelude.{ℕ, ◌+◌, ◌*◌, ◌≤◌, ◌<◌, ◌≡◌, refl, true, get_or, take, drop}
+use Rattle.std.specs.Prelude.{ℕ, ◌+◌, ◌*◌, ◌≤◌, ◌<◌, ◌≡◌, refl, true, get_or, take, drop, if◌then◌else◌}
 use Rattle.std.proofs.Common.{add-zero, arith, sym, ap₂, ◌∙◌, length-append, eqb-true, ne_eqb}
 use Rattle.std.proofs.Math.Path.{ap, subst}
 use mathlib.Core.List.{List, [], ◌∷◌, map}
@@ -17,7 +17,7 @@ use Rattle.std.specs.Float.Ieee.Fits.{add-fits}
 use Rattle.std.proofs.Math.ListN.{length}
 use Rattle.std.proofs.lemmas.List.{length-map}
 use Rattle.std.proofs.Math.Seq.{take-append_seam}
-use Rattle.trees.specs.Plain.{if◌then◌else◌, every, refused, gives}
+use Rattle.trees.specs.Plain.{every, refused, gives}
 use Rattle.trees.specs.Mask.{side}
 use Rattle.trees.specs.Tree.{Nodes, children}
 use Rattle.trees.specs.Opening.{Opening}

@@ -4,11 +4,10 @@
 --   quote-turns, quote-stays                whether quotes are open behind it
 --   names-all, names_more, names-last       the names from byte i on: from the first byte, with one byte more, behind the last
 --   taxa-many, taxa-few                     how many taxa they are
-use Rattle.std.specs.Prelude.{◌≡◌, ℕ, ◌+◌, ◌<◌, ◌≤◌, Bool, true, false, not, ◌&&◌, List, [], ◌∷◌, length, drop, ◌==◌, ◌≢◌, slice_index, refl}
+use Rattle.std.specs.Prelude.{◌≡◌, ℕ, ◌+◌, ◌<◌, ◌≤◌, Bool, true, false, not, ◌&&◌, List, [], ◌∷◌, length, drop, ◌==◌, ◌≢◌, slice_index, refl, if◌then◌else◌}
 use Rattle.std.proofs.Common.{add-one, arith, drop_of_length-le, drop-cons}
 use Rattle.std.proofs.Math.Path.{sym}
 use borrow.Author.Tests.{lt-ltb, le-ltb, eq-eqb, ne_eqb}
-use Rattle.trees.specs.Plain.{if◌then◌else◌}
 use Rattle.trees.specs.Text.{turned, with_byte, parts}
 use Rattle.trees.specs.Names.{name_count}
 use Rattle.filing.specs.Names.{taxa_of, spaces_at}

@@ -2,8 +2,8 @@
 --
 --   taxa_of n           as many taxa as there are names; 0, where they are more than there can be
 --   spaces_at q b       1, where the byte b is a space outside quotes; else 0. q: whether quotes are open before it
-use Rattle.std.specs.Prelude.{ℕ, Bool, not, ◌&&◌, ◌==◌, nat_lt}
-use Rattle.trees.specs.Plain.{if◌then◌else◌, byte}
+use Rattle.std.specs.Prelude.{ℕ, Bool, not, ◌&&◌, ◌==◌, nat_lt, if◌then◌else◌}
+use Rattle.trees.specs.Plain.{byte}
 
 unfoldable pub taxa_of : ℕ → ℕ
 taxa_of n = if nat_lt 64 n then 0 else n

@@ -2,11 +2,11 @@
 --
 --   verdict-refused, verdict-accepted     one verdict more
 --   verdicts-none                         behind the last there is none
-use Rattle.std.specs.Prelude.{◌≡◌, ℕ, suc, ◌+◌, ◌<◌, ◌≤◌, List, ◌∷◌, length, drop, slice_index}
+use Rattle.std.specs.Prelude.{◌≡◌, ℕ, suc, ◌+◌, ◌<◌, ◌≤◌, List, ◌∷◌, length, drop, slice_index, if◌then◌else◌}
 use Rattle.std.proofs.Math.Numerals.{add-one}
 use Rattle.std.proofs.Math.Path.{refl}
 use Rattle.std.proofs.Common.{◌∙◌, drop_of_length-le, drop-cons, lt-ltb, le-ltb}
-use Rattle.trees.specs.Plain.{if◌then◌else◌, keep}
+use Rattle.trees.specs.Plain.{keep}
 use Rattle.trees.specs.Batch.{is_refusal, refused_in}
 
 module _ (v : List ℕ) (i : ℕ) where

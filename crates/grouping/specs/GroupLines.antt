@@ -5,8 +5,8 @@
 --   group_lines h            every group of the majority tree, by rising mask
 --   stand_in_line h i j       taxon j as a stand-in for taxon i: how many trees have the smallest group that holds both, and its names
 --   stand_in_lines h i        every other taxon as a stand-in for taxon i, the farthest first
-use Rattle.std.specs.Prelude.{ℕ, List, [], ◌∷◌, ◌++◌, map, eqb, get_or}
-use Rattle.trees.specs.Plain.{if◌then◌else◌, bytes}
+use Rattle.std.specs.Prelude.{ℕ, List, [], ◌∷◌, ◌++◌, map, eqb, get_or, if◌then◌else◌}
+use Rattle.trees.specs.Plain.{bytes}
 use Rattle.trees.specs.Decimal.{digits_of}
 use Rattle.trees.specs.Consensus.{count, majority}
 use Rattle.trees.specs.Written.{written_name}

@@ -5,13 +5,13 @@
 --   groups-put                     the lines of all groups
 --   line-more, line-end            lines one after another: one more, and behind the last
 --   counted-length, counted-at     there are as many counts as masks, and each is its mask's
-use Rattle.std.specs.Prelude.{ℕ, zero, suc, ◌+◌, ◌≤◌, ◌<◌, ◌≡◌, eqb, length, get_or, drop}
+use Rattle.std.specs.Prelude.{ℕ, zero, suc, ◌+◌, ◌≤◌, ◌<◌, ◌≡◌, eqb, length, get_or, drop, if◌then◌else◌}
 use Rattle.std.proofs.Math.Numerals.{add-one}
 use Rattle.std.proofs.Common.{arith, sym, ◌∙◌, drop_of_length-le, drop-cons, eq-eqb, ne_eqb}
 use Rattle.std.proofs.Math.Path.{refl, ap}
 use mathlib.Core.List.{List, [], ◌∷◌, ◌++◌, map, flat_map, append_assoc}
 use Rattle.std.proofs.lemmas.List.{length-map}
-use Rattle.trees.specs.Plain.{if◌then◌else◌, bytes}
+use Rattle.trees.specs.Plain.{bytes}
 use Rattle.trees.specs.Decimal.{digits_of}
 use Rattle.trees.specs.Consensus.{count, majority}
 use Rattle.trees.specs.Groups.{taxa_in, nearest}

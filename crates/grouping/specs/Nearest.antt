@@ -1,8 +1,7 @@
 -- The group of two taxa, by its place in a list of masks.
 --
 --   place_of i j ms        how many masks stand before the first that has the taxa i and j
-use Rattle.std.specs.Prelude.{ℕ, suc, List, [], ◌∷◌}
-use Rattle.trees.specs.Plain.{if◌then◌else◌}
+use Rattle.std.specs.Prelude.{ℕ, suc, List, [], ◌∷◌, if◌then◌else◌}
 use Rattle.trees.specs.Groups.{has_both}
 
 unfoldable pub place_of : ℕ → ℕ → List ℕ → ℕ

@@ -4,11 +4,10 @@
 --   place_here, place-next, place_end     the mask at place k has both taxa, or not; behind the last
 --   nearest-at, nearest-none              what stands at the place that is found is the smallest group; or there is none
 --   size-at, size_none                    how many taxa the group of the two has
-use Rattle.std.specs.Prelude.{ℕ, suc, ◌+◌, ◌≤◌, ◌<◌, ◌≡◌, refl, ◌⊎◌, Bool, true, false, List, [], ◌∷◌, length, get_or, drop}
+use Rattle.std.specs.Prelude.{ℕ, suc, ◌+◌, ◌≤◌, ◌<◌, ◌≡◌, refl, ◌⊎◌, Bool, true, false, List, [], ◌∷◌, length, get_or, drop, if◌then◌else◌}
 use Rattle.std.proofs.Math.Numerals.{add-one}
 use Rattle.std.proofs.Common.{arith, sym, ap, ◌∙◌, inl, inr, true≢false, drop_of_length-le, drop-cons}
 use Rattle.std.specs.Int.Count.{ones}
-use Rattle.trees.specs.Plain.{if◌then◌else◌}
 use Rattle.trees.specs.Mask.{has, ones_below, proper}
 use Rattle.trees.specs.Whole.{good_tree}
 use Rattle.trees.specs.Groups.{has_both, nearest, group_of}

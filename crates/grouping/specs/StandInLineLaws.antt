@@ -8,14 +8,14 @@
 --   stand-ins-few                       there are at most as many stand-ins as taxa
 use Prim.Native.Nat.{ℕ, zero, suc, ◌+◌, ◌-◌, ◌≤◌, ◌<◌}
 use native.Mathlib.Omega.{arith}
-use Rattle.std.specs.Prelude.{◌≡◌, Bool, ◌&&◌, not, leb, eqb}
+use Rattle.std.specs.Prelude.{◌≡◌, Bool, ◌&&◌, not, leb, eqb, if◌then◌else◌}
 use Rattle.std.proofs.Math.Path.{refl, ap}
 use Rattle.std.proofs.Common.{sym, ◌∙◌, true≢false, length-append, leb-true, le-leb, eqb-true, eq-eqb, ne_eqb}
 use Rattle.std.proofs.Math.Bool.{true, false}
 use mathlib.Core.List.{List, [], ◌∷◌, ◌++◌, map, map-append, flat_map}
 use Rattle.std.proofs.Math.ListN.{length}
 use Rattle.std.proofs.lemmas.Bool.{lt-leb}
-use Rattle.trees.specs.Plain.{if◌then◌else◌, keep}
+use Rattle.trees.specs.Plain.{keep}
 use Rattle.trees.specs.Mask.{ones_below}
 use Rattle.trees.specs.Consensus.{majority}
 use Rattle.trees.specs.Groups.{up_to, group_of, sharing, sharing_from, stand_ins}

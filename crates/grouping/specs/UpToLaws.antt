@@ -2,9 +2,9 @@
 --
 --   up-to-takes, up-to-leaves     taxon i passes, or not
 --   up-to-length                  there are n taxa
-use Rattle.std.specs.Prelude.{ℕ, zero, suc, ◌+◌, ◌≡◌, refl, Bool, true, false, [], ◌∷◌, ◌++◌, length}
+use Rattle.std.specs.Prelude.{ℕ, zero, suc, ◌+◌, ◌≡◌, refl, Bool, true, false, [], ◌∷◌, ◌++◌, length, if◌then◌else◌}
 use Rattle.std.proofs.Common.{add-one, arith, ◌∙◌, append-nil, length-append}
-use Rattle.trees.specs.Plain.{if◌then◌else◌, keep}
+use Rattle.trees.specs.Plain.{keep}
 use Rattle.trees.specs.Groups.{up_to}
 use Rattle.theorems.specs.ListLaws.{keep_append}
 

@@ -9,9 +9,8 @@
 --   Below n f                     the taxon, if one is found, is below n
 --   IndexedFrom ns i starts links     the index of the taxa from i on
 --   Sought ns w n                 the search for the name w has come to the entry n
-use Rattle.std.specs.Prelude.{◌≡◌, ℕ, zero, suc, ◌+◌, ◌-◌, ◌/◌, ◌%◌, ◌^◌, ◌<◌, ◌≤◌, List, [], ◌∷◌, length, drop, ◌==◌, ◌≢◌, slice_index, slice_index_or}
+use Rattle.std.specs.Prelude.{◌≡◌, ℕ, zero, suc, ◌+◌, ◌-◌, ◌/◌, ◌%◌, ◌^◌, ◌<◌, ◌≤◌, List, [], ◌∷◌, length, drop, ◌==◌, ◌≢◌, slice_index, slice_index_or, if◌then◌else◌}
 use Rattle.std.proofs.Math.Option.{Option, none, some}
-use Rattle.trees.specs.Plain.{if◌then◌else◌}
 use Rattle.trees.specs.Names.{taxon_from}
 use Rattle.fields.specs.Field.{number}
 use Rattle.head.specs.declared.Found.{Found}

@@ -6,7 +6,7 @@
 --   lane-changed         such bytes stay whole, and hold the same but for that lane, which is what its bytes say
 use Prim.Native.Nat.{ℕ, zero, suc, ◌+◌, ◌*◌, ◌≤◌, ◌<◌}
 use Rattle.std.proofs.Common.{arith, sym, ◌∙◌, inl, inr, get_or-set_other, eqb-true}
-use Rattle.std.specs.Prelude.{◌≡◌, ◌⊎◌, Bool, List, length, set}
+use Rattle.std.specs.Prelude.{◌≡◌, ◌⊎◌, Bool, List, length, set, if◌then◌else◌}
 use Rattle.std.proofs.Math.Path.{refl, ap}
 use Rattle.std.proofs.Math.Bool.{true, false}
 use Rattle.std.proofs.Math.Dec.{eqb}
@@ -14,7 +14,6 @@ use Rattle.std.proofs.Math.ListN.{get_or}
 use Rattle.std.proofs.Math.Seq.{get_or-set_same}
 use Rattle.std.proofs.lemmas.Bool.{eqb-false}
 use Rattle.theorems.specs.ListLaws.{less-or-not}
-use Rattle.trees.specs.Plain.{if◌then◌else◌}
 use Rattle.trees.specs.Opening.{Numbers, Opening, lane_bytes, head_bytes}
 use Rattle.trees.specs.Held.{Lane, with_lane}
 use Rattle.fields.specs.Field.{number}

@@ -2,8 +2,7 @@
 --
 --   LaneIs s l x t      the bytes t are whole and hold what s holds, but for lane l, which is x
 --   over_length q        the length that says of a lane that it ran over, and whether quotes are open
-use Rattle.std.specs.Prelude.{ℕ, ◌+◌, ◌≤◌, ◌<◌, ◌≡◌, ◌⊎◌, Bool, true, List, length, get_or}
-use Rattle.trees.specs.Plain.{if◌then◌else◌}
+use Rattle.std.specs.Prelude.{ℕ, ◌+◌, ◌≤◌, ◌<◌, ◌≡◌, ◌⊎◌, Bool, true, List, length, get_or, if◌then◌else◌}
 use Rattle.trees.specs.Opening.{lane_bytes}
 use Rattle.trees.specs.Held.{Lane, with_lane}
 use Rattle.layout.specs.Store.{lane_from, held_at, ran_over, ran_over_open}

@@ -7,13 +7,12 @@
 --   highest-above      the rows from it on are of other places
 use Prim.Native.Nat.{ℕ, zero, suc, ◌≤◌, ◌<◌}
 use native.Mathlib.Omega.{arith}
-use Rattle.std.specs.Prelude.{◌≡◌, ◌⊎◌, Bool}
+use Rattle.std.specs.Prelude.{◌≡◌, ◌⊎◌, Bool, if◌then◌else◌}
 use Rattle.std.proofs.Math.Path.{refl}
 use Rattle.std.proofs.Common.{ap, ap₂, ◌∙◌, inl, inr}
 use Rattle.std.proofs.Math.Bool.{true, false}
 use Rattle.std.proofs.Math.Dec.{eqb}
 use borrow.Author.Tests.{eqb-true, eqb-false, eq-eqb, ne_eqb}
-use Rattle.trees.specs.Plain.{if◌then◌else◌}
 use Rattle.theorems.specs.ListLaws.{less-or-not, by-test, if-true, if-false}
 use Rattle.layout.specs.Store.{Parts, mask_in}
 use Rattle.layout.specs.WholeStore.{highest_in}

@@ -2,10 +2,9 @@
 --
 --   no_room        n + 1 different numbers below n there are not
 --   each_stands    of n different numbers below n, none is left out
-use Rattle.std.specs.Prelude.{ℕ, zero, suc, ◌-◌, ◌<◌, ◌≡◌, refl, ◌⊎◌, Bool, true, false, ltb, eqb}
+use Rattle.std.specs.Prelude.{ℕ, zero, suc, ◌-◌, ◌<◌, ◌≡◌, refl, ◌⊎◌, Bool, true, false, ltb, eqb, if◌then◌else◌}
 use Rattle.std.proofs.Common.{arith, ap, ◌∙◌, inl, inr, ltb-true, ltb-false, eqb-true}
 use Rattle.std.proofs.lemmas.Bool.{eqb-false}
-use Rattle.trees.specs.Plain.{if◌then◌else◌}
 
 -- ---- the numbers but v, closed up
 

@@ -16,8 +16,7 @@
 --   length_in, lane_in               the stored length of lane l, and the lane
 --   held_in o p                     what a store with the opening o and the parts p holds
 --   trees_held_at .. held_at          the same of the bytes s
-use Rattle.std.specs.Prelude.{ℕ, ◌+◌, ◌*◌, true, false, List, [], map, eqb, length, get_or, take, drop}
-use Rattle.trees.specs.Plain.{if◌then◌else◌}
+use Rattle.std.specs.Prelude.{ℕ, ◌+◌, ◌*◌, true, false, List, [], map, eqb, length, get_or, take, drop, if◌then◌else◌}
 use Rattle.trees.specs.Value.{Length}
 use Rattle.trees.specs.Opening.{Numbers, Opening, store_size, lane_bytes, head_bytes, tree_bytes, branch_bytes}
 use Rattle.trees.specs.Held.{Held, Lane, holding, overrun}

@@ -12,11 +12,11 @@
 use Prim.Native.Nat.{ℕ, zero, suc, ◌+◌, ◌≤◌, ◌<◌}
 use Rattle.std.proofs.Common.{add-one, sym, ap, ◌∙◌, length-append, take-suc}
 use native.Mathlib.Omega.{arith}
-use Rattle.std.specs.Prelude.{◌≡◌, refl, ◌⊎◌, Bool, true, false, List, [], ◌∷◌, ◌++◌, map, length, get_or, take}
+use Rattle.std.specs.Prelude.{◌≡◌, refl, ◌⊎◌, Bool, true, false, List, [], ◌∷◌, ◌++◌, map, length, get_or, take, if◌then◌else◌}
 use Rattle.std.proofs.Math.Logic.{inl, inr}
 use Rattle.std.proofs.Math.ListN.{get_or-append}
 use Rattle.std.proofs.lemmas.List.{get_or_at}
-use Rattle.trees.specs.Plain.{if◌then◌else◌, member}
+use Rattle.trees.specs.Plain.{member}
 use Rattle.trees.specs.Consensus.{count}
 use Rattle.theorems.specs.ListLaws.{less-or-not, Mem, mem-get_d, mem-where}
 use Rattle.theorems.specs.RisingLaws.{Rising}

@@ -13,8 +13,8 @@
 --   good_head s         the head is in order
 --   whole_at s          the lent bytes s are a whole collection
 --   good_splits ..      the tests of the parts, of those of bytes
-use Rattle.std.specs.Prelude.{ℕ, zero, suc, Bool, true, ◌&&◌, List, leb, ltb, eqb, length, take}
-use Rattle.trees.specs.Plain.{if◌then◌else◌, every}
+use Rattle.std.specs.Prelude.{ℕ, zero, suc, Bool, true, ◌&&◌, List, leb, ltb, eqb, length, take, if◌then◌else◌}
+use Rattle.trees.specs.Plain.{every}
 use Rattle.trees.specs.Mask.{proper}
 use Rattle.trees.specs.Opening.{Opening, head_bytes}
 use Rattle.trees.specs.Consensus.{count}

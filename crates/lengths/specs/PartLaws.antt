@@ -9,11 +9,11 @@
 --   whole-parted, point-parted      what was read without and with a point
 --   length-unsigned                 the value by what stands behind the sign
 --   length_digits, length-exponent, exponent-digits, all_digits     where digits stand
-use Rattle.std.specs.Prelude.{ℕ, ◌+◌, ◌-◌, ◌*◌, ◌≤◌, ◌≡◌, ◌⊎◌, Bool, true, false, ◌||◌, List, [], ◌∷◌, ◌++◌, leb, eqb, pos, ◌-ℤ◌, length, get_or}
+use Rattle.std.specs.Prelude.{ℕ, ◌+◌, ◌-◌, ◌*◌, ◌≤◌, ◌≡◌, ◌⊎◌, Bool, true, false, ◌||◌, List, [], ◌∷◌, ◌++◌, leb, eqb, pos, ◌-ℤ◌, length, get_or, if◌then◌else◌}
 use Rattle.std.proofs.Common.{arith, sym, ap, ◌∙◌, inl, inr, append-nil, leb-true, eqb-true, ne_eqb, eq-eqb}
 use Rattle.std.proofs.Math.Path.{refl}
 use Rattle.std.proofs.Math.Bool.{false≢true}
-use Rattle.trees.specs.Plain.{if◌then◌else◌, every}
+use Rattle.trees.specs.Plain.{every}
 use Rattle.trees.specs.Length.{is_digit, is_sign, is_point, is_e, is_digits, unsigned, without_point, before_e, from_e, is_decimal, is_exponent, is_length}
 use Rattle.trees.specs.Value.{number_from, behind_point, is_minus, joined_digits, exponent, power, measured, length_of}
 use Rattle.theorems.specs.ListLaws.{and_left, and_right, or_cases}

@@ -10,9 +10,9 @@
 --   ExponentRead w r         the exponent; ExponentPast s at r: for every end of a token, which is where the exponent ends
 --   LengthStands s b         a length stands at b
 --   LengthTaken s b r        its value, and its end
-use Rattle.std.specs.Prelude.{ℕ, ◌≤◌, ◌<◌, ◌≡◌, Bool, true, false, List, ltb, length, get_or}
+use Rattle.std.specs.Prelude.{ℕ, ◌≤◌, ◌<◌, ◌≡◌, Bool, true, false, List, ltb, length, get_or, if◌then◌else◌}
 use Rattle.std.proofs.Math.Seq.{slice}
-use Rattle.trees.specs.Plain.{if◌then◌else◌, every}
+use Rattle.trees.specs.Plain.{every}
 use Rattle.trees.specs.Text.{is_label_byte}
 use Rattle.trees.specs.Length.{is_digit, is_e, unsigned, without_point, before_e, from_e, is_exponent, is_length}
 use Rattle.trees.specs.Value.{number_from, is_minus, behind_point, with_sign, exponent, length_of}

@@ -8,7 +8,7 @@
 --   decimal-whole, decimal-point                 no point, a point
 --   e-there, exponent-none, exponent-some        no exponent, one
 --   length_taken                                 all together
-use Rattle.std.specs.Prelude.{ℕ, suc, ◌+◌, ◌-◌, ◌*◌, ◌^◌, ◌≤◌, ◌<◌, ◌≡◌, ◌⊎◌, Bool, List, [], ◌∷◌, ◌++◌, leb, eqb, pos, ◌-ℤ◌, get_or}
+use Rattle.std.specs.Prelude.{ℕ, suc, ◌+◌, ◌-◌, ◌*◌, ◌^◌, ◌≤◌, ◌<◌, ◌≡◌, ◌⊎◌, Bool, List, [], ◌∷◌, ◌++◌, leb, eqb, pos, ◌-ℤ◌, get_or, if◌then◌else◌}
 use Rattle.std.proofs.Common.{eq-or-lt_of_le, add-one, arith, ap, ◌∙◌, inl, inr, true≢false, append-nil, length-append, le-leb, leb-true, eq-eqb, ne_eqb, eqb-true, lt-ltb, ltb-true}
 use Rattle.std.proofs.Math.Path.{refl, sym}
 use Rattle.std.proofs.Math.Bool.{true, false}
@@ -16,7 +16,7 @@ use Rattle.std.proofs.Math.Dec.{ltb}
 use Rattle.std.proofs.Math.ListN.{length}
 use Rattle.std.proofs.Math.Seq.{slice, slice_empty, slice-cons, length-slice}
 use Rattle.std.proofs.lemmas.Bool.{lt-leb}
-use Rattle.trees.specs.Plain.{if◌then◌else◌, every, member, bytes}
+use Rattle.trees.specs.Plain.{every, member, bytes}
 use Rattle.trees.specs.Text.{is_label_byte}
 use Rattle.trees.specs.Length.{is_digit, is_sign, is_point, is_e, unsigned, without_point, before_e, from_e, is_exponent}
 use Rattle.trees.specs.Value.{number_from, is_minus, with_sign, exponent, measured, length_of}

@@ -2,7 +2,7 @@
 use Rattle.std.proofs.Common.{◌≡◌, ℕ, zero, suc, ◌<◌, ◌≤◌, Bool, true, false, eqb, List, [], ◌∷◌, ◌++◌, map, length, get_or, take, sym, refl, ap, ◌∙◌, subst, ap₂, inl, inr, append-nil, arith, length-append, take-suc, eq-eqb, eqb-true}
 use mathlib.Core.List.{map-append}
 use mathlib.Core.Option.{Option}
-use Rattle.trees.specs.Plain.{if◌then◌else◌}
+use Rattle.std.specs.Prelude.{if◌then◌else◌}
 use Rattle.trees.specs.Mask.{side, proper}
 use Rattle.trees.specs.Tree.{Nodes, nil, leaf, inner, children}
 use Rattle.trees.specs.Splits.{taxon, taxa, clusters, splits_of}

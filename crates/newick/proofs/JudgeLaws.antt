@@ -9,7 +9,8 @@ use Rattle.std.proofs.Common.{◌≡◌, ℕ, zero, suc, ◌+◌, ◌*◌, ◌^�
 use mathlib.Core.Option.{none, some}
 use lib.Count.{ones}
 use lib.Seq.{sets-eq, take-append_seam}
-use Rattle.trees.specs.Plain.{if◌then◌else◌, refused, gives}
+use Rattle.std.specs.Prelude.{if◌then◌else◌}
+use Rattle.trees.specs.Plain.{refused, gives}
 use Rattle.trees.specs.Mask.{every_taxon}
 use Rattle.trees.specs.Tree.{Nodes, nil, leaf, leaves}
 use Rattle.trees.specs.Reading.{reading}

@@ -11,7 +11,8 @@ use mathlib.Core.Option.{Option}
 use lib.ListN.{length-map}
 use lib.Seq.{sets-eq, take-append_seam}
 use borrow.Author.Tests.{not-true, not-false}
-use Rattle.trees.specs.Plain.{if◌then◌else◌, every, keep, gives}
+use Rattle.std.specs.Prelude.{if◌then◌else◌}
+use Rattle.trees.specs.Plain.{every, keep, gives}
 use Rattle.trees.specs.Mask.{side, without}
 use Rattle.trees.specs.Text.{Symbol, symbols}
 use Rattle.trees.specs.Tree.{Nodes, nil, inner, leaves}

@@ -15,7 +15,8 @@ use Rattle.std.proofs.Common.{◌≡◌, ℕ, zero, suc, ◌+◌, ◌-◌, ◌<�
 use mathlib.Core.Option.{none, some}
 use lib.Ieee.{Float, binary64, to_bits}
 use lib.Seq.{slice, slice-cons, length-slice}
-use Rattle.trees.specs.Plain.{if◌then◌else◌, every}
+use Rattle.std.specs.Prelude.{if◌then◌else◌}
+use Rattle.trees.specs.Plain.{every}
 use Rattle.trees.specs.Text.{Symbol, Kind, blank, label, mark, kind, kind_in, apostrophe, is_label_byte, open_after, is_label, open_bracket, close_bracket, comma, colon, stray, token, symbols, symbols_after, ended}
 use Rattle.trees.specs.Length.{is_digit, is_sign, is_point, is_e, is_digits, unsigned, without_point, before_e, is_decimal, is_length}
 use Rattle.trees.specs.Value.{Length, length_of}

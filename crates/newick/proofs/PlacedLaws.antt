@@ -12,7 +12,7 @@ use Rattle.std.proofs.Common.{◌≡◌, ℕ, zero, suc, ◌+◌, ◌*◌, ◌<�
 use lib.ListN.{length-replicate}
 use lib.Seq.{sets, sets-eq}
 use borrow.Author.Tests.{not-true, not-false}
-use Rattle.trees.specs.Plain.{if◌then◌else◌}
+use Rattle.std.specs.Prelude.{if◌then◌else◌}
 use Rattle.trees.specs.Mask.{side, proper}
 use Rattle.trees.specs.Lengths.{value_of}
 use Rattle.theorems.specs.ListLaws.{by-test, if-true, if-false, less-or-not, equal_or_not, Mem, mem-get_d, mem-cases}

@@ -10,8 +10,8 @@
 --   NextStop s i j      j is the first place from i on where such a byte stands
 --   MeasuredBehind      the length behind a colon
 --   LengthsNoted        all of them
-use Rattle.std.specs.Prelude.{◌≡◌, ℕ, suc, ◌-◌, ◌<◌, ◌≤◌, Bool, true, false, ◌||◌, List, [], ◌∷◌, length, ◌==◌, slice_index, slice_set}
-use Rattle.trees.specs.Plain.{if◌then◌else◌, every, byte}
+use Rattle.std.specs.Prelude.{◌≡◌, ℕ, suc, ◌-◌, ◌<◌, ◌≤◌, Bool, true, false, ◌||◌, List, [], ◌∷◌, length, ◌==◌, slice_index, slice_set, if◌then◌else◌}
+use Rattle.trees.specs.Plain.{every, byte}
 use Rattle.trees.specs.Text.{apostrophe, Symbol, open_bracket, close_bracket, comma, colon, stray, token, symbols}
 use Rattle.trees.specs.Length.{is_length}
 use Rattle.trees.specs.Value.{length_of}

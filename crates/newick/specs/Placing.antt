@@ -8,11 +8,10 @@
 --   words_at .. m j      of the first j nodes, the words of those with the side m
 --   placed_words         the words at the places of the splits ms
 --   Placeable           what is asked of the first j nodes
-use Rattle.std.specs.Prelude.{◌≡◌, ℕ, zero, suc, ◌^◌, ◌<◌, ◌≤◌, true, List, [], ◌∷◌, ◌++◌, map, length, ◌==◌, slice_index}
+use Rattle.std.specs.Prelude.{◌≡◌, ℕ, zero, suc, ◌^◌, ◌<◌, ◌≤◌, true, List, [], ◌∷◌, ◌++◌, map, length, ◌==◌, slice_index, if◌then◌else◌}
 use Rattle.std.proofs.Math.Option.{Option}
 use Rattle.std.specs.Float.{binary64}
 use Rattle.std.specs.Float.Ieee.{add, to_bits, of_bits}
-use Rattle.trees.specs.Plain.{if◌then◌else◌}
 use Rattle.trees.specs.Mask.{side, proper}
 use Rattle.trees.specs.Lengths.{value_of}
 use Rattle.theorems.specs.ListLaws.{Mem}

@@ -5,8 +5,7 @@
 --   next_splits n m l   the splits l with the side of the cluster m, if it counts
 --   Standing o k s     k splits stand in s, rising
 --   Taken o f k s r t  of the splits l that stood in s, r stand in t: those of f l
-use Rattle.std.specs.Prelude.{◌≡◌, ℕ, ◌+◌, ◌*◌, ◌^◌, ◌<◌, ◌≤◌, List, [], ◌∷◌, ◌++◌, length}
-use Rattle.trees.specs.Plain.{if◌then◌else◌}
+use Rattle.std.specs.Prelude.{◌≡◌, ℕ, ◌+◌, ◌*◌, ◌^◌, ◌<◌, ◌≤◌, List, [], ◌∷◌, ◌++◌, length, if◌then◌else◌}
 use Rattle.trees.specs.Mask.{side, proper}
 use Rattle.trees.specs.Tree.{Nodes, nil, leaf, inner}
 use Rattle.trees.specs.Splits.{taxa, insert}

@@ -1,7 +1,6 @@
 // The lengths in a text that is a tree, from left to right. Those behind closing brackets are noted, in the order of the brackets: so the
 // spans of inner nodes were noted too (shape.rt).
-ghost use Rattle.std.specs.Prelude.{◌≡◌, ◌-◌, ◌<◌, ◌≤◌, true, false, length, slice_set};
-ghost use Rattle.trees.specs.Plain.{if◌then◌else◌};
+ghost use Rattle.std.specs.Prelude.{◌≡◌, ◌-◌, ◌<◌, ◌≤◌, true, false, length, slice_set, if◌then◌else◌};
 ghost use Rattle.trees.specs.Text.{symbols};
 ghost use Rattle.trees.specs.Held.{most_text};
 ghost use Rattle.text.specs.Read.{symbols_at};

@@ -8,7 +8,7 @@
 --   outside-none, outside-more, outside-less     none, one more, with less left
 --   outside-trees, outside-last, outside-wrong, outside-never     behind them: the TREES block, no command, a wrong one, or one of them never ends
 --   ends-trees, ends-wrong, ends-blank, ends-else     what stands behind the TREES block
-use Rattle.std.specs.Prelude.{ℕ, ◌+◌, ◌-◌, ◌≤◌, ◌<◌, ◌≡◌, ◌⊎◌, Bool, List, []}
+use Rattle.std.specs.Prelude.{ℕ, ◌+◌, ◌-◌, ◌≤◌, ◌<◌, ◌≡◌, ◌⊎◌, Bool, List, [], if◌then◌else◌}
 use native.Mathlib.Omega.{arith}
 use Rattle.std.proofs.Math.Path.{refl}
 use Rattle.std.proofs.Common.{◌∙◌, inl, inr}
@@ -16,7 +16,6 @@ use Rattle.std.proofs.Math.Bool.{true, false}
 use Rattle.std.proofs.Math.Option.{none, some}
 use Rattle.std.proofs.Math.ListN.{length}
 use borrow.Author.Tests.{eq-eqb, ne_eqb}
-use Rattle.trees.specs.Plain.{if◌then◌else◌}
 use Rattle.trees.specs.Nexus.{uncommented, File}
 use Rattle.trees.specs.NexusReading.{ends_other, outside, in_other, in_trees, wrong, to, moved, closes, reads_on, reads}
 use Rattle.theorems.specs.ListLaws.{less-or-not, if-true, if-false}

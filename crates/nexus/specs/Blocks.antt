@@ -8,9 +8,8 @@
 --   EndsAs f i r         r says whether other blocks and blanks alone stand from i on
 --   TreesAs f i r ps     the TREES block from its first command, at i, on, and what stands behind it
 --   FileAs f r ps        the whole file
-use Rattle.std.specs.Prelude.{ℕ, ◌+◌, ◌≤◌, ◌<◌, ◌≡◌, Bool, true, false, List, [], ◌∷◌, length}
+use Rattle.std.specs.Prelude.{ℕ, ◌+◌, ◌≤◌, ◌<◌, ◌≡◌, Bool, true, false, List, [], ◌∷◌, length, if◌then◌else◌}
 use Rattle.std.proofs.Math.Option.{Option, none, some}
-use Rattle.trees.specs.Plain.{if◌then◌else◌}
 use Rattle.trees.specs.Nexus.{File}
 use Rattle.trees.specs.NexusReading.{outside, in_other, in_trees, with_pairs, with_text, closes, reads, read_file}
 use Rattle.nexus.specs.declared.blocks.Next.{Next}

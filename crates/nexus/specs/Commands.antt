@@ -11,9 +11,9 @@
 --   placed_pair ps n k v   the places ps with those of the key k and the name v for pair n
 --   NoneOf k v r          r says whether the key k or the name v is none
 --   PairsAs s i r ps      from i on, s lists r pairs whose places are ps; r is 0 where it lists none, or too many
-use Rattle.std.specs.Prelude.{ℕ, zero, suc, ◌+◌, ◌*◌, ◌≤◌, ◌<◌, ◌≡◌, Bool, true, false, ◌⊎◌, List, [], ◌∷◌, length, get_or, set}
+use Rattle.std.specs.Prelude.{ℕ, zero, suc, ◌+◌, ◌*◌, ◌≤◌, ◌<◌, ◌≡◌, Bool, true, false, ◌⊎◌, List, [], ◌∷◌, length, get_or, set, if◌then◌else◌}
 use Rattle.std.proofs.Math.Option.{none, some}
-use Rattle.trees.specs.Plain.{if◌then◌else◌, byte}
+use Rattle.trees.specs.Plain.{byte}
 use Rattle.trees.specs.Nexus.{behind_run, begins, uncommented, Pair, most_keys}
 use Rattle.trees.specs.Text.{is_blank, is_label_byte, open_after, parts, is_label}
 use Rattle.trees.specs.NexusReading.{two_tokens, label_run, behind_label, last_end, ends_after, read_line, read_pairs, Move, wrong, to, brings, outside, in_other, in_trees, block_begun, listed, moved}

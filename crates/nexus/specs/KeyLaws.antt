@@ -10,13 +10,13 @@
 --   name-stays, name-found               the name of a token that is no key, and of one that is
 use Prim.Native.Nat.{ℕ, zero, suc, ◌+◌, ◌-◌, ◌*◌, ◌≤◌, ◌<◌}
 use Rattle.std.proofs.Common.{add-one, arith, sym, ◌∙◌, drop_of_length-le, drop-cons}
-use Rattle.std.specs.Prelude.{◌≡◌, Bool, ◌&&◌, ◌||◌, length, get_or, drop}
+use Rattle.std.specs.Prelude.{◌≡◌, Bool, ◌&&◌, ◌||◌, length, get_or, drop, if◌then◌else◌}
 use Rattle.std.proofs.Math.Path.{refl, ap}
 use Rattle.std.proofs.Math.Bool.{true, false, not}
 use mathlib.Core.List.{List, [], ◌∷◌}
 use Rattle.std.proofs.Math.Option.{none, some}
 use Rattle.std.proofs.Math.Seq.{slice}
-use Rattle.trees.specs.Plain.{if◌then◌else◌, same_bytes, in_names}
+use Rattle.trees.specs.Plain.{same_bytes, in_names}
 use Rattle.trees.specs.Names.{taxon_from, different}
 use Rattle.trees.specs.Nexus.{Pair}
 use Rattle.trees.specs.NexusCall.{keys_of, name_of}

@@ -13,14 +13,14 @@
 --   hands-refused, hands-room     the verdict on a plain text that is not written: it is refused, or gives splits
 use Prim.Native.Nat.{ℕ, zero, suc, ◌+◌, ◌-◌, ◌*◌, ◌≤◌, ◌<◌, min}
 use Rattle.std.proofs.Common.{arith, ap, ◌∙◌, true≢false, take_all, ne_eqb}
-use Rattle.std.specs.Prelude.{◌≡◌, Bool, true, false, ◌||◌, not, ◌&&◌, eqb, length, get_or, take}
+use Rattle.std.specs.Prelude.{◌≡◌, Bool, true, false, ◌||◌, not, ◌&&◌, eqb, length, get_or, take, if◌then◌else◌}
 use Rattle.std.proofs.Math.Path.{refl, sym, ap₂}
 use mathlib.Core.List.{List, [], ◌∷◌, ◌++◌, map, map-append}
 use Rattle.std.proofs.Math.Option.{some}
 use Rattle.std.proofs.lemmas.List.{length-map}
 use Rattle.std.proofs.Math.Seq.{slice}
 use Rattle.std.proofs.lemmas.List.Edits.{sets}
-use Rattle.trees.specs.Plain.{if◌then◌else◌, member, bytes, byte, refused, gives}
+use Rattle.trees.specs.Plain.{member, bytes, byte, refused, gives}
 use Rattle.trees.specs.Text.{apostrophe, is_blank, turned, open_after, kind, kind_in, blank, ended, symbols}
 use Rattle.trees.specs.Verdict.{Branches, judged_with}
 use Rattle.trees.specs.Held.{most_text, room_for}

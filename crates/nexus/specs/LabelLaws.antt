@@ -5,7 +5,7 @@
 --   has_there, has-not             whether a byte stands at a place
 --   quote-begins, none-begins      whether a quote does, in the bytes that are read there
 --   label-none, label-quoted, label-bare     the label at a place: what stands in quotes is none, or is one, or there are none
-use Rattle.std.specs.Prelude.{ℕ, ◌≤◌, ◌<◌, ◌≡◌, Bool, List, [], ◌∷◌, get_or, drop}
+use Rattle.std.specs.Prelude.{ℕ, ◌≤◌, ◌<◌, ◌≡◌, Bool, List, [], ◌∷◌, get_or, drop, if◌then◌else◌}
 use Rattle.std.proofs.Common.{arith, ◌∙◌}
 use Rattle.std.proofs.Math.Path.{refl, sym, ap}
 use Rattle.std.proofs.Math.Logic.{⊎_elim}
@@ -13,7 +13,6 @@ use Rattle.std.proofs.Math.Bool.{true, false, true≢false}
 use Rattle.std.proofs.Math.Dec.{eqb, ltb}
 use Rattle.std.proofs.Math.ListN.{length}
 use borrow.Author.Tests.{eqb-true, eq-eqb, ne_eqb, ltb-true, lt-ltb}
-use Rattle.trees.specs.Plain.{if◌then◌else◌}
 use Rattle.trees.specs.Text.{turned, is_label}
 use Rattle.trees.specs.Nexus.{begins, uncommented, behind_comment}
 use Rattle.trees.specs.NexusReading.{quoted_run, behind_quoted, label_run, behind_label}

@@ -7,7 +7,7 @@
 --   not-tree, name-lacks, equals-lacks  a command that gives no tree: not TREE, no name, no `=`
 --   line-text             one that does: its text stands behind the `=`
 --   ends-trees, line-wrong, line-brings     what a command of the TREES block does
-use Rattle.std.specs.Prelude.{ℕ, ◌+◌, ◌≤◌, ◌<◌, Bool, ◌&&◌, List, [], ◌∷◌, map, eqb, leb, ltb, get_or}
+use Rattle.std.specs.Prelude.{ℕ, ◌+◌, ◌≤◌, ◌<◌, Bool, ◌&&◌, List, [], ◌∷◌, map, eqb, leb, ltb, get_or, if◌then◌else◌}
 use native.Mathlib.Omega.{arith}
 use Rattle.std.proofs.Math.Path.{◌≡◌, refl, ap}
 use Rattle.std.proofs.Common.{sym, ◌∙◌, ⊎_elim, true≢false}
@@ -15,7 +15,7 @@ use Rattle.std.proofs.Math.Bool.{true, false}
 use Rattle.std.proofs.Math.Option.{none, some}
 use Rattle.std.proofs.Math.ListN.{length}
 use borrow.Author.Tests.{eq-eqb, ne_eqb, eqb-true, lt-ltb, le-ltb, ltb-true, le-leb}
-use Rattle.trees.specs.Plain.{if◌then◌else◌, every, same_bytes, bytes}
+use Rattle.trees.specs.Plain.{every, same_bytes, bytes}
 use Rattle.trees.specs.Text.{is_blank}
 use Rattle.trees.specs.Nexus.{uncommented, capital, is_word}
 use Rattle.trees.specs.NexusReading.{first_token, behind_first, two_tokens, text_behind, name_and_text, read_line, is_end, wrong, block_begun, moved, line_given}

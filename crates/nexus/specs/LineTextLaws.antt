@@ -4,12 +4,12 @@
 --   with-text          a text, and what is read behind it
 --   line-fits, line-text     a line's text begins inside it, and is what is read first
 --   line-wrong, line-end     no line of a tree
-use Rattle.std.specs.Prelude.{ℕ, suc, ◌+◌, ◌-◌, ◌≤◌, ◌<◌, refl, Bool, true, false, List, [], ◌∷◌, drop}
+use Rattle.std.specs.Prelude.{ℕ, suc, ◌+◌, ◌-◌, ◌≤◌, ◌<◌, refl, Bool, true, false, List, [], ◌∷◌, drop, if◌then◌else◌}
 use Rattle.std.proofs.Common.{arith, sym, ap₂, ◌∙◌, length-take}
 use Rattle.std.proofs.Math.Path.{◌≡◌, ap}
 use Rattle.std.proofs.Math.Option.{Option, none, some}
 use Rattle.std.proofs.Math.ListN.{length}
-use Rattle.trees.specs.Plain.{if◌then◌else◌, every}
+use Rattle.trees.specs.Plain.{every}
 use Rattle.trees.specs.Text.{is_blank}
 use Rattle.trees.specs.Nexus.{uncommented, is_word, Pair, File}
 use Rattle.trees.specs.NexusReading.{two_tokens, ends_other, outside, in_other, in_trees, Move, wrong, to, brings, block_begun, moved, with_text, closes, reads_on, reads}

@@ -7,8 +7,7 @@
 --   free_tokens free ss      the tokens of ss that may be keys
 --   renamed ps t            the nodes t, the labels of their leaves replaced
 --   bytes_of ws              how many bytes the labels ws have together
-use Rattle.std.specs.Prelude.{ℕ, ◌+◌, Bool, true, false, ◌&&◌, List, [], ◌∷◌, length}
-use Rattle.trees.specs.Plain.{if◌then◌else◌}
+use Rattle.std.specs.Prelude.{ℕ, ◌+◌, Bool, true, false, ◌&&◌, List, [], ◌∷◌, length, if◌then◌else◌}
 use Rattle.trees.specs.Text.{Symbol, open_bracket, close_bracket, comma, colon, stray, token, is_label}
 use Rattle.trees.specs.Tree.{Nodes, nil, leaf, inner}
 use Rattle.trees.specs.Nexus.{Pair}

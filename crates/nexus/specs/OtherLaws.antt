@@ -11,7 +11,7 @@
 --   word_at             the token, if any, that stands there
 --   not-word, not_last  it is not END, or not the last
 --   end-here, end_none  it is the last END; nothing is left
-use Rattle.std.specs.Prelude.{ℕ, ◌+◌, ◌≤◌, ◌<◌, ◌≡◌, Bool, ◌&&◌, ◌||◌, not, get_or, drop}
+use Rattle.std.specs.Prelude.{ℕ, ◌+◌, ◌≤◌, ◌<◌, ◌≡◌, Bool, ◌&&◌, ◌||◌, not, get_or, drop, if◌then◌else◌}
 use native.Mathlib.Omega.{arith}
 use Rattle.std.proofs.Math.Path.{refl, sym, ap}
 use Rattle.std.proofs.Common.{◌∙◌, inl, inr, true≢false, eq-eqb, ne_eqb}
@@ -19,7 +19,7 @@ use Rattle.std.proofs.Math.Logic.{⊎_elim}
 use Rattle.std.proofs.Math.Bool.{true, false}
 use mathlib.Core.List.{List, [], ◌∷◌, ◌++◌, map, append_assoc}
 use Rattle.std.proofs.Math.ListN.{length}
-use Rattle.trees.specs.Plain.{if◌then◌else◌, every, same_bytes, bytes}
+use Rattle.trees.specs.Plain.{every, same_bytes, bytes}
 use Rattle.trees.specs.Text.{is_blank, is_label_byte, turned, open_after}
 use Rattle.trees.specs.Nexus.{run_of, behind_run, begins, uncommented, behind_comment, capital, is_word}
 use Rattle.trees.specs.NexusReading.{last_end, ends_after, ends_other}

@@ -12,14 +12,14 @@
 --   other-front, other-stray     so it is at a place where another byte stands, and then a part has more
 --   pair_of c k v       the bytes of c at the places k and v
 --   list-none, list-stray, list-last, list-more     a list whose first part is no pair, is the last one, or has others behind it, told by places
-use Rattle.std.specs.Prelude.{ℕ, ◌+◌, ◌≤◌, ◌<◌, ◌≡◌, refl, ◌⊎◌, Bool, true, ◌&&◌, eqb, length, get_or}
+use Rattle.std.specs.Prelude.{ℕ, ◌+◌, ◌≤◌, ◌<◌, ◌≡◌, refl, ◌⊎◌, Bool, true, ◌&&◌, eqb, length, get_or, if◌then◌else◌}
 use Rattle.std.proofs.Common.{arith, sym, ◌∙◌, ⊎_elim, ne_eqb, le-leb}
 use Rattle.std.proofs.Math.Path.{ap, ap₂}
 use Rattle.std.proofs.Math.Bool.{false}
 use mathlib.Core.List.{List, [], ◌∷◌}
 use Rattle.std.proofs.Math.Option.{Option, none, some}
 use Rattle.std.proofs.Math.Dec.{leb}
-use Rattle.trees.specs.Plain.{if◌then◌else◌, every}
+use Rattle.trees.specs.Plain.{every}
 use Rattle.trees.specs.Text.{is_blank, is_label_byte, turned, parts, is_label}
 use Rattle.trees.specs.Nexus.{run_of, behind_run, begins, Pair}
 use Rattle.trees.specs.NexusReading.{first_token, behind_first, label_run, behind_label, read_name, with_key, read_pair, with_pair, read_pairs}

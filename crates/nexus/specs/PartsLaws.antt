@@ -5,13 +5,12 @@
 --   run-part, behind-part, later-part     a run of bytes, none of which is x or a quote, at the front of a part and of the whole
 --   quoted-part, behind-quoted, later-quoted     so a run in quotes
 --   label-part, behind-label, later-label        so a label
-use Rattle.std.specs.Prelude.{ℕ, ◌≡◌, Bool, ◌&&◌, not}
+use Rattle.std.specs.Prelude.{ℕ, ◌≡◌, Bool, ◌&&◌, not, if◌then◌else◌}
 use Rattle.std.proofs.Math.Path.{refl, sym, ap, ap₂}
 use Rattle.std.proofs.Common.{◌∙◌, true≢false, eqb-true}
 use Rattle.std.proofs.Math.Bool.{true, false}
 use mathlib.Core.List.{List, [], ◌∷◌}
 use Rattle.std.proofs.Math.Dec.{eqb}
-use Rattle.trees.specs.Plain.{if◌then◌else◌}
 use Rattle.trees.specs.Text.{apostrophe, is_label_byte, turned, with_byte, parts}
 use Rattle.trees.specs.Nexus.{run_of, behind_run, begins}
 use Rattle.trees.specs.NexusReading.{quoted_run, behind_quoted, label_run, behind_label}

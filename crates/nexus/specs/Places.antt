@@ -16,8 +16,8 @@
 --   PlainEnd s i r        such bytes stand from i up to r, and none at r
 --   closing b             the byte that ends what b begins: a comment or a run in quotes
 --   CommandEnd s i r      the command that begins at i ends at r, at its semicolon or behind s
-use Rattle.std.specs.Prelude.{ℕ, ◌+◌, ◌-◌, ◌≤◌, ◌<◌, ◌≡◌, Bool, true, false, not, ◌&&◌, List, [], ◌∷◌, ◌++◌, ltb, eqb, length, get_or, take, drop}
-use Rattle.trees.specs.Plain.{if◌then◌else◌, every, byte}
+use Rattle.std.specs.Prelude.{ℕ, ◌+◌, ◌-◌, ◌≤◌, ◌<◌, ◌≡◌, Bool, true, false, not, ◌&&◌, List, [], ◌∷◌, ◌++◌, ltb, eqb, length, get_or, take, drop, if◌then◌else◌}
+use Rattle.trees.specs.Plain.{every, byte}
 use Rattle.trees.specs.Text.{semicolon, apostrophe, is_blank, open_after, parts}
 use Rattle.trees.specs.Nexus.{behind_run, begins, uncommented, behind_comment, is_name_byte}
 use Rattle.trees.specs.NexusReading.{first_token, behind_first}

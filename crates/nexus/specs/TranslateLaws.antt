@@ -7,7 +7,7 @@
 --   same_read          another command reads the same, whether the block has just begun or not
 --   list-moves, listed-pairs     what a TRANSLATE command does, and where it lists pairs
 --   no-list, bad-list, good-list     the paths of `read_list`
-use Rattle.std.specs.Prelude.{ℕ, ◌+◌, ◌≤◌, ◌≡◌, refl, Bool, true, ◌&&◌}
+use Rattle.std.specs.Prelude.{ℕ, ◌+◌, ◌≤◌, ◌≡◌, refl, Bool, true, ◌&&◌, if◌then◌else◌}
 use native.Mathlib.Omega.{arith}
 use Rattle.std.proofs.Math.Path.{sym, ap}
 use Rattle.std.proofs.Common.{◌∙◌, le-leb}
@@ -16,7 +16,7 @@ use Rattle.std.proofs.Math.Bool.{false}
 use mathlib.Core.List.{List, [], ◌∷◌, map}
 use Rattle.std.proofs.Math.Option.{Option, none, some}
 use Rattle.std.proofs.Math.ListN.{length}
-use Rattle.trees.specs.Plain.{if◌then◌else◌, every, same_bytes, bytes}
+use Rattle.trees.specs.Plain.{every, same_bytes, bytes}
 use Rattle.trees.specs.Text.{is_blank, parts}
 use Rattle.trees.specs.Nexus.{uncommented, capital, is_word, File, most_keys}
 use Rattle.trees.specs.NexusReading.{first_token, behind_first, read_pairs, read_line, is_end, outside, in_trees, wrong, to, lists, listed, line_given, moved, with_pairs, closes, reads_on, reads}

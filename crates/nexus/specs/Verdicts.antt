@@ -7,9 +7,9 @@
 --   LinesAt f i n        the lines of n trees begin at i
 --   Feeds b s v t w      the verdicts of b stand at the front of w, which was v, and the lent bytes t, which were s, hold what b leaves
 --   FeedsLines ps f i n s v t w     the trees whose lines begin at i are fed, n in all
-use Rattle.std.specs.Prelude.{ℕ, ◌+◌, ◌≤◌, ◌<◌, ◌≡◌, true, false, List, [], ◌∷◌, ◌++◌, map, ltb, length, take, drop}
+use Rattle.std.specs.Prelude.{ℕ, ◌+◌, ◌≤◌, ◌<◌, ◌≡◌, true, false, List, [], ◌∷◌, ◌++◌, map, ltb, length, take, drop, if◌then◌else◌}
 use Rattle.std.proofs.Math.Option.{some}
-use Rattle.trees.specs.Plain.{if◌then◌else◌, refused}
+use Rattle.trees.specs.Plain.{refused}
 use Rattle.trees.specs.Held.{Lane, holding, overrun, most_text, verdict, finished, recording}
 use Rattle.trees.specs.Batch.{none_accepted, Batched}
 use Rattle.trees.specs.Nexus.{uncommented, Pair}

@@ -4,8 +4,7 @@
 --   numbers_of n l t s m b      the numbers, as one record
 --   opening_with x ns f s       the opening of the numbers x, the names ns and two lists of constants
 --   opening_of x list f s       the same, of a name list
-use Rattle.std.specs.Prelude.{ℕ, Bool, List}
-use Rattle.trees.specs.Plain.{if◌then◌else◌}
+use Rattle.std.specs.Prelude.{ℕ, Bool, List, if◌then◌else◌}
 use Rattle.trees.specs.Names.{names_in}
 use Rattle.trees.specs.Opening.{Numbers, Opening}
 

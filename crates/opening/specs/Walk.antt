@@ -2,9 +2,9 @@
 --
 --   names_from s i      the names of the list s from place i on; none past its end
 --   NameEnd s b e      the name that begins at b ends at e; e is past the list where no label stands there up to a space or the end
-use Rattle.std.specs.Prelude.{ℕ, ◌+◌, ◌≤◌, ◌<◌, ◌≡◌, false, List, [], ◌∷◌, leb, length, drop}
+use Rattle.std.specs.Prelude.{ℕ, ◌+◌, ◌≤◌, ◌<◌, ◌≡◌, false, List, [], ◌∷◌, leb, length, drop, if◌then◌else◌}
 use Rattle.std.proofs.Math.Seq.{slice}
-use Rattle.trees.specs.Plain.{if◌then◌else◌, every}
+use Rattle.trees.specs.Plain.{every}
 use Rattle.trees.specs.Text.{read_as}
 use Rattle.trees.specs.Names.{names_in, is_name}
 

@@ -8,13 +8,13 @@
 --   others-behind, others-drop         the end of a text without x has no x
 --   starts_other                       nor does it begin with one
 use Prim.Native.Nat.{ℕ, zero, suc}
-use Rattle.std.specs.Prelude.{◌≡◌, Bool, ◌&&◌, not, eqb, drop}
+use Rattle.std.specs.Prelude.{◌≡◌, Bool, ◌&&◌, not, eqb, drop, if◌then◌else◌}
 use Rattle.std.proofs.Math.Path.{refl}
 use Rattle.std.proofs.Common.{ap}
 use Rattle.std.proofs.Math.Bool.{true, false}
 use mathlib.Core.List.{List, [], ◌∷◌, ◌++◌}
 use borrow.Author.Tests.{eqb-true, eq-eqb, not-true}
-use Rattle.trees.specs.Plain.{if◌then◌else◌, every}
+use Rattle.trees.specs.Plain.{every}
 use Rattle.trees.specs.Text.{with_byte}
 use Rattle.trees.specs.Nexus.{run_of, behind_run, begins}
 use Rattle.trees.specs.Phylip.{between}

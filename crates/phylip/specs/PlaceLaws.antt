@@ -8,13 +8,12 @@
 --   number-start, number_more, number-done     a number in digits: at its start, one digit on, and at its end
 --   digit-below, digit-from, digit_low         the byte of a digit
 --   value-place            a value, behind the spaces
-use Rattle.std.specs.Prelude.{ℕ, ◌+◌, ◌-◌, ◌*◌, ◌≤◌, ◌<◌, ◌⊎◌, ◌≡◌, refl, Bool, true, false, List, [], ◌∷◌, leb, ltb, length}
+use Rattle.std.specs.Prelude.{ℕ, ◌+◌, ◌-◌, ◌*◌, ◌≤◌, ◌<◌, ◌⊎◌, ◌≡◌, refl, Bool, true, false, List, [], ◌∷◌, leb, ltb, length, if◌then◌else◌}
 use Rattle.std.proofs.Common.{add-one, arith, inl, inr, sym, ◌∙◌, true≢false, drop_of_length-le, ltb-true, ltb-false, le-ltb, leb-true, le-leb}
 use Rattle.std.proofs.Math.Path.{ap}
 use Rattle.std.proofs.Math.ListN.{get_or, drop}
 use Rattle.std.proofs.Math.Seq.{drop-cons}
 use Rattle.std.proofs.lemmas.Bool.{lt-leb}
-use Rattle.trees.specs.Plain.{if◌then◌else◌}
 use Rattle.trees.specs.Length.{is_digit}
 use Rattle.trees.specs.Value.{number_from}
 use Rattle.trees.specs.Nexus.{run_of, behind_run, begins}

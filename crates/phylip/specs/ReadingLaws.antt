@@ -5,12 +5,12 @@
 --   first-within, first_read           so it is where the line is good
 --   values-fit                         how many values there are at most
 --   read-unfirst, read-unrows, read-unsymmetric, read_short, read-given     the answers
-use Rattle.std.specs.Prelude.{ℕ, ◌+◌, ◌*◌, ◌≤◌, ◌<◌, ◌≡◌, refl, Bool, true, false, ◌&&◌, List, ◌++◌, leb, ltb, length, drop}
+use Rattle.std.specs.Prelude.{ℕ, ◌+◌, ◌*◌, ◌≤◌, ◌<◌, ◌≡◌, refl, Bool, true, false, ◌&&◌, List, ◌++◌, leb, ltb, length, drop, if◌then◌else◌}
 use Rattle.std.proofs.Common.{mul-le-mul, ◌∙◌}
 use Rattle.std.proofs.Math.Path.{sym, ap}
 use Rattle.std.proofs.Math.Option.{none, some}
 use borrow.Author.Tests.{le-leb, lt-leb, leb-true, lt-ltb, le-ltb}
-use Rattle.trees.specs.Plain.{if◌then◌else◌, Answer, refused, gives}
+use Rattle.trees.specs.Plain.{Answer, refused, gives}
 use Rattle.trees.specs.Length.{is_digit}
 use Rattle.trees.specs.Nexus.{behind_run, begins}
 use Rattle.trees.specs.Phylip.{most_trees, Square, square_in, symmetric}

@@ -6,13 +6,13 @@
 --   row-in, row_next      a line is the row that `row_in` says, and the next row stands behind its LF
 use Prim.Native.Nat.{ℕ, zero, suc, ◌≤◌, ◌<◌}
 use Rattle.std.proofs.Common.{arith, inl, inr, sym, ap, ◌∙◌, true≢false, length-take, length-append, get_or-take, ne_eqb}
-use Rattle.std.specs.Prelude.{◌⊎◌, ◌≡◌, true, false, ◌&&◌, leb, eqb, length, take, drop, get_or}
+use Rattle.std.specs.Prelude.{◌⊎◌, ◌≡◌, true, false, ◌&&◌, leb, eqb, length, take, drop, get_or, if◌then◌else◌}
 use Rattle.std.proofs.Math.Path.{refl}
 use Rattle.std.proofs.Math.Bool.{Bool}
 use mathlib.Core.List.{List, [], ◌∷◌, ◌++◌}
 use Rattle.std.proofs.Math.Option.{Option, none, some}
 use Rattle.std.proofs.Math.Seq.{take-append-le, drop-append-le, get_or-append_seam}
-use Rattle.trees.specs.Plain.{if◌then◌else◌, every, byte}
+use Rattle.trees.specs.Plain.{every, byte}
 use Rattle.trees.specs.Length.{is_digit}
 use Rattle.trees.specs.Nexus.{behind_run, begins}
 use Rattle.trees.specs.Phylip.{is_empty, is_name, values_in, exactly, row_in}

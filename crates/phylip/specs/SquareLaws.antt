@@ -3,14 +3,14 @@
 --   square-in       what is read of the whole text is what `square_in` says
 use Prim.Native.Nat.{ℕ, zero, suc, ◌≤◌}
 use Rattle.std.proofs.Common.{arith, sym, ap, ◌∙◌, true≢false}
-use Rattle.std.specs.Prelude.{◌≡◌, Bool, ◌&&◌, not, eqb, take, drop}
+use Rattle.std.specs.Prelude.{◌≡◌, Bool, ◌&&◌, not, eqb, take, drop, if◌then◌else◌}
 use Rattle.std.proofs.Math.Path.{refl}
 use Rattle.std.proofs.Math.Bool.{true, false}
 use mathlib.Core.List.{List, [], ◌∷◌, ◌++◌}
 use Rattle.std.proofs.Math.Option.{Option, none, some}
 use Rattle.std.proofs.Math.Dec.{leb}
 use Rattle.std.proofs.lemmas.Bool.{not-true}
-use Rattle.trees.specs.Plain.{if◌then◌else◌, every, byte}
+use Rattle.trees.specs.Plain.{every, byte}
 use Rattle.trees.specs.Length.{is_digit, is_digits}
 use Rattle.trees.specs.Value.{number_from}
 use Rattle.trees.specs.Decimal.{number_in}

@@ -3,14 +3,14 @@
 --   capped-most, capped_small     a capped number against one below 65,536
 --   line_read n w                  the n values of the line w, read from left to right, and nothing behind them
 --   line-values                   they are the values that `values_in` says
-use Rattle.std.specs.Prelude.{ℕ, zero, suc, ◌<◌, Bool, ◌&&◌, not, List, [], ◌∷◌, ◌++◌, ltb, eqb, length}
+use Rattle.std.specs.Prelude.{ℕ, zero, suc, ◌<◌, Bool, ◌&&◌, not, List, [], ◌∷◌, ◌++◌, ltb, eqb, length, if◌then◌else◌}
 use Rattle.std.proofs.Common.{arith, sym, ap, ◌∙◌, true≢false, append-nil, ltb-false, leb-true, lt-ltb, eqb-true, eq-eqb, ne_eqb}
 use Rattle.std.proofs.Math.Path.{◌≡◌, refl}
 use Rattle.std.proofs.Math.Bool.{true, false}
 use Rattle.std.proofs.Math.Option.{Option, none, some}
 use Rattle.std.proofs.Math.Dec.{leb}
 use Rattle.std.proofs.lemmas.Bool.{lt-leb, eqb-false, not-true}
-use Rattle.trees.specs.Plain.{if◌then◌else◌, every, keep, byte}
+use Rattle.trees.specs.Plain.{every, keep, byte}
 use Rattle.trees.specs.Text.{with_byte}
 use Rattle.trees.specs.Length.{is_digit, is_digits}
 use Rattle.trees.specs.Value.{number_from}

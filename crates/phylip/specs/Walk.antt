@@ -13,8 +13,8 @@
 --   rows_read k t s, next_rows k t s, are_rows k t s     the same of k lines; and nothing behind them
 --   is_first s, behind_first s         a line with the number of trees, and what stands behind it
 --   is_square s, square_read s         the whole text
-use Rattle.std.specs.Prelude.{ℕ, zero, suc, Bool, true, ◌&&◌, List, [], ◌∷◌, ◌++◌, leb, ltb, eqb, take, drop}
-use Rattle.trees.specs.Plain.{if◌then◌else◌, byte}
+use Rattle.std.specs.Prelude.{ℕ, zero, suc, Bool, true, ◌&&◌, List, [], ◌∷◌, ◌++◌, leb, ltb, eqb, take, drop, if◌then◌else◌}
+use Rattle.trees.specs.Plain.{byte}
 use Rattle.trees.specs.Length.{is_digit}
 use Rattle.trees.specs.Value.{number_from}
 use Rattle.trees.specs.Nexus.{run_of, behind_run, begins}

@@ -8,7 +8,7 @@
 --   same-texts            so it has where its lane holds the same
 --   handed-same           such collections hand in the same
 --   told_same             and where they answer these feedings alike, and questions, they answer every call alike
-use Rattle.std.specs.Prelude.{ℕ, zero, suc, ◌≡◌, Bool, length, get_or, set, drop}
+use Rattle.std.specs.Prelude.{ℕ, zero, suc, ◌≡◌, Bool, length, get_or, set, drop, if◌then◌else◌}
 use Rattle.std.proofs.Common.{arith, ◌∙◌}
 use Rattle.std.proofs.Math.Path.{refl, sym, ap, ap₂, subst}
 use Rattle.std.proofs.Math.Bool.{true, false}
@@ -16,7 +16,7 @@ use mathlib.Core.List.{List, [], ◌∷◌, ◌++◌, map}
 use Rattle.std.proofs.Math.Dec.{ltb}
 use Rattle.std.proofs.Math.ListN.{take}
 use Rattle.std.proofs.Math.Seq.{take-append_seam}
-use Rattle.trees.specs.Plain.{if◌then◌else◌, Answer, refused, gives}
+use Rattle.trees.specs.Plain.{Answer, refused, gives}
 use Rattle.trees.specs.Text.{semicolon, open_after}
 use Rattle.trees.specs.Opening.{Opening}
 use Rattle.trees.specs.Held.{Held, Lane, holding, lane_of, with_lane, open_in, longer, verdict, Progress, Fed, recording, finishing, feeding}

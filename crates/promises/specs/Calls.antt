@@ -23,9 +23,9 @@
 --                        withdrawals answer in theirs
 --   is_collisions c       the call c asks for the collision number
 --   other_told cs as      the answers as to the calls cs, without the collision numbers
-use Rattle.std.specs.Prelude.{ℕ, zero, suc, ◌-◌, Bool, true, false, List, [], ◌∷◌, ◌++◌, map, ltb, Float, length, take, drop}
+use Rattle.std.specs.Prelude.{ℕ, zero, suc, ◌-◌, Bool, true, false, List, [], ◌∷◌, ◌++◌, map, ltb, Float, length, take, drop, if◌then◌else◌}
 use Rattle.std.proofs.Math.Option.{none, some}
-use Rattle.trees.specs.Plain.{if◌then◌else◌, Answer, refused, gives}
+use Rattle.trees.specs.Plain.{Answer, refused, gives}
 use Rattle.trees.specs.Text.{semicolon, before_end}
 use Rattle.trees.specs.Names.{different}
 use Rattle.trees.specs.Opening.{Numbers, opening}

@@ -12,10 +12,10 @@
 --   closed_free, close-once                                        closing
 --   withdrawn_free, withdraw-once                                  withdrawing
 --   asked-same, fed-same, closed_same, withdrawn-same             no call tells two lent bytes apart that are the same as stores
-use Rattle.std.specs.Prelude.{ℕ, ◌<◌, ◌≡◌, refl, Bool, true, false, List, length}
+use Rattle.std.specs.Prelude.{ℕ, ◌<◌, ◌≡◌, refl, Bool, true, false, List, length, if◌then◌else◌}
 use Rattle.std.proofs.Common.{sym, ap, subst, ◌∙◌}
 use Rattle.std.proofs.Math.Path.{ap₂}
-use Rattle.trees.specs.Plain.{if◌then◌else◌, Answer, refused, gives}
+use Rattle.trees.specs.Plain.{Answer, refused, gives}
 use Rattle.trees.specs.Opening.{Numbers, Opening, opening}
 use Rattle.trees.specs.Held.{Held, Closed, opened, feeding, closing}
 use Rattle.trees.specs.Held as held

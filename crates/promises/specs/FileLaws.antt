@@ -4,7 +4,7 @@
 --   file-after            a file holds what the texts hold that it hands in
 --   file-verdicts         its verdicts are theirs
 --   file-same             collections that answer these texts alike answer the file alike
-use Rattle.std.specs.Prelude.{ℕ, suc, ◌≡◌, Bool, ltb, length}
+use Rattle.std.specs.Prelude.{ℕ, suc, ◌≡◌, Bool, ltb, length, if◌then◌else◌}
 use Rattle.std.proofs.Math.Path.{refl, ap}
 use Rattle.std.proofs.Common.{sym, ◌∙◌}
 use Rattle.std.proofs.Math.Bool.{true, false}
@@ -12,7 +12,7 @@ use mathlib.Core.List.{List, [], ◌∷◌, ◌++◌, map}
 use Rattle.std.proofs.Math.Option.{Option, none, some}
 use Rattle.std.proofs.Math.ListN.{drop}
 use Rattle.std.proofs.Math.Seq.{take-append_seam}
-use Rattle.trees.specs.Plain.{if◌then◌else◌, Answer, refused, gives}
+use Rattle.trees.specs.Plain.{Answer, refused, gives}
 use Rattle.trees.specs.Names.{different}
 use Rattle.trees.specs.Held.{Held, holding, longer, finished, recording}
 use Rattle.trees.specs.Batch.{verdict_number, Batched, with_verdict}

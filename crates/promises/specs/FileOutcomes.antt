@@ -2,8 +2,8 @@
 --
 --   file_free b          what a file that gives b leaves free in the lent bytes
 --   file-once           the answer, the verdicts, every other element of their buffer, and the lent bytes but for what is free
-use Rattle.std.specs.Prelude.{◌≡◌, refl, Bool, true, false, List, ℕ, length}
-use Rattle.trees.specs.Plain.{if◌then◌else◌, Answer, refused, gives}
+use Rattle.std.specs.Prelude.{◌≡◌, refl, Bool, true, false, List, ℕ, length, if◌then◌else◌}
+use Rattle.trees.specs.Plain.{Answer, refused, gives}
 use Rattle.trees.specs.Batch.{none_accepted, Batched}
 use Rattle.answers.specs.declared.Number.{Number}
 use Rattle.nexus.specs.Fed.{nexus_of, NexusAs}

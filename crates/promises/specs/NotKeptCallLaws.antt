@@ -2,11 +2,11 @@
 --
 --   weighted-not-kept, split-lengths-not-kept     the calls on lengths are refused: 13 where there is no such tree or split, else 18
 --   seventeen-not-kept     no verdict of a run is 17, those of batches and NEXUS files among them
-use Rattle.std.specs.Prelude.{ℕ, suc, ◌≡◌, Bool, List, [], ◌∷◌, ltb, length}
+use Rattle.std.specs.Prelude.{ℕ, suc, ◌≡◌, Bool, List, [], ◌∷◌, ltb, length, if◌then◌else◌}
 use Rattle.std.proofs.Common.{arith, sym, ◌∙◌, inl, inr}
 use Rattle.std.proofs.Math.Path.{ap, subst}
 use Rattle.std.proofs.Math.Bool.{true, false}
-use Rattle.trees.specs.Plain.{if◌then◌else◌, Answer, refused, gives}
+use Rattle.trees.specs.Plain.{Answer, refused, gives}
 use Rattle.trees.specs.Consensus.{recorded}
 use Rattle.trees.specs.Verdict.{Branches}
 use Rattle.trees.specs.Opening.{Opening}

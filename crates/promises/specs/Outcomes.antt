@@ -9,9 +9,9 @@
 --   holds-both                            two lent bytes that a promise lets hold the same
 --   outside-both                          two lent bytes that a promise lets differ from a third in one lane alone
 --   filled-both                           two outcomes of a call that fills a buffer
-use Rattle.std.specs.Prelude.{ℕ, suc, ◌≤◌, ◌≡◌, refl, List, eqb}
+use Rattle.std.specs.Prelude.{ℕ, suc, ◌≤◌, ◌≡◌, refl, List, eqb, if◌then◌else◌}
 use Rattle.std.proofs.Common.{arith, sym, ap, subst, ◌∙◌}
-use Rattle.trees.specs.Plain.{if◌then◌else◌, Answer, refused, gives}
+use Rattle.trees.specs.Plain.{Answer, refused, gives}
 use Rattle.trees.specs.Opening.{store_size}
 use Rattle.trees.specs.Held.{Held, more_wanted, accepted}
 use Rattle.trees.specs.Held as held

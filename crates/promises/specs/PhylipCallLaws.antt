@@ -15,13 +15,13 @@
 --   read-matrix-untouched    whatever is refused, the buffer stays
 --   read-matrix-given        any other text is answered by its number of trees, with its values at the front of the buffer
 --   read-matrix-alike        texts of one matrix, whatever their names, spaces and leading zeros, are answered alike
-use Rattle.std.specs.Prelude.{ℕ, suc, ◌+◌, ◌*◌, ◌^◌, ◌≤◌, ◌<◌, ◌≡◌, refl, ◌⊎◌, ◌↔◌, Bool, true, false, ltb, take, drop}
+use Rattle.std.specs.Prelude.{ℕ, suc, ◌+◌, ◌*◌, ◌^◌, ◌≤◌, ◌<◌, ◌≡◌, refl, ◌⊎◌, ◌↔◌, Bool, true, false, ltb, take, drop, if◌then◌else◌}
 use Rattle.std.proofs.Common.{arith, sym, ap₂, subst, ◌∙◌, inl, inr, length-append, ltb-true, ltb-false}
 use Rattle.std.proofs.Math.Path.{ap}
 use Rattle.std.proofs.Math.Logic.Iff.{trans as iff_trans}
 use mathlib.Core.List.{List, [], ◌∷◌, ◌++◌, map, append_assoc}
 use Rattle.std.proofs.Math.ListN.{length, length-map}
-use Rattle.trees.specs.Plain.{if◌then◌else◌, Answer, refused, gives, byte}
+use Rattle.trees.specs.Plain.{Answer, refused, gives, byte}
 use Rattle.trees.specs.Length.{is_digit}
 use Rattle.trees.specs.Decimal.{digits_of}
 use Rattle.trees.specs.Distance as of

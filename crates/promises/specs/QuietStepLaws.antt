@@ -2,12 +2,11 @@
 -- hold the same but for the unfinished text of one lane, which no call ends or closes. Assumes nothing.
 --
 --   unfinished-does-not-show     they have the same answers, and leave bytes that hold the same but for the text of that lane
-use Rattle.std.specs.Prelude.{ℕ, ◌≡◌, Bool, ltb, length}
+use Rattle.std.specs.Prelude.{ℕ, ◌≡◌, Bool, ltb, length, if◌then◌else◌}
 use Rattle.std.proofs.Math.Path.{sym, subst}
 use Rattle.std.proofs.Common.{ap, ap₂, ◌∙◌}
 use Rattle.std.proofs.Math.Bool.{true, false}
 use mathlib.Core.List.{List, [], ◌∷◌, map}
-use Rattle.trees.specs.Plain.{if◌then◌else◌}
 use Rattle.trees.specs.Opening.{Opening}
 use Rattle.trees.specs.Held.{Held, lane_of, open_in}
 use Rattle.trees.specs.Batch.{texts_in}

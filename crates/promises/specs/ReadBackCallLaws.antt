@@ -6,12 +6,12 @@
 --                            and is then the last, without lengths, or is refused with 11 or 12, each exactly when there is no such room
 --   text-reads-back          so is a tree's own text
 --   strict-reads-back, majority-reads-back, both-read-back, accepted-reads-back     so is what the calls write
-use Rattle.std.specs.Prelude.{ℕ, ◌<◌, ◌≡◌, ◌⊎◌, ◌↔◌, Bool, List, [], ◌∷◌, ◌++◌, ltb, eqb, length, take, drop}
+use Rattle.std.specs.Prelude.{ℕ, ◌<◌, ◌≡◌, ◌⊎◌, ◌↔◌, Bool, List, [], ◌∷◌, ◌++◌, ltb, eqb, length, take, drop, if◌then◌else◌}
 use Rattle.std.proofs.Common.{arith, sym, subst, ◌∙◌, inl, inr}
 use Rattle.std.proofs.Math.Path.{refl, ap}
 use Rattle.std.proofs.Math.Bool.{true, false}
 use Rattle.std.proofs.Math.Seq.{take-append_seam}
-use Rattle.trees.specs.Plain.{if◌then◌else◌, Answer, refused, gives}
+use Rattle.trees.specs.Plain.{Answer, refused, gives}
 use Rattle.trees.specs.Consensus as of
 use Rattle.trees.specs.Written.{written}
 use Rattle.trees.specs.Held.{Held, holding, lane_of, Progress, accepted, feeding}

@@ -10,14 +10,14 @@
 --   stand-ins-behind         the stand-ins of a taxon are its last lines, one for each other taxon
 --   stand-in-names           the group that is named for two taxa is in the majority, holds both, and no smaller majority group does
 --   stand-in-none            none is named where no majority group holds both
-use Rattle.std.specs.Prelude.{ℕ, ◌≤◌, ◌<◌, ◌≡◌, ◌↔◌, Bool, true, false, List, [], ◌∷◌, ◌++◌, map, ltb, eqb, length, take}
+use Rattle.std.specs.Prelude.{ℕ, ◌≤◌, ◌<◌, ◌≡◌, ◌↔◌, Bool, true, false, List, [], ◌∷◌, ◌++◌, map, ltb, eqb, length, take, if◌then◌else◌}
 use Rattle.std.proofs.Common.{arith, ◌∙◌, append_assoc}
 use Rattle.std.proofs.Math.Path.{refl, sym, ap, ap₂}
 use Rattle.std.proofs.Math.Logic.Iff.{trans as iff_trans}
 use Rattle.std.proofs.Math.ListN.{drop}
 use Rattle.std.proofs.Math.Seq.{take-append_seam}
 use borrow.Author.Tests.{ltb-true, ltb-false, lt-ltb, le-ltb, eq-eqb, ne_eqb}
-use Rattle.trees.specs.Plain.{if◌then◌else◌, bytes, Answer, refused, gives}
+use Rattle.trees.specs.Plain.{bytes, Answer, refused, gives}
 use Rattle.trees.specs.Text.{before_end}
 use Rattle.trees.specs.Verdict.{judged}
 use Rattle.trees.specs.Decimal.{digits_of}

@@ -12,12 +12,12 @@
 --   constants-do-not-show     two runs of the same calls, whose openings differ in the number of places and the constants alone, have the
 --                             same answers, but for the collision number
 use Prim.Native.Nat.{ℕ}
-use Rattle.std.specs.Prelude.{◌≡◌, Bool, true, false, length, take}
+use Rattle.std.specs.Prelude.{◌≡◌, Bool, true, false, length, take, if◌then◌else◌}
 use Rattle.std.proofs.Math.Path.{refl, ap}
 use Rattle.std.proofs.Common.{sym, ap₂, subst, ◌∙◌, true≢false}
 use mathlib.Core.List.{List, [], ◌∷◌, ◌++◌}
 use Rattle.std.proofs.Math.ListN.{get_or}
-use Rattle.trees.specs.Plain.{if◌then◌else◌, Answer, refused, gives}
+use Rattle.trees.specs.Plain.{Answer, refused, gives}
 use Rattle.trees.specs.Opening.{Numbers, Opening}
 use Rattle.trees.specs.Held.{Held, Lane, holding, more_wanted, accepted, opened, lane_of}
 use Rattle.trees.specs.Questions.{collisions_of}

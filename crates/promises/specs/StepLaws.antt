@@ -8,12 +8,12 @@
 --   opening-follows            an opening that is accepted leaves a whole collection just opened
 --   refused-alike, told-lent   openings that are refused have the same number, in however many bytes
 use Prim.Native.Nat.{ℕ}
-use Rattle.std.specs.Prelude.{◌≡◌, Bool, ◌&&◌, leb, ltb, length, get_or}
+use Rattle.std.specs.Prelude.{◌≡◌, Bool, ◌&&◌, leb, ltb, length, get_or, if◌then◌else◌}
 use Rattle.std.proofs.Math.Path.{refl, ap, ap₂, subst}
 use Rattle.std.proofs.Common.{sym, ◌∙◌}
 use Rattle.std.proofs.Math.Bool.{true, false}
 use mathlib.Core.List.{List, [], ◌∷◌}
-use Rattle.trees.specs.Plain.{if◌then◌else◌, Answer, refused, gives}
+use Rattle.trees.specs.Plain.{Answer, refused, gives}
 use Rattle.trees.specs.Names.{names_in, good_names}
 use Rattle.trees.specs.Opening.{Numbers, Opening, in_range, good_constants, store_size, opening}
 use Rattle.trees.specs.Held.{Held, opened, feeding, closing}

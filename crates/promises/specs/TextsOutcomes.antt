@@ -3,9 +3,8 @@
 --   taken-both                           taking a piece of the first line: the answer, and every byte of the buffer
 --   texts_free s p, texts-both            feeding the texts of the piece p to the lent bytes s: the answer, and the bytes but for what is free
 --   closed_texts_free s, closed-texts-both     closing
-use Rattle.std.specs.Prelude.{ℕ, ◌≡◌, refl, Bool, true, false, List}
+use Rattle.std.specs.Prelude.{ℕ, ◌≡◌, refl, Bool, true, false, List, if◌then◌else◌}
 use Rattle.std.proofs.Common.{ap}
-use Rattle.trees.specs.Plain.{if◌then◌else◌}
 use Rattle.trees.specs.Held.{closing}
 use Rattle.trees.specs.Batch.{none_accepted}
 use Rattle.answers.specs.declared.Number.{Number}

@@ -3,9 +3,9 @@
 --   Small v, verdict-small       a verdict that is a refusal has a number of the table
 --   Settled a, finished-settled  an answer that is a verdict, and whose number says which
 --   settled-read                 it is read back from its number
-use Rattle.std.specs.Prelude.{ℕ, ◌+◌, ◌-◌, ◌≤◌, ◌<◌, ◌≡◌, refl, Bool, true, false, List, ◌∷◌, ltb, eqb, length}
+use Rattle.std.specs.Prelude.{ℕ, ◌+◌, ◌-◌, ◌≤◌, ◌<◌, ◌≡◌, refl, Bool, true, false, List, ◌∷◌, ltb, eqb, length, if◌then◌else◌}
 use Rattle.std.proofs.Common.{arith, inl, inr, lt-ltb, le-ltb}
-use Rattle.trees.specs.Plain.{if◌then◌else◌, Answer, refused, gives}
+use Rattle.trees.specs.Plain.{Answer, refused, gives}
 use Rattle.trees.specs.Verdict.{Branches, judged_with}
 use Rattle.trees.specs.Consensus.{recorded}
 use Rattle.trees.specs.Held.{Held, Lane, holding, overrun, new_splits, room_for, with_room, verdict, Progress, more_wanted, accepted, finished}

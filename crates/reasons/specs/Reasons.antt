@@ -4,8 +4,8 @@
 --   reason_of k             the sentence of refusal number k
 --   reason_asked k room     the same into a buffer of `room` bytes: 13 where there is no refusal of that number
 --   SaysAs k r old m       the sentence of k is given as r, and leaves the buffer `old` as m
-use Rattle.std.specs.Prelude.{ℕ, ◌-◌, List, [], ◌∷◌, ltb, eqb, length, get_or}
-use Rattle.trees.specs.Plain.{if◌then◌else◌, Answer, refused, bytes}
+use Rattle.std.specs.Prelude.{ℕ, ◌-◌, List, [], ◌∷◌, ltb, eqb, length, get_or, if◌then◌else◌}
+use Rattle.trees.specs.Plain.{Answer, refused, bytes}
 use Rattle.trees.specs.Questions.{if_room}
 use Rattle.answers.specs.declared.Number.{Number}
 use Rattle.answers.specs.Filled.{FilledAs}

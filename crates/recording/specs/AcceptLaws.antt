@@ -4,12 +4,12 @@
 --   refuses                         a refusal that changes nothing
 --   trees-in, rows_in               what listing the tree asks
 --   records                         the tree is recorded
-use Rattle.std.specs.Prelude.{ℕ, ◌+◌, ◌*◌, ◌≤◌, ◌<◌, ◌≡◌, refl, ◌⊎◌, true, ltb, eqb, get_or, take}
+use Rattle.std.specs.Prelude.{ℕ, ◌+◌, ◌*◌, ◌≤◌, ◌<◌, ◌≡◌, refl, ◌⊎◌, true, ltb, eqb, get_or, take, if◌then◌else◌}
 use Rattle.std.proofs.Common.{arith, sym, ◌∙◌, subst, inl, inr, length-take-le, get_or-take, ext_get_or, lt-ltb, le-ltb, eq-eqb, ne_eqb}
 use Rattle.std.proofs.Math.Path.{ap, ap₂}
 use mathlib.Core.List.{List, ◌++◌, map}
 use Rattle.std.proofs.Math.ListN.{length}
-use Rattle.trees.specs.Plain.{if◌then◌else◌, every, Answer, refused, gives}
+use Rattle.trees.specs.Plain.{every, Answer, refused, gives}
 use Rattle.trees.specs.Mask.{proper}
 use Rattle.trees.specs.Consensus.{count}
 use Rattle.trees.specs.Opening.{store_size}

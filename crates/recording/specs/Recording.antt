@@ -11,11 +11,11 @@
 --   RowsOf p n rs rows   the rows of the first n records' masks, those of new ones behind the others
 --   Grown s ms u         the lent bytes u are s with the new splits ms behind the others, listed by no tree
 --   Accepts a s r t      the verdict a as to room: refused and nothing changed, or the tree recorded
-use Rattle.std.specs.Prelude.{ℕ, ◌+◌, ◌*◌, ◌≤◌, ◌<◌, ◌≡◌, true, false, List, ◌++◌, map, eqb, length, get_or, take}
+use Rattle.std.specs.Prelude.{ℕ, ◌+◌, ◌*◌, ◌≤◌, ◌<◌, ◌≡◌, true, false, List, ◌++◌, map, eqb, length, get_or, take, if◌then◌else◌}
 use Rattle.std.proofs.Math.Option.{none, some}
 use Rattle.std.specs.Float.{binary64}
 use Rattle.std.specs.Float.Ieee.{of_bits}
-use Rattle.trees.specs.Plain.{if◌then◌else◌, every, member, lacking, Answer, refused, gives}
+use Rattle.trees.specs.Plain.{every, member, lacking, Answer, refused, gives}
 use Rattle.trees.specs.Hash.{identifier}
 use Rattle.trees.specs.Value.{Length}
 use Rattle.trees.specs.Verdict.{Branches}

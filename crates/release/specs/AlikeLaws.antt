@@ -1,11 +1,11 @@
 -- A release sheet goes by the taxa, the names and the trees of a collection alone. Assumes nothing.
 --
 --   release-alike     collections that are alike in these give the same sheet
-use Rattle.std.specs.Prelude.{ℕ, ◌≡◌, Bool, List, [], ◌++◌}
+use Rattle.std.specs.Prelude.{ℕ, ◌≡◌, Bool, List, [], ◌++◌, if◌then◌else◌}
 use Rattle.std.proofs.Math.Path.{refl}
 use Rattle.std.proofs.Math.Bool.{true, false}
 use Rattle.std.proofs.Math.Dec.{ltb}
-use Rattle.trees.specs.Plain.{if◌then◌else◌, refused}
+use Rattle.trees.specs.Plain.{refused}
 use Rattle.trees.specs.Questions.{if_room}
 use Rattle.trees.specs.Held.{Held}
 use Rattle.putting.specs.Lines.{bytes_of}

@@ -8,8 +8,8 @@
 --   is_taxon h apart               the taxon that is asked for is one of the collection's
 --   release_of h refused w room    what is answered: 13 for stand-ins of no such taxon; 4; or the bytes of these lines
 --   release_asked s refused w room     the same of lent bytes: 1 where they are not whole
-use Rattle.std.specs.Prelude.{ℕ, Bool, true, List, [], ◌∷◌, ◌++◌, map, ltb, eqb, length}
-use Rattle.trees.specs.Plain.{if◌then◌else◌, Answer, refused}
+use Rattle.std.specs.Prelude.{ℕ, Bool, true, List, [], ◌∷◌, ◌++◌, map, ltb, eqb, length, if◌then◌else◌}
+use Rattle.trees.specs.Plain.{Answer, refused}
 use Rattle.trees.specs.Consensus.{recorded, strict, majority}
 use Rattle.trees.specs.Written.{written}
 use Rattle.trees.specs.Held.{Held}

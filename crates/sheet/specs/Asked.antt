@@ -6,8 +6,8 @@
 --   bytes_given a, sizes_given a         of an answer of lines: their bytes; how many bytes, and how many lines
 --   PrintsAs x r old m                 the answer x is given as r, and leaves the buffer old as m
 --   refusal_asked k room                the line for a first line that is refused with k
-use Rattle.std.specs.Prelude.{ℕ, ◌-◌, ◌≡◌, List, [], ◌∷◌, ltb, length, drop}
-use Rattle.trees.specs.Plain.{if◌then◌else◌, Answer, refused, gives}
+use Rattle.std.specs.Prelude.{ℕ, ◌-◌, ◌≡◌, List, [], ◌∷◌, ltb, length, drop, if◌then◌else◌}
+use Rattle.trees.specs.Plain.{Answer, refused, gives}
 use Rattle.trees.specs.Questions.{if_room}
 use Rattle.answers.specs.declared.Both.{Both}
 use Rattle.answers.specs.Answers.{both_given}

@@ -13,12 +13,12 @@ use Prim.Native.Nat.{ℕ, zero, suc, ◌+◌, ◌≤◌, ◌<◌}
 use Rattle.std.proofs.Common.{add-one, sym, ◌∙◌, take_at, le-ltb}
 use native.Mathlib.Omega.{arith}
 use Rattle.std.proofs.Math.Path.{◌≡◌, refl, ap, subst}
-use Rattle.std.specs.Prelude.{Bool, eqb, get_or, take, drop}
+use Rattle.std.specs.Prelude.{Bool, eqb, get_or, take, drop, if◌then◌else◌}
 use Rattle.std.proofs.Math.Bool.{true, false}
 use mathlib.Core.List.{List, [], ◌∷◌, ◌++◌, map, append_assoc, append-nil}
 use Rattle.std.proofs.Math.ListN.{length, length-append, get_or-append}
 use Rattle.std.proofs.lemmas.List.{length-map, drop-append-le}
-use Rattle.trees.specs.Plain.{if◌then◌else◌, bytes, Answer, refused, gives}
+use Rattle.trees.specs.Plain.{bytes, Answer, refused, gives}
 use Rattle.trees.specs.Distance.{doubled}
 use Rattle.trees.specs.Consensus.{recorded, count, strict, majority}
 use Rattle.trees.specs.Written.{written}

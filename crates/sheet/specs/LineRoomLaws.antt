@@ -7,11 +7,11 @@ use Prim.Native.String.{String}
 use Rattle.std.proofs.Common.{pow-suc, inl, inr, ltb-false}
 use Rattle.std.proofs.Math.Nat.{pow-le-pow_right, suc-mul}
 use native.Mathlib.Omega.{arith}
-use Rattle.std.specs.Prelude.{◌≡◌, refl, Bool, ltb, eqb, get_or}
+use Rattle.std.specs.Prelude.{◌≡◌, refl, Bool, ltb, eqb, get_or, if◌then◌else◌}
 use Rattle.std.proofs.Math.Bool.{true, false}
 use mathlib.Core.List.{List, [], ◌∷◌, ◌++◌, map}
 use Rattle.std.proofs.Math.ListN.{length, length-append, length-map}
-use Rattle.trees.specs.Plain.{if◌then◌else◌, bytes}
+use Rattle.trees.specs.Plain.{bytes}
 use Rattle.trees.specs.Mask.{every_taxon, proper}
 use Rattle.trees.specs.Distance.{doubled}
 use Rattle.trees.specs.Consensus.{recorded, count, strict, majority}

@@ -7,9 +7,9 @@
 --   majority_line, strict_line   the two consensus trees
 --   sheet_lines h refused       all lines of the sheet, in order
 --   refusal_line k              the line printed for a first line that is refused with k
-use Rattle.std.specs.Prelude.{ℕ, List, [], ◌∷◌, ◌++◌, map, eqb, length}
+use Rattle.std.specs.Prelude.{ℕ, List, [], ◌∷◌, ◌++◌, map, eqb, length, if◌then◌else◌}
 use Prim.Native.String.{String}
-use Rattle.trees.specs.Plain.{if◌then◌else◌, bytes}
+use Rattle.trees.specs.Plain.{bytes}
 use Rattle.trees.specs.Decimal.{digits_of}
 use Rattle.trees.specs.Distance.{doubled}
 use Rattle.trees.specs.Consensus.{recorded, count, strict, majority}

@@ -8,8 +8,8 @@
 --   agreed_asked s l room    the tree of the splits l, written; 23 where two of them disagree
 --   ChosenAs l r list       the splits l are found as r, and stand at the front of the list
 --   Chose least rs list k i     the first k of the list and then those from record i on are the chosen of rs; the first k agree
-use Rattle.std.specs.Prelude.{◌≡◌, ℕ, ◌+◌, ◌/◌, ◌<◌, ◌≤◌, Bool, true, List, ◌++◌, length, take, drop, nat_le}
-use Rattle.trees.specs.Plain.{if◌then◌else◌, Answer, refused, keep}
+use Rattle.std.specs.Prelude.{◌≡◌, ℕ, ◌+◌, ◌/◌, ◌<◌, ◌≤◌, Bool, true, List, ◌++◌, length, take, drop, nat_le, if◌then◌else◌}
+use Rattle.trees.specs.Plain.{Answer, refused, keep}
 use Rattle.trees.specs.Whole.{agree_in_pairs}
 use Rattle.trees.specs.SplitFile.{Record, masks_of, strict_in, majority_in}
 use Rattle.trees.specs.SplitFileCall.{if_records, chosen_tree}

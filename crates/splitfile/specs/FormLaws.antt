@@ -13,7 +13,7 @@
 --   form-bad-length, form-bad-record, form-good     each answer
 --   if-bad-length, if-bad-record, if-good     what a caller makes of each: 19, 20, or what is asked of the records
 --   good_length, good-formed        so many records are all of the file, and are well formed
-use Rattle.std.specs.Prelude.{◌≡◌, ℕ, zero, suc, ◌+◌, ◌-◌, ◌*◌, ◌/◌, ◌%◌, ◌^◌, ◌<◌, ◌≤◌, Bool, true, false, not, ◌&&◌, ltb, ◌⊎◌, List, [], ◌∷◌, length, drop, ◌==◌, ◌≢◌, bit_or, count_ones, nat_eq, nat_le, nat_lt, slice_index, slice_index_or}
+use Rattle.std.specs.Prelude.{◌≡◌, ℕ, zero, suc, ◌+◌, ◌-◌, ◌*◌, ◌/◌, ◌%◌, ◌^◌, ◌<◌, ◌≤◌, Bool, true, false, not, ◌&&◌, ltb, ◌⊎◌, List, [], ◌∷◌, length, drop, ◌==◌, ◌≢◌, bit_or, count_ones, nat_eq, nat_le, nat_lt, slice_index, slice_index_or, if◌then◌else◌}
 use Rattle.std.proofs.Common.{pow-suc, mod-eq_of_lt, add-one, ◌∙◌, inl, inr, true≢false, drop_of_length-le}
 use Rattle.std.proofs.Math.Nat.{mod-eq-sub-mod, mod-le}
 use native.Mathlib.Omega.{arith}
@@ -22,7 +22,7 @@ use Rattle.std.proofs.lemmas.Nat.{and_comm}
 use Rattle.std.specs.Int.Count.{ones_step}
 use Rattle.std.proofs.Math.Seq.{drop-cons}
 use borrow.Author.Tests.{ltb-true, leb-true, eqb-true, le-leb, lt-ltb, eq-eqb, ne_eqb, not-true}
-use Rattle.trees.specs.Plain.{if◌then◌else◌, Answer, refused, gives, every}
+use Rattle.trees.specs.Plain.{Answer, refused, gives, every}
 use Rattle.trees.specs.Mask.{has, every_taxon, without, proper, lowest}
 use Rattle.trees.specs.Whole.{rising}
 use Rattle.trees.specs.SplitFile.{Record, record_bytes, records_in, trees_of, masks_of, proper_record, well_formed}

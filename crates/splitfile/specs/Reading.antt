@@ -2,8 +2,8 @@
 --
 --   counts_of rs           the counts of the records rs
 --   splits_read rs a b     what they are read as, into buffers of a masks and b counts; 4 where either is too short
-use Rattle.std.specs.Prelude.{ℕ, ◌||◌, List, map, length, nat_lt}
-use Rattle.trees.specs.Plain.{if◌then◌else◌, Answer, refused, gives}
+use Rattle.std.specs.Prelude.{ℕ, ◌||◌, List, map, length, nat_lt, if◌then◌else◌}
+use Rattle.trees.specs.Plain.{Answer, refused, gives}
 use Rattle.trees.specs.SplitFile.{Record, trees_of, masks_of}
 use Rattle.trees.specs.SplitFileCall.{Splits}
 

@@ -4,8 +4,7 @@
 --   of_place s p n        the rows below n whose splits have the place p, the highest first
 --   Falling l            each number is less than the one before
 -- An entry is a row and one more, or 0 at a chain's end. Links fall, so as many steps as the entry is high are enough.
-use Rattle.std.specs.Prelude.{ℕ, zero, suc, ◌<◌, List, [], ◌∷◌, ◌==◌}
-use Rattle.trees.specs.Plain.{if◌then◌else◌}
+use Rattle.std.specs.Prelude.{ℕ, zero, suc, ◌<◌, List, [], ◌∷◌, ◌==◌, if◌then◌else◌}
 use Rattle.trees.specs.Hash.{place}
 use Rattle.theorems.specs.ListLaws.{Mem}
 use Rattle.head.specs.Head.{numbers_at, first_at}

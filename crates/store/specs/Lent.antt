@@ -2,8 +2,8 @@
 --
 --   if_whole s f           1 where the lent bytes s are not whole, else what f gives of what they hold
 --   Holds h s t           the lent bytes t are whole and hold h; those past the store's size are as in s
-use Rattle.std.specs.Prelude.{◌≡◌, ℕ, ◌≤◌, true, List, length, slice_index}
-use Rattle.trees.specs.Plain.{if◌then◌else◌, Answer, refused}
+use Rattle.std.specs.Prelude.{◌≡◌, ℕ, ◌≤◌, true, List, length, slice_index, if◌then◌else◌}
+use Rattle.trees.specs.Plain.{Answer, refused}
 use Rattle.trees.specs.Opening.{store_size}
 use Rattle.trees.specs.Held.{Held}
 use Rattle.layout.specs.Store.{held_at, held_in}

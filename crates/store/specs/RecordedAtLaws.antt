@@ -8,11 +8,11 @@
 --   count_at_lem                           the count of a split is the one that is stored
 --   recorded-at                        the recorded splits are the masks
 --   recorded-length, recorded-mask     "a recorded split's number is its place in the list by rising mask"
-use Rattle.std.specs.Prelude.{◌≡◌, ℕ, zero, suc, ◌<◌, ◌≤◌, Bool, true, false, List, [], ◌∷◌, map, length, slice_index, slice_index_or, refl}
+use Rattle.std.specs.Prelude.{◌≡◌, ℕ, zero, suc, ◌<◌, ◌≤◌, Bool, true, false, List, [], ◌∷◌, map, length, slice_index, slice_index_or, refl, if◌then◌else◌}
 use Rattle.std.proofs.Common.{arith, ◌∙◌, subst, ext_get_or}
 use Rattle.std.proofs.Math.Path.{sym, ap}
 use Rattle.std.proofs.Math.ListN.{get_or-map}
-use Rattle.trees.specs.Plain.{if◌then◌else◌, member}
+use Rattle.trees.specs.Plain.{member}
 use Rattle.trees.specs.Consensus.{recorded, count}
 use Rattle.theorems.specs.ListLaws.{Mem, member-mem, mem-member, same_bool}
 use Rattle.theorems.specs.RisingLaws.{rising-same, recorded-rising, recorded-mem, mem-recorded}

@@ -10,12 +10,12 @@
 --   finished-line, finished-texts, finished-refused     finishing
 --   refusal-past, refusal-given, refusal-short     the one line behind a refusal
 --   printed-sheet, printed-refusal     giving lines
-use Rattle.std.specs.Prelude.{ℕ, suc, ◌-◌, ◌≤◌, ◌<◌, ◌≡◌, Bool, ◌||◌, ◌&&◌, List, [], ◌∷◌, eqb, leb, length, take, drop}
+use Rattle.std.specs.Prelude.{ℕ, suc, ◌-◌, ◌≤◌, ◌<◌, ◌≡◌, Bool, ◌||◌, ◌&&◌, List, [], ◌∷◌, eqb, leb, length, take, drop, if◌then◌else◌}
 use Rattle.std.proofs.Common.{arith, ap, subst, ◌∙◌, true≢false, length-drop, take_all}
 use Rattle.std.proofs.Math.Path.{refl, sym}
 use Rattle.std.proofs.Math.Bool.{true, false}
 use Rattle.std.proofs.lemmas.Bool.{lt-leb}
-use Rattle.trees.specs.Plain.{if◌then◌else◌, member}
+use Rattle.trees.specs.Plain.{member}
 use Rattle.trees.specs.Questions.{if_room}
 use Rattle.answers.specs.declared.Finish.{Finish}
 use Rattle.answers.specs.declared.Finish.TheVariants as finish

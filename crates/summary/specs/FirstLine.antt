@@ -8,8 +8,8 @@
 --   TakenAs k p r out     taking the piece p answers r and leaves the buffer `out`
 --   kept_opening k lent    the opening that the line asks for, by what is kept of it
 --   Keeps room v k        k is what is kept of the line v so far, in a buffer of `room` bytes
-use Rattle.std.specs.Prelude.{ℕ, suc, ◌≡◌, Bool, false, ◌&&◌, not, List, [], ◌∷◌, ltb, eqb, length, take, set}
-use Rattle.trees.specs.Plain.{if◌then◌else◌, member, byte, Answer}
+use Rattle.std.specs.Prelude.{ℕ, suc, ◌≡◌, Bool, false, ◌&&◌, not, List, [], ◌∷◌, ltb, eqb, length, take, set, if◌then◌else◌}
+use Rattle.trees.specs.Plain.{member, byte, Answer}
 use Rattle.trees.specs.Text.{turned, open_after}
 use Rattle.trees.specs.Opening.{Opening}
 use Rattle.trees.specs.Names.{name_count}

@@ -6,9 +6,9 @@
 --   behind-left, behind-right  what stands behind it
 --   behind-taken               by the bytes that are the line's
 --   behind-most                which has no more bytes than there are
-use Rattle.std.specs.Prelude.{ℕ, suc, ◌≤◌, ◌≡◌, refl, Bool, true, false, ◌||◌, List, [], ◌∷◌, ◌++◌, eqb, length, drop}
+use Rattle.std.specs.Prelude.{ℕ, suc, ◌≤◌, ◌≡◌, refl, Bool, true, false, ◌||◌, List, [], ◌∷◌, ◌++◌, eqb, length, drop, if◌then◌else◌}
 use Rattle.std.proofs.Common.{arith, sym, ap, ◌∙◌, true≢false, append-nil}
-use Rattle.trees.specs.Plain.{if◌then◌else◌, member}
+use Rattle.trees.specs.Plain.{member}
 use Rattle.theorems.specs.ListLaws.{if-true}
 use Rattle.summary.specs.Summary.{first_line, behind_line}
 use Rattle.summary.specs.FirstLine.{line_taken}

@@ -6,14 +6,14 @@
 --   line-decides         with a buffer of 4,288 bytes, what is kept opens what the line asks for
 use Prim.Native.Nat.{ℕ, suc, ◌+◌, ◌*◌, ◌≤◌, ◌<◌}
 use Rattle.std.proofs.Common.{arith, ◌∙◌, inl, inr, true≢false, lt-ltb, le-ltb, eqb-true}
-use Rattle.std.specs.Prelude.{◌≡◌, ◌⊎◌, Bool, ◌&&◌, ◌||◌, ltb}
+use Rattle.std.specs.Prelude.{◌≡◌, ◌⊎◌, Bool, ◌&&◌, ◌||◌, ltb, if◌then◌else◌}
 use Rattle.std.proofs.Math.Path.{refl, sym, ap}
 use Rattle.std.proofs.Math.Bool.{true, false, not}
 use mathlib.Core.List.{List, [], ◌∷◌, ◌++◌, map, append_assoc, append-nil}
 use Rattle.std.proofs.Math.Dec.{eqb}
 use Rattle.std.proofs.Math.ListN.{length, take, length-append, length-set, length-map}
 use Rattle.std.proofs.Math.Seq.{take_all, take-append-le, take-suc-set, set_out, length-take-le}
-use Rattle.trees.specs.Plain.{if◌then◌else◌, every}
+use Rattle.trees.specs.Plain.{every}
 use Rattle.trees.specs.Text.{is_label_byte, is_quoted_byte, turned, open_after, with_byte, parts, is_quoted, is_label, spaced, unquoted, read_as}
 use Rattle.trees.specs.Names.{name_of, names_in, is_name, different, good_names, name_count}
 use Rattle.trees.specs.Opening.{opening}

@@ -6,12 +6,12 @@
 --   opened_out, opened-kept, opened-names     what each return of the code promises
 --   enough-lent                        with 22,024 lent bytes or more, the opening is that of the summary
 --   two-or-three                       a first line that is refused then is refused with 2 or 3
-use Rattle.std.specs.Prelude.{ℕ, zero, suc, ◌+◌, ◌≤◌, ◌<◌, ◌≡◌, ◌⊎◌, Bool, true, false, ◌&&◌, List, ◌∷◌, ◌++◌, length, set, take, drop}
+use Rattle.std.specs.Prelude.{ℕ, zero, suc, ◌+◌, ◌≤◌, ◌<◌, ◌≡◌, ◌⊎◌, Bool, true, false, ◌&&◌, List, ◌∷◌, ◌++◌, length, set, take, drop, if◌then◌else◌}
 use Rattle.std.proofs.Common.{add-one, arith, sym, ap, subst, ◌∙◌, inl, inr, append-nil, drop_of_length-le, take_all}
 use Rattle.std.proofs.Math.Path.{refl}
 use borrow.Author.Tests.{le-leb, lt-leb}
 use Rattle.theorems.specs.ListLaws.{less-or-not}
-use Rattle.trees.specs.Plain.{if◌then◌else◌, Answer, refused, gives}
+use Rattle.trees.specs.Plain.{Answer, refused, gives}
 use Rattle.trees.specs.Names.{names_in, good_names, name_count}
 use Rattle.trees.specs.Opening.{Opening, store_size, between, in_range, good_constants, opening}
 use Rattle.answers.specs.declared.Finish.{Finish}

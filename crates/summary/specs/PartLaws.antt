@@ -11,13 +11,13 @@
 --   texts-size                       the lent bytes stay as many
 --   Rest ..                          part after part: what is left of the piece decides
 --   rest-none, rest_more, rest-refused, rest-last     no part yet, one more, a refusal, and the last
-use Rattle.std.specs.Prelude.{ℕ, suc, ◌+◌, ◌-◌, ◌≤◌, ◌<◌, Bool, List, [], ◌∷◌, ◌++◌, get_or, drop}
+use Rattle.std.specs.Prelude.{ℕ, suc, ◌+◌, ◌-◌, ◌≤◌, ◌<◌, Bool, List, [], ◌∷◌, ◌++◌, get_or, drop, if◌then◌else◌}
 use Rattle.std.proofs.Common.{arith, subst, ◌∙◌, true≢false, length-drop, take-append-drop, take_at, take_all, drop-drop}
 use Rattle.std.proofs.Math.Path.{◌≡◌, refl, sym, ap}
 use Rattle.std.proofs.Math.Bool.{true, false}
 use Rattle.std.proofs.Math.ListN.{length, take, length-append}
 use borrow.Author.Tests.{lt-ltb, le-ltb}
-use Rattle.trees.specs.Plain.{if◌then◌else◌, keep, Answer, refused, gives}
+use Rattle.trees.specs.Plain.{keep, Answer, refused, gives}
 use Rattle.trees.specs.Opening.{Numbers}
 use Rattle.trees.specs.Text.{turned, ends_text, open_after}
 use Rattle.trees.specs.Held.{Held, lane_of, open_in}

@@ -8,8 +8,8 @@
 --   printed_lines a texts          the lines printed where the opening is a, or its refusal
 --   lines_for input                all lines that are printed
 --   summary input                 and their bytes, one behind another
-use Rattle.std.specs.Prelude.{ℕ, ◌*◌, ◌%◌, ◌^◌, ◌≡◌, refl, false, List, [], ◌∷◌, eqb}
-use Rattle.trees.specs.Plain.{if◌then◌else◌, bytes, byte, Answer, refused, gives}
+use Rattle.std.specs.Prelude.{ℕ, ◌*◌, ◌%◌, ◌^◌, ◌≡◌, refl, false, List, [], ◌∷◌, eqb, if◌then◌else◌}
+use Rattle.trees.specs.Plain.{bytes, byte, Answer, refused, gives}
 use Rattle.trees.specs.Opening.{Numbers, Opening, opening}
 use Rattle.trees.specs.Held.{opened, closing}
 use Rattle.trees.specs.Batch.{texts_in, refused_in, refused_after, Batched, batching}

@@ -7,8 +7,8 @@
 --   TextsAs s n p r t      feeding answers r and leaves the lent bytes t, which were s
 --   closed_count s n        the answer of the closing, behind n refused texts
 --   ClosedAs s n r t       closing answers r and leaves the lent bytes t, which were s
-use Rattle.std.specs.Prelude.{ℕ, ◌+◌, ◌≡◌, true, false, List, ltb}
-use Rattle.trees.specs.Plain.{if◌then◌else◌, Answer, gives}
+use Rattle.std.specs.Prelude.{ℕ, ◌+◌, ◌≡◌, true, false, List, ltb, if◌then◌else◌}
+use Rattle.trees.specs.Plain.{Answer, gives}
 use Rattle.trees.specs.Held.{Held, lane_of, open_in, closing}
 use Rattle.trees.specs.Batch.{texts_in, none_accepted, Batched, batching, refused_in, refused_after}
 use Rattle.answers.specs.declared.Number.{Number}

@@ -4,14 +4,14 @@
 --   capped_small, capped-large       a sum that 64 bits can count, and one that they cannot
 --   capped-more                      a capped number and a further one, capped
 --   closed-refused, closed-given     what each return of the closing promises
-use Rattle.std.specs.Prelude.{ℕ, suc, ◌+◌, ◌≤◌, ◌<◌, ◌≡◌, ◌⊎◌, true, false, List, ◌∷◌, length, get_or, drop}
+use Rattle.std.specs.Prelude.{ℕ, suc, ◌+◌, ◌≤◌, ◌<◌, ◌≡◌, ◌⊎◌, true, false, List, ◌∷◌, length, get_or, drop, if◌then◌else◌}
 use Rattle.std.proofs.Math.Numerals.{add-one}
 use native.Mathlib.Omega.{arith}
 use Rattle.std.proofs.Math.Path.{refl, sym, ap, subst}
 use Rattle.std.proofs.Common.{◌∙◌, inl, inr, true≢false, drop_of_length-le, drop-cons}
 use borrow.Author.Tests.{lt-ltb, le-ltb}
 use Rattle.theorems.specs.ListLaws.{less-or-not}
-use Rattle.trees.specs.Plain.{if◌then◌else◌, keep, Answer, refused, gives}
+use Rattle.trees.specs.Plain.{keep, Answer, refused, gives}
 use Rattle.trees.specs.Held.{Closed, closing}
 use Rattle.trees.specs.Batch.{is_refusal, refused_in, refused_after}
 use Rattle.answers.specs.declared.Number.TheVariants as number

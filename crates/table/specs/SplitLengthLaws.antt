@@ -6,13 +6,13 @@
 --   few-splits, branch-good, by_rows     of whole bytes: a tree's list fits its place, its lengths are good, a split in it by its row
 --   tree-lacking, tree-absent, tree-given, trees-over     the trees, one after another
 --   lengths-missing, lengths-not-kept, lengths-found      one split: 13, 18, or what is answered of its row
-use Rattle.std.specs.Prelude.{ℕ, ◌+◌, ◌≤◌, ◌<◌, ◌≡◌, Bool, true, false, List, [], ◌∷◌, map, eqb, Float, length, get_or, drop}
+use Rattle.std.specs.Prelude.{ℕ, ◌+◌, ◌≤◌, ◌<◌, ◌≡◌, Bool, true, false, List, [], ◌∷◌, map, eqb, Float, length, get_or, drop, if◌then◌else◌}
 use Rattle.std.proofs.Common.{add-one, arith, sym, ap, ◌∙◌, inl, inr, drop_of_length-le}
 use Rattle.std.proofs.Math.Path.{refl}
 use Rattle.std.proofs.Math.Option.{Option, none, some}
 use Rattle.std.proofs.Math.Seq.{drop-cons}
 use borrow.Author.Tests.{lt-ltb, le-ltb, eqb-true, eq-eqb, ne_eqb}
-use Rattle.trees.specs.Plain.{if◌then◌else◌, member, Answer, refused, gives}
+use Rattle.trees.specs.Plain.{member, Answer, refused, gives}
 use Rattle.trees.specs.Value.{Length}
 use Rattle.trees.specs.Sums.{Sums, sums}
 use Rattle.trees.specs.Whole.{good_length}

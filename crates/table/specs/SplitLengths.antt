@@ -5,9 +5,9 @@
 --   go_on met z xs         what is answered where the lengths xs are left; z has the three of those that were met
 --   lengths_left s row i   the lengths of the split in a row, in the trees from i on that have it
 --   row_lengths s row      what is answered of the split in a row
-use Rattle.std.specs.Prelude.{ℕ, Bool, true, List, [], ◌∷◌, drop}
+use Rattle.std.specs.Prelude.{ℕ, Bool, true, List, [], ◌∷◌, drop, if◌then◌else◌}
 use Rattle.std.proofs.Math.Option.{Option, none, some}
-use Rattle.trees.specs.Plain.{if◌then◌else◌, member, Answer, refused, gives}
+use Rattle.trees.specs.Plain.{member, Answer, refused, gives}
 use Rattle.trees.specs.Value.{Length}
 use Rattle.trees.specs.Sums.{Sums, sums}
 use Rattle.trees.specs.Questions.{if_given, length_for, lengths_for}

@@ -3,10 +3,10 @@
 --   ListedAs x r masks counts m c     the answer x is given as r, and leaves the buffers masks and counts as m and c
 --   list-refused                      a refusal leaves both as found
 --   list-short, list-given            of whole bytes: 4 where either is too short, else the splits and their counts
-use Rattle.std.specs.Prelude.{ℕ, ◌≤◌, ◌<◌, ◌≡◌, refl, ◌⊎◌, true, ◌||◌, List, ◌++◌, ltb, length, drop}
+use Rattle.std.specs.Prelude.{ℕ, ◌≤◌, ◌<◌, ◌≡◌, refl, ◌⊎◌, true, ◌||◌, List, ◌++◌, ltb, length, drop, if◌then◌else◌}
 use Rattle.std.proofs.Common.{◌∙◌, inl, inr}
 use borrow.Author.Tests.{lt-ltb, le-ltb}
-use Rattle.trees.specs.Plain.{if◌then◌else◌, Answer, refused, gives}
+use Rattle.trees.specs.Plain.{Answer, refused, gives}
 use Rattle.trees.specs.Questions.{split_list}
 use Rattle.theorems.specs.ListLaws.{or_left, or_right}
 use Rattle.answers.specs.declared.Refusal.{Refusal}

@@ -2,8 +2,7 @@
 // is written into the store.
 //
 // `specs/Asked.antt` says what is answered; `specs/SplitLengths.antt` how the trees are gone over.
-ghost use Rattle.std.specs.Prelude.{◌≡◌, true, [], ◌∷◌, ◌≤◌, ◌<◌};
-ghost use Rattle.trees.specs.Plain.{if◌then◌else◌};
+ghost use Rattle.std.specs.Prelude.{◌≡◌, true, [], ◌∷◌, ◌≤◌, ◌<◌, if◌then◌else◌};
 ghost use Rattle.trees.specs.Sums.{sums};
 ghost use Rattle.answers.specs.Answers.{sums_given, split_lengths_given};
 ghost use Rattle.weighing.specs.Summed.{with_length};

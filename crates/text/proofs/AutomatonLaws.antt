@@ -11,7 +11,8 @@ use mathlib.Core.Bool.{Bool, true, false, ◌&&◌, ◌||◌}
 use mathlib.Core.List.{List, [], ◌∷◌}
 use lib.Dec.{leb, eqb}
 use borrow.Author.Tests.{leb-true, lt-leb, eqb-true, ne_eqb}
-use Rattle.trees.specs.Plain.{if◌then◌else◌, every}
+use Rattle.std.specs.Prelude.{if◌then◌else◌}
+use Rattle.trees.specs.Plain.{every}
 use Rattle.trees.specs.Text.{apostrophe}
 use Rattle.trees.specs.Length.{is_digit, is_sign, is_point, is_e, is_digits, unsigned, without_point, before_e, from_e, is_decimal, is_exponent, is_length}
 use Rattle.theorems.specs.ListLaws.{and_left, and_right, or_cases}

@@ -11,7 +11,7 @@ use mathlib.Core.Logic.{⊎_elim}
 use mathlib.Core.Bool.{Bool, true, false, ◌&&◌, not}
 use lib.Dec.{eqb, leb, ltb}
 use borrow.Author.Tests.{eqb-true, ltb-true}
-use Rattle.trees.specs.Plain.{if◌then◌else◌}
+use Rattle.std.specs.Prelude.{if◌then◌else◌}
 use Rattle.trees.specs.Text.{is_blank, is_label_byte, is_quoted_byte, kind}
 use Rattle.theorems.specs.ListLaws.{and_left, and_right}
 use Rattle.text.specs.Read.{kind_no}

@@ -14,7 +14,7 @@ use lib.Dec.{T, leb, eqb, ltb}
 use lib.ListN.{length, get_or, drop}
 use lib.Seq.{slice, slice_empty}
 use borrow.Author.Tests.{leb-true, le-leb, lt-leb, eqb-true, eqb-false, ltb-true, ltb-false, ne_eqb}
-use Rattle.trees.specs.Plain.{if◌then◌else◌}
+use Rattle.std.specs.Prelude.{if◌then◌else◌}
 use Rattle.trees.specs.Text.{Symbol, label, kind, kind_in, apostrophe, is_label_byte, open_after, is_label, colon, stray, token, symbols_after, ended}
 use Rattle.trees.specs.Length.{is_digit}
 use Rattle.trees.specs.Reading.{read_length}

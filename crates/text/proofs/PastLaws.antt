@@ -10,7 +10,7 @@ use borrow.Author.Tests.{le-leb, lt-leb, ne_eqb}
 use lib.Dec.{eqb}
 use lib.ListN.{length, get_or}
 use lib.Seq.{slice}
-use Rattle.trees.specs.Plain.{if◌then◌else◌}
+use Rattle.std.specs.Prelude.{if◌then◌else◌}
 use Rattle.trees.specs.Text.{Symbol, kind, apostrophe, open_after, is_label, open_bracket, close_bracket, comma, colon, stray, token}
 use Rattle.trees.specs.Tree.{Nodes, inner_with, width}
 use Rattle.trees.specs.Reading.{read_length, read_label, read_closing}

@@ -11,7 +11,7 @@ use lib.Dec.{eqb, ltb, leb}
 use lib.ListN.{length, get_or, drop, drop_of_length-le}
 use lib.Seq.{slice, slice_empty, length-slice, drop-cons}
 use borrow.Author.Tests.{leb-true, le-leb, lt-leb, lt-ltb, ltb-true, ltb-false}
-use Rattle.trees.specs.Plain.{if◌then◌else◌}
+use Rattle.std.specs.Prelude.{if◌then◌else◌}
 use Rattle.trees.specs.Text.{apostrophe, is_quoted_byte, turned, is_quoted, is_label}
 use Rattle.trees.specs.NexusReading.{quoted_run, behind_quoted}
 use Rattle.theorems.specs.ListLaws.{if-true, if-false, and-true, same_bool}

@@ -16,7 +16,8 @@ use lib.Dec.{eqb, ltb, leb}
 use lib.ListN.{length, get_or, drop}
 use lib.Seq.{slice, slice-cons, length-slice, drop-cons}
 use borrow.Author.Tests.{eqb-true, lt-ltb, ltb-true}
-use Rattle.trees.specs.Plain.{if◌then◌else◌, every}
+use Rattle.std.specs.Prelude.{if◌then◌else◌}
+use Rattle.trees.specs.Plain.{every}
 use Rattle.trees.specs.Text.{Symbol, Kind, blank, label, mark, kind, kind_in, apostrophe, is_label_byte, is_quoted_byte, turned, open_after, is_quoted, is_label, stray, token, symbols, symbols_after, ended}
 use Rattle.trees.specs.NexusReading.{quoted_run, behind_quoted}
 use Rattle.theorems.specs.ListLaws.{if-false, mem-left, mem-right, every-at, less-or-not}

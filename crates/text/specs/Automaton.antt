@@ -5,8 +5,7 @@
 --                    0 nothing, 1 a sign, 2 digits, 3 a point and no digit, 4 a point and a digit, 5 e, 6 e and a sign, 7 e and digits, 8 a fault
 --   run q w          what it comes to with the bytes w
 --   is_end q          a length may end there
-use Rattle.std.specs.Prelude.{ℕ, Bool, ◌||◌, List, [], ◌∷◌, eqb, get_or}
-use Rattle.trees.specs.Plain.{if◌then◌else◌}
+use Rattle.std.specs.Prelude.{ℕ, Bool, ◌||◌, List, [], ◌∷◌, eqb, get_or, if◌then◌else◌}
 use Rattle.trees.specs.Length.{is_digit, is_sign, is_point, is_e}
 
 unfoldable pub byte_class : ℕ → ℕ

@@ -7,9 +7,8 @@
 --   before-take        what stands before the end is the piece's first bytes
 --   no_text, one-text  how many texts a piece ends: none without an end, and behind the first one fewer
 --   has-text, lacks-text     and the other way round
-use Rattle.std.specs.Prelude.{ℕ, suc, ◌+◌, ◌≤◌, ◌<◌, ◌≡◌, refl, Bool, true, false, ◌||◌, List, [], ◌∷◌, ◌++◌, length, take, drop}
+use Rattle.std.specs.Prelude.{ℕ, suc, ◌+◌, ◌≤◌, ◌<◌, ◌≡◌, refl, Bool, true, false, ◌||◌, List, [], ◌∷◌, ◌++◌, length, take, drop, if◌then◌else◌}
 use Rattle.std.proofs.Common.{arith, sym, ap, ◌∙◌, true≢false}
-use Rattle.trees.specs.Plain.{if◌then◌else◌}
 use Rattle.trees.specs.Text.{turned, open_after, ends_text, has_end, before_end}
 use Rattle.trees.specs.Batch.{texts_in}
 use Rattle.theorems.specs.ListLaws.{if-false}

@@ -6,14 +6,13 @@
 use Prim.Native.Nat.{ℕ, zero, suc, ◌+◌, ◌-◌, ◌≤◌, ◌<◌}
 use Rattle.std.proofs.Common.{add-one, ◌∙◌, inl, inr, true≢false, eqb-true, leb-true, leb-false}
 use native.Mathlib.Omega.{arith}
-use Rattle.std.specs.Prelude.{◌≡◌, ◌⊎◌, Bool, true, eqb, leb, get_or, drop}
+use Rattle.std.specs.Prelude.{◌≡◌, ◌⊎◌, Bool, true, eqb, leb, get_or, drop, if◌then◌else◌}
 use Rattle.std.proofs.Math.Path.{refl, ap, sym, subst}
 use Rattle.std.proofs.Math.Bool.{false}
 use mathlib.Core.List.{List, [], ◌∷◌, ◌++◌}
 use Rattle.std.proofs.Math.Option.{none, some}
 use Rattle.std.proofs.Math.ListN.{length}
 use Rattle.std.proofs.Math.Seq.{slice, slice_empty, slice-cons, length-slice}
-use Rattle.trees.specs.Plain.{if◌then◌else◌}
 use Rattle.trees.specs.Text.{Symbol, Kind, blank, label, mark, kind, kind_in, apostrophe, turned, open_after, is_label, open_bracket, close_bracket, comma, colon, stray, token, symbols_after, ended}
 use Rattle.trees.specs.Tree.{Nodes, nil, leaf, inner, width}
 use Rattle.trees.specs.Reading.{Read, read_closing}

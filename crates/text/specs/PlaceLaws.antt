@@ -7,7 +7,7 @@
 --   byte-there, byte-else  a byte that is a mark, and its kind
 --   ends_at                a run ends where nothing of the kind of labels stands
 --   kind-label             what is of the kind of labels is a label byte or an apostrophe
-use Rattle.std.specs.Prelude.{ℕ, zero, suc, ◌+◌, ◌≤◌, ◌<◌, ◌≡◌, Bool, ◌||◌, get_or, drop}
+use Rattle.std.specs.Prelude.{ℕ, zero, suc, ◌+◌, ◌≤◌, ◌<◌, ◌≡◌, Bool, ◌||◌, get_or, drop, if◌then◌else◌}
 use Rattle.std.proofs.Common.{arith, ◌∙◌, drop_of_length-le, drop-cons}
 use Rattle.std.proofs.Math.Path.{refl, ap, sym, subst}
 use Rattle.std.proofs.Math.Bool.{true, false}
@@ -15,7 +15,6 @@ use mathlib.Core.List.{List, [], ◌∷◌, ◌++◌, append_assoc, append-nil}
 use Rattle.std.proofs.Math.Dec.{T, eqb, ltb}
 use Rattle.std.proofs.Math.ListN.{length}
 use borrow.Author.Tests.{lt-ltb, le-ltb, ltb-true, ltb-false, eqb-true, eqb-false}
-use Rattle.trees.specs.Plain.{if◌then◌else◌}
 use Rattle.trees.specs.Text.{Symbol, Kind, blank, label, mark, kind, kind_in, is_blank, is_label_byte, apostrophe, open_after, is_label, open_bracket, close_bracket, comma, colon, stray, token, symbols, symbols_after, ended}
 use Rattle.theorems.specs.LabelLaws.{Ends, ends-nil, ends-blank, ends-mark}
 use Rattle.theorems.specs.TextLaws.{by_kind, symbols-cons, symbols-step, symbols-end}

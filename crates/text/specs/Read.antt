@@ -15,10 +15,9 @@
 --   Parted s i r       no symbol of s from i on reaches over r
 --   Unmeasured         a node, by its length
 --   Behind F, ClosingBehind     what may follow some nodes, read from i up to r, and the length in it; r is past the text where it is a fault
-use Rattle.std.specs.Prelude.{ℕ, ◌+◌, ◌≤◌, ◌<◌, ◌≡◌, Bool, true, false, ◌&&◌, ◌||◌, List, ◌∷◌, eqb, ltb, length, get_or, drop}
+use Rattle.std.specs.Prelude.{ℕ, ◌+◌, ◌≤◌, ◌<◌, ◌≡◌, Bool, true, false, ◌&&◌, ◌||◌, List, ◌∷◌, eqb, ltb, length, get_or, drop, if◌then◌else◌}
 use Rattle.std.proofs.Math.Option.{Option, none, some}
 use Rattle.std.proofs.Math.Seq.{slice}
-use Rattle.trees.specs.Plain.{if◌then◌else◌}
 use Rattle.trees.specs.Text.{Symbol, Kind, blank, label, mark, kind, apostrophe, is_label_byte, is_quoted_byte, open_after, is_label, open_bracket, close_bracket, comma, colon, stray, token, symbols}
 use Rattle.trees.specs.Length.{is_digit}
 use Rattle.trees.specs.Tree.{Nodes, nil, inner, width}

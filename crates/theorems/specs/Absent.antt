@@ -2,9 +2,8 @@
 --
 --   absent k s           the lengths of its splits s: absent ones where lengths are kept (k is 1), else none at all
 --   without_lengths k s   its splits s with these
-use Rattle.std.specs.Prelude.{ℕ, List, [], eqb, length, replicate}
+use Rattle.std.specs.Prelude.{ℕ, List, [], eqb, length, replicate, if◌then◌else◌}
 use Rattle.std.proofs.Math.Option.{none}
-use Rattle.trees.specs.Plain.{if◌then◌else◌}
 use Rattle.trees.specs.Value.{Length}
 use Rattle.trees.specs.Verdict.{Branches}
 

@@ -6,12 +6,12 @@
 --   judged-alike, recorded-alike   a text that is handed in
 --   withdrawing-alike              withdrawing a tree
 --   questions-alike                every question but that for the collision number
-use Rattle.std.specs.Prelude.{ℕ, suc, ◌+◌, ◌≡◌, Bool, not, ltb, eqb, length}
+use Rattle.std.specs.Prelude.{ℕ, suc, ◌+◌, ◌≡◌, Bool, not, ltb, eqb, length, if◌then◌else◌}
 use Rattle.std.proofs.Math.Path.{refl}
 use Rattle.std.proofs.Common.{ap, sym, ◌∙◌, subst}
 use Rattle.std.proofs.Math.Bool.{true, false}
 use mathlib.Core.List.{List, [], ◌∷◌, ◌++◌}
-use Rattle.trees.specs.Plain.{if◌then◌else◌, keep, member, Answer, refused, gives}
+use Rattle.trees.specs.Plain.{keep, member, Answer, refused, gives}
 use Rattle.trees.specs.Text.{has_end, before_end}
 use Rattle.trees.specs.Consensus.{recorded}
 use Rattle.trees.specs.Value.{Length}

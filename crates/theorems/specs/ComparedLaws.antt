@@ -8,12 +8,12 @@
 --   text-ahead, majority-ahead, both-go-on     it is found by walking along both lists
 --   same-splits          `same` exactly when the two lists are equal
 --   same-distance        and exactly when the doubled distance is 0
-use Rattle.std.specs.Prelude.{ℕ, ◌≤◌, ◌<◌, ◌≡◌, ◌⊎◌, ◌↔◌, Bool, true, false, ltb}
+use Rattle.std.specs.Prelude.{ℕ, ◌≤◌, ◌<◌, ◌≡◌, ◌⊎◌, ◌↔◌, Bool, true, false, ltb, if◌then◌else◌}
 use Rattle.std.proofs.Common.{arith, ap, sym, inl, inr, ltb-true, ltb-false}
 use Rattle.std.proofs.Math.Path.{refl, subst}
 use Rattle.std.proofs.Math.Logic.{⊎_map}
 use mathlib.Core.List.{List, [], ◌∷◌}
-use Rattle.trees.specs.Plain.{if◌then◌else◌, member, lacking}
+use Rattle.trees.specs.Plain.{member, lacking}
 use Rattle.trees.specs.Distance.{doubled}
 use Rattle.trees.specs.Claim.{Claimed, same, text_alone, majority_alone, smallest_alone, compared}
 use Rattle.theorems.specs.ListLaws.{less-or-not, Mem, member-mem, not-member}

@@ -4,9 +4,9 @@
 --   common-tree          splits whose counts together exceed the trees have a tree in common
 --   strict-majority      a strict split is a majority split, when there is a tree
 --   majority-good, strict-good     the majority (strict) splits of trees are proper, rising, and agree in pairs
-use Rattle.std.specs.Prelude.{ℕ, suc, ◌+◌, ◌*◌, ◌≤◌, ◌<◌, ◌≡◌, refl, ◌⊎◌, Bool, true, false, List, [], ◌∷◌, length}
+use Rattle.std.specs.Prelude.{ℕ, suc, ◌+◌, ◌*◌, ◌≤◌, ◌<◌, ◌≡◌, refl, ◌⊎◌, Bool, true, false, List, [], ◌∷◌, length, if◌then◌else◌}
 use Rattle.std.proofs.Common.{arith, ◌∙◌, inl, inr, ltb-true, lt-ltb, eqb-true}
-use Rattle.trees.specs.Plain.{if◌then◌else◌, every, keep, member}
+use Rattle.trees.specs.Plain.{every, keep, member}
 use Rattle.trees.specs.Mask.{proper}
 use Rattle.trees.specs.Consensus.{recorded, count, is_strict, is_majority, strict, majority}
 use Rattle.trees.specs.Whole.{rising, agree_in_pairs, good_tree}

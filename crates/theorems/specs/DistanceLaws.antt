@@ -7,10 +7,10 @@
 --   doubled-triangle     the way over a third tree is no shorter
 use Prim.Native.Nat.{ℕ, suc, ◌+◌, ◌≤◌}
 use Rattle.std.proofs.Common.{arith, add_comm, ap, ap₂, sym, ◌∙◌, subst, inl, inr, true≢false, eqb-true, ne_eqb}
-use Rattle.std.specs.Prelude.{◌≡◌, ◌⊎◌, ◌↔◌, Bool, ◌||◌, List, [], ◌∷◌, eqb}
+use Rattle.std.specs.Prelude.{◌≡◌, ◌⊎◌, ◌↔◌, Bool, ◌||◌, List, [], ◌∷◌, eqb, if◌then◌else◌}
 use Rattle.std.proofs.Math.Path.{refl}
 use Rattle.std.proofs.Math.Bool.{true, false, not}
-use Rattle.trees.specs.Plain.{if◌then◌else◌, member}
+use Rattle.trees.specs.Plain.{member}
 use Rattle.trees.specs.Distance.{one_sided, doubled}
 use Rattle.theorems.specs.ListLaws.{if-true, if-false, Mem, member-mem, mem-member, keep-step}
 use Rattle.theorems.specs.RisingLaws.{Rising, rising-same}

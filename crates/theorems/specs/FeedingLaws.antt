@@ -4,8 +4,8 @@
 --   last_part h l p     the bytes of the piece p before that end
 --   feeding-by         what feeding does, from its two tests
 --   closing-by         what closing does, from its test
-use Rattle.std.specs.Prelude.{ℕ, suc, ◌≡◌, refl, Bool, true, false, List, [], ltb, length}
-use Rattle.trees.specs.Plain.{if◌then◌else◌, refused, gives}
+use Rattle.std.specs.Prelude.{ℕ, suc, ◌≡◌, refl, Bool, true, false, List, [], ltb, length, if◌then◌else◌}
+use Rattle.trees.specs.Plain.{refused, gives}
 use Rattle.trees.specs.Text.{has_end, before_end}
 use Rattle.trees.specs.Held.{Held, holding, lane_of, with_lane, open_in, longer, verdict, more_wanted, Fed, finishing, feeding, Closed, closed, closing}
 

@@ -5,7 +5,7 @@
 --   leaves-count       and are as many as the names that are left
 --   nothing-never, leaf-never       no taxa and a leaf are no splits
 --   few-splits         the splits of a text are fewer than the names, by two at least
-use Rattle.std.specs.Prelude.{ℕ, zero, suc, ◌+◌, ◌^◌, ◌≤◌, ◌≡◌, refl, ◌⊎◌, Bool, true, false, ltb, eqb, length}
+use Rattle.std.specs.Prelude.{ℕ, zero, suc, ◌+◌, ◌^◌, ◌≤◌, ◌≡◌, refl, ◌⊎◌, Bool, true, false, ltb, eqb, length, if◌then◌else◌}
 use Rattle.std.proofs.Common.{arith, ap, sym, ◌∙◌, subst, inl, inr, eqb-true}
 use mathlib.Core.List.{List, [], ◌∷◌, ◌++◌, append_assoc}
 use Rattle.std.proofs.Math.Option.{Option, none, some}
@@ -13,7 +13,7 @@ use Rattle.std.specs.Int.Bits.{bit_or, bit_xor}
 use Rattle.std.proofs.lemmas.Nat.{or_disjoint}
 use Rattle.std.specs.Int.Count.{ones}
 use Rattle.std.proofs.Math.ListN.{length-append}
-use Rattle.trees.specs.Plain.{if◌then◌else◌, keep, Answer, refused, gives}
+use Rattle.trees.specs.Plain.{keep, Answer, refused, gives}
 use Rattle.trees.specs.Text.{Symbol}
 use Rattle.trees.specs.Mask.{every_taxon, side, proper}
 use Rattle.trees.specs.Tree.{Nodes, nil, leaf, inner, beside, width, leaves, children}

@@ -15,14 +15,14 @@
 --   file-tree-judged, file-tree-fed            and reads back as these
 --   majority-of-file, strict-of-file           the calls on a collection's own file answer as the calls on the collection
 --   consensus-of-empty           of an empty file 14
-use Rattle.std.specs.Prelude.{ℕ, ◌*◌, ◌≤◌, ◌<◌, ◌⊎◌, ◌↔◌, Bool, ◌&&◌, ltb, eqb, length}
+use Rattle.std.specs.Prelude.{ℕ, ◌*◌, ◌≤◌, ◌<◌, ◌⊎◌, ◌↔◌, Bool, ◌&&◌, ltb, eqb, length, if◌then◌else◌}
 use native.Mathlib.Omega.{arith}
 use Rattle.std.proofs.Math.Path.{◌≡◌, refl, ap, ap₂, sym, subst}
 use Rattle.std.proofs.Common.{◌∙◌, inl, inr, true≢false}
 use Rattle.std.proofs.Math.Bool.{true, false}
 use mathlib.Core.List.{List, [], ◌∷◌}
 use borrow.Author.Tests.{ltb-true, lt-ltb, eqb-true, eqb-false, eq-eqb, ne_eqb}
-use Rattle.trees.specs.Plain.{if◌then◌else◌, every, keep, Answer, refused, gives}
+use Rattle.trees.specs.Plain.{every, keep, Answer, refused, gives}
 use Rattle.trees.specs.Text.{before_end}
 use Rattle.trees.specs.Mask.{agree, proper}
 use Rattle.trees.specs.Splits.{splits_of as splits_in}

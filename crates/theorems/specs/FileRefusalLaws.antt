@@ -9,7 +9,7 @@
 --   MergeRefused, merging-refusals-in-order     merging: 19 and 20 of the first file, then of the second, 21, 22, 4
 --   TreeRefused, majority-refusals-in-order, strict-refusals-in-order     a file's trees: 19, 20, 14, 23, 4
 --   majority-disagrees, strict-disagrees     23 exactly where two chosen splits disagree
-use Rattle.std.specs.Prelude.{ℕ, zero, suc, ◌+◌, ◌*◌, ◌/◌, ◌%◌, ◌^◌, ◌≤◌, ◌<◌, ◌≡◌, ◌⊎◌, ◌↔◌, Bool, ◌&&◌, ◌||◌, leb, ltb, eqb, length, get_or}
+use Rattle.std.specs.Prelude.{ℕ, zero, suc, ◌+◌, ◌*◌, ◌/◌, ◌%◌, ◌^◌, ◌≤◌, ◌<◌, ◌≡◌, ◌⊎◌, ◌↔◌, Bool, ◌&&◌, ◌||◌, leb, ltb, eqb, length, get_or, if◌then◌else◌}
 use Rattle.std.proofs.Common.{arith, ap, ap₂, sym, ◌∙◌, ⊎_elim, true≢false, ltb-true, ltb-false, lt-ltb, leb-false, eqb-true, eq-eqb, ne_eqb}
 use Rattle.std.proofs.Math.Path.{refl}
 use Rattle.std.proofs.Math.Logic.{inl, inr, ⊎_map}
@@ -17,7 +17,7 @@ use Rattle.std.proofs.Math.Logic.Iff.{trans as iff_trans}
 use Rattle.std.proofs.Math.Bool.{true, false}
 use mathlib.Core.List.{List, [], ◌∷◌}
 use Rattle.std.proofs.lemmas.Bool.{eqb-false}
-use Rattle.trees.specs.Plain.{if◌then◌else◌, every, Answer, refused, gives}
+use Rattle.trees.specs.Plain.{every, Answer, refused, gives}
 use Rattle.trees.specs.Mask.{proper}
 use Rattle.trees.specs.Written.{written}
 use Rattle.trees.specs.Held.{Held}

@@ -6,12 +6,11 @@
 --   one-tree           a text is at most one tree
 --   reading-symbols    texts with the same symbols are read the same
 --   no-tree            nothing is read exactly where no tree is: "7 exactly when the text is no tree"
-use Rattle.std.specs.Prelude.{ℕ, zero, suc, ◌+◌, ◌*◌, ◌≤◌, ◌<◌, max, ◌≡◌, ◌↔◌, Bool, true, false, leb, length}
+use Rattle.std.specs.Prelude.{ℕ, zero, suc, ◌+◌, ◌*◌, ◌≤◌, ◌<◌, max, ◌≡◌, ◌↔◌, Bool, true, false, leb, length, if◌then◌else◌}
 use Rattle.std.proofs.Common.{arith, ap, sym, ◌∙◌, subst, length-append, leb-true, le-leb}
 use Rattle.std.proofs.Math.Path.{refl}
 use mathlib.Core.List.{List, [], ◌∷◌, ◌++◌, append_assoc, append-nil}
 use Rattle.std.proofs.Math.Option.{Option, none, some}
-use Rattle.trees.specs.Plain.{if◌then◌else◌}
 use Rattle.trees.specs.Text.{Symbol, open_bracket, close_bracket, comma, colon, stray, token, symbols}
 use Rattle.trees.specs.Length.{is_length}
 use Rattle.trees.specs.Tree.{Nodes, nil, leaf, inner, leaf_with, inner_with, beside, width, nesting}

@@ -14,12 +14,12 @@
 --   groups-proper            the majority splits of a whole collection are splits that all of this holds of
 --   groups-read-back         they are those that its written majority tree reads back as
 --   groups-by-cutting        and those that cutting an edge of that tree gives
-use Rattle.std.specs.Prelude.{ℕ, ◌+◌, ◌≤◌, ◌<◌, ◌≡◌, refl, ◌⊎◌, ◌↔◌, Bool, true, false, ◌&&◌, ◌||◌, eqb}
+use Rattle.std.specs.Prelude.{ℕ, ◌+◌, ◌≤◌, ◌<◌, ◌≡◌, refl, ◌⊎◌, ◌↔◌, Bool, true, false, ◌&&◌, ◌||◌, eqb, if◌then◌else◌}
 use Rattle.std.proofs.Common.{le_of_lt, le_refl, le_trans, arith, ap, ap₂, sym, ◌∙◌, subst, inr, true≢false, leb-true, leb-false, eqb-true, eq-eqb, ne_eqb}
 use Rattle.std.proofs.Math.Logic.{inl}
 use mathlib.Core.List.{List, [], ◌∷◌, ◌++◌}
 use Rattle.std.proofs.Math.Dec.{leb}
-use Rattle.trees.specs.Plain.{if◌then◌else◌, every, gives}
+use Rattle.trees.specs.Plain.{every, gives}
 use Rattle.trees.specs.Text.{before_end}
 use Rattle.trees.specs.Mask.{has, ones_below, every_taxon, side, proper}
 use Rattle.trees.specs.Tree.{Nodes, children}

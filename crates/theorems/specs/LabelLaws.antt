@@ -18,7 +18,7 @@
 --   Ends s               a run of bytes ends before the text s
 --   ends-nil, ends-blank, ends-mark     as before nothing, a blank and a mark
 --   label-run            a label, where a run ends behind it, is one token
-use Rattle.std.specs.Prelude.{ℕ, ◌≤◌, ◌≡◌, ◌⊎◌, Bool, ◌&&◌, ◌||◌, leb, length}
+use Rattle.std.specs.Prelude.{ℕ, ◌≤◌, ◌≡◌, ◌⊎◌, Bool, ◌&&◌, ◌||◌, leb, length, if◌then◌else◌}
 use Rattle.std.proofs.Common.{arith, sym, ◌∙◌, subst, inl, inr, true≢false, eqb-true, ne_eqb, leb-true, le-leb}
 use Rattle.std.proofs.Math.Path.{refl, ap}
 use Rattle.std.proofs.Math.Logic.{⊎_elim}
@@ -26,7 +26,7 @@ use Rattle.std.proofs.Math.Bool.{true, false, not}
 use mathlib.Core.List.{List, [], ◌∷◌, ◌++◌, map, append_assoc, append-nil}
 use Rattle.std.proofs.Math.Dec.{eqb}
 use Rattle.std.proofs.lemmas.List.{length-map}
-use Rattle.trees.specs.Plain.{if◌then◌else◌, every}
+use Rattle.trees.specs.Plain.{every}
 use Rattle.trees.specs.Text.{semicolon, apostrophe, is_label_byte, is_quoted_byte, turned, open_after, has_end, is_quoted, is_label, spaced, unquoted, read_as, Symbol, token, Kind, blank, label, mark, kind, kind_in, symbols, symbols_after, ended}
 use Rattle.theorems.specs.ListLaws.{by-test, if-true, if-false, and_left, and_right, and-true, or_cases, every-at, every-intro}
 use Rattle.theorems.specs.QuoteLaws.{open-append, other-turned, no-quote-open}

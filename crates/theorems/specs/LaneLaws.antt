@@ -7,7 +7,7 @@
 --   lanes-make-no-difference        each to its own lane: the same verdicts, in the same order, and the same trees and lengths
 --   one-lane-will-do                all to lane 0
 --   questions-make-no-difference    so every question has the same answer
-use Rattle.std.specs.Prelude.{ℕ, ◌<◌, ◌≡◌, Bool, not, length, set, replicate}
+use Rattle.std.specs.Prelude.{ℕ, ◌<◌, ◌≡◌, Bool, not, length, set, replicate, if◌then◌else◌}
 use Rattle.std.proofs.Common.{arith, ap₂, ◌∙◌, length-set, get_or-set_same, set-set}
 use Rattle.std.proofs.Math.Path.{refl, ap, sym}
 use Rattle.std.proofs.Math.Bool.{true, false}
@@ -15,7 +15,7 @@ use mathlib.Core.List.{List, [], ◌∷◌, ◌++◌, map}
 use Rattle.std.proofs.Math.Dec.{ltb}
 use Rattle.std.proofs.Math.ListN.{get_or, length-replicate}
 use borrow.Author.Tests.{ltb-true, lt-ltb, not-true}
-use Rattle.trees.specs.Plain.{if◌then◌else◌, every, refused}
+use Rattle.trees.specs.Plain.{every, refused}
 use Rattle.trees.specs.Text.{semicolon, open_after, has_end, before_end}
 use Rattle.trees.specs.Opening.{Opening}
 use Rattle.trees.specs.Questions.{collisions_of}

@@ -4,7 +4,7 @@
 --   length-moderate  the value of a length is so
 --   add-proper       the rounded sum of two such doubles is finite and not minus zero
 --   sum-of-lengths-proper   and so is that of two lengths
-use Rattle.std.specs.Prelude.{ℕ, zero, suc, ◌+◌, ◌-◌, ◌*◌, ◌%◌, ◌^◌, ◌≤◌, ◌<◌, ◌≡◌, Bool, not, ◌&&◌, cond, List, T, leb, eqb, ℤ, pos, negsuc, Float}
+use Rattle.std.specs.Prelude.{ℕ, zero, suc, ◌+◌, ◌-◌, ◌*◌, ◌%◌, ◌^◌, ◌≤◌, ◌<◌, ◌≡◌, Bool, not, ◌&&◌, cond, List, T, leb, eqb, ℤ, pos, negsuc, Float, if◌then◌else◌}
 use Rattle.std.proofs.Common.{zero-lt-suc, mul-one, one-mul, mul_comm, mul_assoc, mul_left_comm, add-mul, mul-le-mul, mul-le-mul_left, mul-le-mul_right, mul-lt-mul_of_pos_right, lt_of_mul-lt-mul_right, le_trans, le_of_eq, not-le_of_lt, add-sub_of_le, arith, sym, ◌∙◌, subst, ltb→lt, leb→le, eqb→eq, lit≤, pow-add, pow_pos, ltb-true, ltb-false, leb-true, ne_eqb}
 use Rattle.std.proofs.Math.Nat.{mul-sub, mul-pos, pow-succ'}
 use Rattle.std.proofs.Math.Path.{refl, ap}
@@ -19,7 +19,6 @@ use Rattle.std.specs.Float.Ieee.Fits.{up_pos, down_pos, and_l, and_r}
 use Rattle.std.specs.Float.Ieee.Order.{round_mono}
 use Rattle.std.specs.Float.Ieee.Scale.{finite}
 use Rattle.std.specs.Float.Ieee.Positive.{positive, num, den, le→cross}
-use Rattle.trees.specs.Plain.{if◌then◌else◌}
 use Rattle.trees.specs.Value.{is_minus, joined_digits, power, inside, scaled, signed, length_of, proper}
 use Rattle.theorems.specs.Size.{size, plus}
 use Rattle.theorems.specs.SizeLaws.{round-size, round-plus}

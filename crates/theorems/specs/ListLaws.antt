@@ -11,12 +11,12 @@
 --   map-append, map_same, map_back     a list with a function on each
 --   keep_append     the members of two lists that pass a test
 --   keep-step, keep-most     how many pass a test: one member more, and never more than there are
-use Rattle.std.specs.Prelude.{ℕ, zero, suc, ◌≤◌, ◌<◌, ◌≡◌, refl, ◌⊎◌, Bool, true, false, ◌&&◌, ◌||◌, ltb, eqb, length, get_or, replicate}
+use Rattle.std.specs.Prelude.{ℕ, zero, suc, ◌≤◌, ◌<◌, ◌≡◌, refl, ◌⊎◌, Bool, true, false, ◌&&◌, ◌||◌, ltb, eqb, length, get_or, replicate, if◌then◌else◌}
 use Rattle.std.proofs.Common.{arith, ap, ap₂, sym, ◌∙◌, inl, inr, ⊎_elim, true≢false, ltb-true, ltb-false, eqb-true, eq-eqb}
 use Rattle.std.proofs.Math.Logic.{⊎_map}
 use mathlib.Core.List.{List, [], ◌∷◌, ◌++◌, map, flat_map}
 use Rattle.std.proofs.lemmas.Bool.{eqb-false}
-use Rattle.trees.specs.Plain.{if◌then◌else◌, every, keep, member}
+use Rattle.trees.specs.Plain.{every, keep, member}
 
 -- ---- two numbers
 

@@ -4,14 +4,14 @@
 --   longest-accepts     the text is accepted there, as tree 0
 --   longest-trees       the collection then holds its 61 splits
 --   longest-reached     both consensus trees of it, and its tree, are written in 4,349 bytes
-use Rattle.std.specs.Prelude.{ℕ, zero, suc, ◌+◌, ◌-◌, ◌%◌, ◌^◌, ◌≤◌, ◌<◌, ◌≡◌, refl, Bool, true, false, leb, length, get_or, replicate}
+use Rattle.std.specs.Prelude.{ℕ, zero, suc, ◌+◌, ◌-◌, ◌%◌, ◌^◌, ◌≤◌, ◌<◌, ◌≡◌, refl, Bool, true, false, leb, length, get_or, replicate, if◌then◌else◌}
 use Rattle.std.proofs.Common.{arith, pow-suc, sym, ◌∙◌, subst, inl, inr, leb-true, leb-false, le-ltb}
 use Rattle.std.proofs.Math.Path.{ap}
 use mathlib.Core.List.{List, [], ◌∷◌}
 use Rattle.std.specs.Int.Count.{ones}
 use Rattle.std.proofs.Math.Dec.{ltb, eqb}
 use Rattle.std.proofs.Math.Pow.{pow_pos, pow_mono}
-use Rattle.trees.specs.Plain.{if◌then◌else◌, every, refused, gives}
+use Rattle.trees.specs.Plain.{every, refused, gives}
 use Rattle.trees.specs.Mask.{every_taxon, proper}
 use Rattle.trees.specs.Names.{good_names}
 use Rattle.trees.specs.Consensus.{strict, majority}

@@ -9,14 +9,14 @@
 --   merging-comm                 two files in either order
 --   merging-assoc, merging-three     three files either way
 --   merging-trees                the files of two collections make the file of both
-use Rattle.std.specs.Prelude.{ℕ, ◌+◌, ◌*◌, ◌^◌, ◌≤◌, ◌<◌, Bool, ◌||◌, ltb, eqb, length}
+use Rattle.std.specs.Prelude.{ℕ, ◌+◌, ◌*◌, ◌^◌, ◌≤◌, ◌<◌, Bool, ◌||◌, ltb, eqb, length, if◌then◌else◌}
 use native.Mathlib.Omega.{arith}
 use Rattle.std.proofs.Math.Path.{◌≡◌, refl, ap, ap₂}
 use Rattle.std.proofs.Common.{sym, ◌∙◌, inl, true≢false, le-ltb, ne_eqb}
 use Rattle.std.proofs.Math.Bool.{true, false, or_comm}
 use mathlib.Core.List.{List, ◌++◌}
 use Rattle.std.proofs.lemmas.Bool.{eqb-false}
-use Rattle.trees.specs.Plain.{if◌then◌else◌, Answer, refused, gives}
+use Rattle.trees.specs.Plain.{Answer, refused, gives}
 use Rattle.trees.specs.Consensus.{recorded}
 use Rattle.trees.specs.Held.{Held}
 use Rattle.trees.specs.Questions.{if_room}

@@ -7,13 +7,13 @@
 --   distance-triangle     the way over a third tree is no shorter
 --   entry-distance        entry (i, j) of the matrix is the distance of the trees i and j
 --   entry-sym, entry-diagonal     so entries (i, j) and (j, i) are equal, and entry (i, i) is 0
-use Rattle.std.specs.Prelude.{ℕ, ◌+◌, ◌*◌, ◌≤◌, ◌<◌, ◌≡◌, ◌↔◌, Bool, ltb}
+use Rattle.std.specs.Prelude.{ℕ, ◌+◌, ◌*◌, ◌≤◌, ◌<◌, ◌≡◌, ◌↔◌, Bool, ltb, if◌then◌else◌}
 use Rattle.std.proofs.Common.{arith, sym, ◌∙◌, lt-ltb}
 use Rattle.std.proofs.Math.Path.{refl, ap}
 use Rattle.std.proofs.Math.Bool.{true, false}
 use mathlib.Core.List.{List, []}
 use Rattle.std.proofs.Math.ListN.{length, get_or}
-use Rattle.trees.specs.Plain.{if◌then◌else◌, Answer, refused, gives}
+use Rattle.trees.specs.Plain.{Answer, refused, gives}
 use Rattle.trees.specs.Distance.{doubled, matrix}
 use Rattle.trees.specs.Held.{Held}
 use Rattle.trees.specs.Questions.{if_room, if_tree, tree, doubled_of, matrix_of}

@@ -6,13 +6,13 @@
 --   good-count       there are as many as there are taxa
 --   good-name        each is a name
 --   name-found       a label is found in the place of the name that it reads as
-use Rattle.std.specs.Prelude.{ℕ, zero, suc, ◌+◌, ◌≤◌, ◌<◌, ◌≡◌, refl, Bool, true, false, ◌&&◌, List, [], ◌∷◌, leb, eqb, length, get_or}
+use Rattle.std.specs.Prelude.{ℕ, zero, suc, ◌+◌, ◌≤◌, ◌<◌, ◌≡◌, refl, Bool, true, false, ◌&&◌, List, [], ◌∷◌, leb, eqb, length, get_or, if◌then◌else◌}
 use Rattle.std.proofs.Common.{arith, ap₂, sym, ◌∙◌, subst, inl, inr, true≢false}
 use Rattle.std.proofs.Math.Path.{ap}
 use Rattle.std.proofs.Math.Bool.{not}
 use Rattle.std.proofs.Math.Option.{some}
 use borrow.Author.Tests.{eqb-true, eq-eqb, ne_eqb, leb-true, not-true}
-use Rattle.trees.specs.Plain.{if◌then◌else◌, every, member, same_bytes, in_names}
+use Rattle.trees.specs.Plain.{every, member, same_bytes, in_names}
 use Rattle.trees.specs.Text.{is_blank, is_label_byte, is_quoted_byte, read_as, Kind, blank, label, mark, open_bracket, close_bracket, comma, colon, stray, kind}
 use Rattle.trees.specs.Names.{taxon_from, taxon_of, is_name, different, good_names}
 use Rattle.theorems.specs.ListLaws.{if-true, if-false, and_left, and_right, or_left, or_right, Mem, member-mem, member-not, not-member, every-at}

@@ -6,10 +6,10 @@
 --   read-exactly       the function and the relation say the same
 --   file-once          bytes give at most one file
 --   malformed-exactly  nothing is read exactly where there is no file: "15 block malformed"
-use Rattle.std.specs.Prelude.{ℕ, ◌≤◌, ◌≡◌, refl, Bool, true, false, ◌&&◌, List, [], ◌∷◌, ◌++◌, length}
+use Rattle.std.specs.Prelude.{ℕ, ◌≤◌, ◌≡◌, refl, Bool, true, false, ◌&&◌, List, [], ◌∷◌, ◌++◌, length, if◌then◌else◌}
 use Rattle.std.proofs.Common.{arith, ap, ◌∙◌, subst, append_assoc, append-nil, length-append, le-leb}
 use Rattle.std.proofs.Math.Option.{Option, none, some}
-use Rattle.trees.specs.Plain.{if◌then◌else◌, every, same_bytes, bytes}
+use Rattle.trees.specs.Plain.{every, same_bytes, bytes}
 use Rattle.trees.specs.Text.{semicolon, is_blank, parts}
 use Rattle.trees.specs.Nexus.{uncommented, is_word, First, Pair, File, Begins, is-begin, EndsOther, NoneEnds, none-ends, not_yet, IsOthers, no_other, other, IsPairs, most_keys, MayTranslate, no-list, a-list, IsLine, is-line, IsLines, no_line, a-line, IsEnd, IsNexus}
 use Rattle.trees.specs.NexusReading.{first_token, behind_first, read_pairs, is_end, Place, outside, in_other, in_trees, Move, wrong, to, lists, brings, block_begun, listed, line_given, moved, with_pairs, with_text, closes, reads_on, reads, read_file}

@@ -4,14 +4,14 @@
 --   other-left         another block before what is left outside
 --   begun-step, other_step, trees-step     one command outside the blocks, in another block, in the TREES block
 --   left-sound         what is read from a place on is left of a file
-use Rattle.std.specs.Prelude.{ℕ, ◌≡◌, Bool, ◌&&◌, length}
+use Rattle.std.specs.Prelude.{ℕ, ◌≡◌, Bool, ◌&&◌, length, if◌then◌else◌}
 use Rattle.std.proofs.Common.{arith, ap, sym, ◌∙◌, subst, true≢false, leb-true}
 use Rattle.std.proofs.Math.Path.{refl}
 use Rattle.std.proofs.Math.Bool.{true, false}
 use mathlib.Core.List.{List, [], ◌∷◌, ◌++◌, append_assoc, append-nil}
 use Rattle.std.proofs.Math.Option.{Option, none, some}
 use Rattle.std.proofs.Math.Dec.{leb}
-use Rattle.trees.specs.Plain.{if◌then◌else◌, every, bytes}
+use Rattle.trees.specs.Plain.{every, bytes}
 use Rattle.trees.specs.Text.{is_blank, parts}
 use Rattle.trees.specs.Nexus.{is_word, Pair, File, Begins, is-begin, EndsOther, NoneEnds, none-ends, not_yet, no_other, other, most_keys, MayTranslate, no-list, a-list, IsLine, IsLines, no_line, a-line}
 use Rattle.trees.specs.NexusReading.{first_token, behind_first, two_tokens, ends_other, read_pairs, read_line, is_end, Place, outside, in_other, in_trees, Move, wrong, to, block_begun, listed, line_given, moved, with_pairs, with_text, closes, reads_on, reads}

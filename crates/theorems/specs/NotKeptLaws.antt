@@ -7,14 +7,14 @@
 --   size-not-kept          the size of a store is the formula without lengths
 --   weighted-not-kept, sums-not-kept     the questions about lengths are refused: 13 where there is no such tree or split, else 18
 --   weighted-never, sums-never           so they are never given
-use Rattle.std.specs.Prelude.{ℕ, ◌+◌, ◌*◌, ◌≡◌, refl, eqb, Float}
+use Rattle.std.specs.Prelude.{ℕ, ◌+◌, ◌*◌, ◌≡◌, refl, eqb, Float, if◌then◌else◌}
 use native.Mathlib.Omega.{arith}
 use Rattle.std.proofs.Common.{zero-mul, sym, ◌∙◌, eq-eqb}
 use Rattle.std.proofs.Math.Path.{ap, subst}
 use mathlib.Core.List.{List, []}
 use Rattle.std.proofs.Math.Dec.{ltb}
 use Rattle.std.proofs.Math.ListN.{length}
-use Rattle.trees.specs.Plain.{if◌then◌else◌, Answer, refused, gives}
+use Rattle.trees.specs.Plain.{Answer, refused, gives}
 use Rattle.trees.specs.Consensus.{recorded}
 use Rattle.trees.specs.Opening.{Numbers, store_size, head_bytes, lane_bytes, tree_bytes}
 use Rattle.trees.specs.Verdict.{judged, Branches, with_lengths, judged_with}

@@ -4,13 +4,12 @@
 --   ones-zero, ones_bit, ones-in             of no taxa, of one taxon, and of the lowest bits alone
 --   ones-part, ones_lt                       the taxa of a part and those of the rest; a smaller part has fewer
 --   ones_pos, pos-of-ones                    a mask that is not empty has a taxon
-use Rattle.std.specs.Prelude.{ℕ, zero, suc, ◌+◌, ◌/◌, ◌%◌, ◌^◌, ◌<◌, ◌≡◌, refl, ◌⊎◌}
+use Rattle.std.specs.Prelude.{ℕ, zero, suc, ◌+◌, ◌/◌, ◌%◌, ◌^◌, ◌<◌, ◌≡◌, refl, ◌⊎◌, if◌then◌else◌}
 use Rattle.std.proofs.Common.{arith, pow-suc, ap, ap₂, sym, ◌∙◌, inl, inr, eq-eqb, ne_eqb}
 use Rattle.std.proofs.Math.Arith.{bin_ind}
 use Rattle.std.specs.Int.Bits.{bit_xor, xor_zero_r, differ}
 use Rattle.std.proofs.lemmas.Nat.{xor_shr}
 use Rattle.std.specs.Int.Count.{ones, ones_in, ones_step}
-use Rattle.trees.specs.Plain.{if◌then◌else◌}
 use Rattle.trees.specs.Mask.{has, ones_below}
 use Rattle.theorems.specs.ListLaws.{if-true, if-false}
 use Rattle.theorems.specs.BitLaws.{Sub, even_odd, xor-odd, pow-half, on-first, first_on, on-shift, shift-on, shift, less-add}

@@ -8,14 +8,14 @@
 --   own-lane-only                     collections that differ only in the texts of other lanes give the same answer to a piece,
 --                                     and differ afterwards only there
 --   own-lane-only-closing             so do they to a closing
-use Rattle.std.specs.Prelude.{ℕ, zero, suc, ◌≡◌, Bool, ltb, length}
+use Rattle.std.specs.Prelude.{ℕ, zero, suc, ◌≡◌, Bool, ltb, length, if◌then◌else◌}
 use Rattle.std.proofs.Common.{arith, ◌∙◌, subst₂, length-set}
 use Rattle.std.proofs.Math.Path.{refl, ap, sym, subst}
 use Rattle.std.proofs.Math.Bool.{true, false}
 use mathlib.Core.List.{List, [], ◌∷◌}
 use Rattle.std.proofs.Math.ListN.{get_or, set}
 use Rattle.std.proofs.Math.Seq.{get_or-set_other}
-use Rattle.trees.specs.Plain.{if◌then◌else◌, Answer, refused, gives}
+use Rattle.trees.specs.Plain.{Answer, refused, gives}
 use Rattle.trees.specs.Text.{has_end}
 use Rattle.trees.specs.Verdict.{Branches}
 use Rattle.trees.specs.Held.{Held, Lane, holding, lane_of, with_lane, with_tree, open_in, longer, verdict, Fed, recording, finishing, feeding, Closed, closing}

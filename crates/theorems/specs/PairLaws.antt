@@ -8,14 +8,14 @@
 --   name-sound, name-complete     a pair's name
 --   PairOk s p         the pair p, if there is one, is what s is
 --   pair-sound, pair-complete     a pair
-use Rattle.std.specs.Prelude.{ℕ, ◌≡◌, refl, Bool, ◌&&◌, ◌||◌, leb, eqb, length}
+use Rattle.std.specs.Prelude.{ℕ, ◌≡◌, refl, Bool, ◌&&◌, ◌||◌, leb, eqb, length, if◌then◌else◌}
 use Rattle.std.proofs.Common.{arith, ap₂, sym, ◌∙◌, subst, ⊎_elim, true≢false, leb-true, le-leb, ne_eqb}
 use Rattle.std.proofs.Math.Path.{ap}
 use Rattle.std.proofs.Math.Bool.{true, false}
 use mathlib.Core.List.{List, [], ◌∷◌, ◌++◌, append-nil}
 use Rattle.std.proofs.Math.Option.{Option, none, some}
 use Rattle.std.proofs.lemmas.Bool.{not-true}
-use Rattle.trees.specs.Plain.{if◌then◌else◌, every, member}
+use Rattle.trees.specs.Plain.{every, member}
 use Rattle.trees.specs.Text.{apostrophe, is_blank, is_label_byte, turned, is_quoted_byte, is_quoted, is_label}
 use Rattle.trees.specs.Nexus.{run_of, behind_run, begins, First, Named, is-named, Pair}
 use Rattle.trees.specs.NexusReading.{first_token, behind_first, quoted_run, behind_quoted, label_run, behind_label, read_name, with_key, read_pair}

@@ -11,7 +11,7 @@
 --   phylip-most          and 4,205,573 bytes always are
 --   phylip-reads-back    what a whole collection writes reads back as the matrix that it answers
 --   phylip-refused-exactly     reading it back is refused exactly where the room is less than the values, and with 4
-use Rattle.std.specs.Prelude.{ℕ, ◌+◌, ◌*◌, ◌≤◌, ◌<◌, ◌≡◌, refl, ◌⊎◌, ◌↔◌, Bool, true, false, not, ltb}
+use Rattle.std.specs.Prelude.{ℕ, ◌+◌, ◌*◌, ◌≤◌, ◌<◌, ◌≡◌, refl, ◌⊎◌, ◌↔◌, Bool, true, false, not, ltb, if◌then◌else◌}
 use Rattle.std.proofs.Math.Nat.{mul_comm}
 use Rattle.std.proofs.Common.{mul-le-mul, arith, sym, ◌∙◌, inl, inr, le-ltb, ltb-false}
 use Rattle.std.proofs.Math.Path.{ap, subst}
@@ -19,7 +19,7 @@ use mathlib.Core.List.{List, [], ◌∷◌, ◌++◌, map, flat_map, flatten}
 use Rattle.std.proofs.Math.Option.{some}
 use Rattle.std.proofs.Math.ListN.{length}
 use Rattle.std.proofs.lemmas.List.{length-map}
-use Rattle.trees.specs.Plain.{if◌then◌else◌, member, lacking, refused, gives}
+use Rattle.trees.specs.Plain.{member, lacking, refused, gives}
 use Rattle.trees.specs.Names.{good_names}
 use Rattle.trees.specs.Distance.{one_sided, doubled, matrix}
 use Rattle.trees.specs.Written.{tree_of, shown}

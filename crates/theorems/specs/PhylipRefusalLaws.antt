@@ -9,7 +9,7 @@
 --   twenty-four-exactly, twenty-five-exactly, four-exactly     so of each number
 --   matrix-given-exactly     it gives a matrix exactly when that is laid out, symmetric with a zero diagonal, and no more than the room
 --   writing-makes-no-difference     two texts of the same matrix get the same answer, whatever their names, spaces and leading zeros are
-use Rattle.std.specs.Prelude.{ℕ, zero, suc, ◌*◌, ◌≤◌, ◌<◌, ◌≡◌, ◌⊎◌, ◌↔◌, Bool, ◌&&◌, List, length}
+use Rattle.std.specs.Prelude.{ℕ, zero, suc, ◌*◌, ◌≤◌, ◌<◌, ◌≡◌, ◌⊎◌, ◌↔◌, Bool, ◌&&◌, List, length, if◌then◌else◌}
 use Rattle.std.proofs.Common.{arith, ap, sym, ◌∙◌, true≢false}
 use Rattle.std.proofs.Math.Path.{refl}
 use Rattle.std.proofs.Math.Logic.{inl, inr}
@@ -17,7 +17,7 @@ use Rattle.std.proofs.Math.Bool.{true, false}
 use Rattle.std.proofs.Math.Option.{Option, none, some}
 use Rattle.std.proofs.Math.Dec.{ltb, eqb}
 use borrow.Author.Tests.{ltb-true, ltb-false, lt-ltb, le-ltb, eqb-true, eqb-false, eq-eqb}
-use Rattle.trees.specs.Plain.{if◌then◌else◌, every, Answer, refused, gives}
+use Rattle.trees.specs.Plain.{every, Answer, refused, gives}
 use Rattle.trees.specs.Phylip.{Square, square_in, below, entry, symmetric}
 use Rattle.trees.specs.PhylipCall.{read_phylip_of}
 use Rattle.theorems.specs.ListLaws.{if-true, if-false, and_left, and_right, and-true, Mem, every-at, every-intro}

@@ -3,7 +3,7 @@
 --   laid-out-exactly     a text is read as a matrix exactly when it is laid out so and says that matrix
 --   one-matrix           a text says one matrix only
 --   laid-values          a matrix that is laid out has a value for each pair of trees
-use Rattle.std.specs.Prelude.{ℕ, zero, suc, ◌*◌, ◌≡◌, refl, ◌↔◌, true, false, ◌&&◌, not, eqb, replicate, drop}
+use Rattle.std.specs.Prelude.{ℕ, zero, suc, ◌*◌, ◌≡◌, refl, ◌↔◌, true, false, ◌&&◌, not, eqb, replicate, drop, if◌then◌else◌}
 use Rattle.std.proofs.Common.{zero-mul, suc-mul, arith, ap₂, ◌∙◌, subst, inl, inr, true≢false, length-append}
 use Rattle.std.proofs.Math.Path.{ap, sym}
 use mathlib.Core.List.{List, [], ◌∷◌, ◌++◌, map, flat_map, append_assoc}
@@ -12,7 +12,7 @@ use Rattle.std.proofs.Math.Dec.{leb}
 use Rattle.std.proofs.Math.ListN.{length, take, take-append-drop}
 use Rattle.std.proofs.lemmas.List.{length-map}
 use borrow.Author.Tests.{leb-true, eqb-true, not-true}
-use Rattle.trees.specs.Plain.{if◌then◌else◌, keep}
+use Rattle.trees.specs.Plain.{keep}
 use Rattle.trees.specs.Decimal.{number_in}
 use Rattle.trees.specs.Phylip.{between, is_empty, ends_empty, with_value, numbers_in, values_in, is_name, exactly, row_in, with_row, rows_in, Square, square_of, square_lines, square_in}
 use Rattle.theorems.specs.ListLaws.{by-test, and_left, and_right, Mem, every-at}

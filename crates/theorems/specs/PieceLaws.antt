@@ -8,9 +8,8 @@
 --   unended w              the bytes w have no end of a text
 --   unended-append         two runs of such bytes, one after the other
 --   closed-append          quotes are closed behind the bytes w and what then stands before an end
-use Rattle.std.specs.Prelude.{ℕ, zero, suc, ◌≤◌, ◌≡◌, refl, Bool, true, false, ◌||◌, not, List, [], ◌∷◌, ◌++◌, map, ltb, length, get_or, set, replicate}
+use Rattle.std.specs.Prelude.{ℕ, zero, suc, ◌≤◌, ◌≡◌, refl, Bool, true, false, ◌||◌, not, List, [], ◌∷◌, ◌++◌, map, ltb, length, get_or, set, replicate, if◌then◌else◌}
 use Rattle.std.proofs.Common.{arith, ap, sym, ◌∙◌, append_assoc, length-append, ltb-true, lt-ltb, le-ltb}
-use Rattle.trees.specs.Plain.{if◌then◌else◌}
 use Rattle.trees.specs.Text.{open_after, has_end, before_end}
 use Rattle.trees.specs.Held.{Lane, holding, overrun, most_text, open_in, longer}
 use Rattle.theorems.specs.ListLaws.{by-test, if-true, if-false}

@@ -8,13 +8,13 @@
 --   before-unended       in what stands before an end no text ends
 --   before-closed        and no quotes are open behind it, if there is an end
 --   before-end, has_end_lem  a run in which no text ends, and a semicolon behind it
-use Rattle.std.specs.Prelude.{ℕ, ◌≡◌, Bool, ◌||◌, not, eqb}
+use Rattle.std.specs.Prelude.{ℕ, ◌≡◌, Bool, ◌||◌, not, eqb, if◌then◌else◌}
 use Rattle.std.proofs.Math.Path.{refl, ap}
 use Rattle.std.proofs.Common.{sym, ◌∙◌, true≢false}
 use Rattle.std.proofs.Math.Bool.{true, false}
 use mathlib.Core.List.{List, [], ◌∷◌, ◌++◌}
 use borrow.Author.Tests.{eqb-true}
-use Rattle.trees.specs.Plain.{if◌then◌else◌, every}
+use Rattle.trees.specs.Plain.{every}
 use Rattle.trees.specs.Text.{semicolon, apostrophe, turned, open_after, ends_text, has_end, before_end}
 use Rattle.theorems.specs.ListLaws.{if-false, and_left, and_right}
 

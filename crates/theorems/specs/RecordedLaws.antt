@@ -5,9 +5,9 @@
 --   recorded_more       so its new splits are recorded besides
 --   recorded-within     of trees that are all among others, no more are recorded than of those
 --   recorded-same       of the same trees, in whatever order, the same are recorded
-use Rattle.std.specs.Prelude.{ℕ, suc, ◌+◌, ◌≤◌, ◌≡◌, refl, ◌⊎◌, Bool, true, false, not, List, [], ◌∷◌, ◌++◌, ltb, eqb, length}
+use Rattle.std.specs.Prelude.{ℕ, suc, ◌+◌, ◌≤◌, ◌≡◌, refl, ◌⊎◌, Bool, true, false, not, List, [], ◌∷◌, ◌++◌, ltb, eqb, length, if◌then◌else◌}
 use Rattle.std.proofs.Common.{arith, ap, sym, ◌∙◌, subst, inl, inr, ⊎_elim, eqb-true}
-use Rattle.trees.specs.Plain.{if◌then◌else◌, keep, member}
+use Rattle.trees.specs.Plain.{keep, member}
 use Rattle.trees.specs.Splits.{insert}
 use Rattle.trees.specs.Consensus.{insert_all, recorded}
 use Rattle.theorems.specs.ListLaws.{by-test, Mem, mem-left, mem-right, mem-cases, member-mem, not-member}

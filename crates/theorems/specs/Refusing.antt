@@ -9,9 +9,8 @@
 --   kept_lengths k ns t  the lengths of the splits of the tree t that are kept: all, or none
 --   Refuses h s k       the collection h refuses the text s with the number k
 --   Accepts h s b       it accepts the text s, and b are the splits of its tree and those of its lengths that are kept
-use Rattle.std.specs.Prelude.{ℕ, ◌≤◌, ◌<◌, ◌≡◌, List, [], ◌∷◌, ◌++◌, eqb, length}
+use Rattle.std.specs.Prelude.{ℕ, ◌≤◌, ◌<◌, ◌≡◌, List, [], ◌∷◌, ◌++◌, eqb, length, if◌then◌else◌}
 use Rattle.std.proofs.Math.Option.{none, some}
-use Rattle.trees.specs.Plain.{if◌then◌else◌}
 use Rattle.trees.specs.Tree.{Nodes, leaves}
 use Rattle.trees.specs.Grammar.{IsTree}
 use Rattle.trees.specs.Names.{taxon_of}

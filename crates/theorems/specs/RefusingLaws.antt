@@ -12,13 +12,13 @@
 --   fed-accepted-exactly     it accepts exactly when no fault holds, and the tree's number is that of the trees before
 --   fed-refused-after, fed-accepted-after    what is held then: nothing new; exactly the splits of the text's tree and their lengths. The lane is empty either way
 --   fed-taken                the text and the semicolon are taken
-use Rattle.std.specs.Prelude.{ℕ, suc, ◌+◌, ◌≤◌, ◌<◌, ◌≡◌, refl, ◌⊎◌, ◌↔◌, Bool, true, List, [], ◌∷◌, ◌++◌, ltb, length}
+use Rattle.std.specs.Prelude.{ℕ, suc, ◌+◌, ◌≤◌, ◌<◌, ◌≡◌, refl, ◌⊎◌, ◌↔◌, Bool, true, List, [], ◌∷◌, ◌++◌, ltb, length, if◌then◌else◌}
 use Rattle.std.proofs.Common.{arith, ap₂, ◌∙◌, inl, inr, ltb-true, ltb-false, lt-ltb, le-ltb, eqb-true, eq-eqb, ne_eqb}
 use Rattle.std.proofs.Math.Path.{ap, sym, subst}
 use Rattle.std.proofs.Math.Bool.{false}
 use Rattle.std.proofs.Math.Dec.{eqb}
 use Rattle.std.proofs.lemmas.Bool.{eqb-false}
-use Rattle.trees.specs.Plain.{if◌then◌else◌, Answer, refused, gives}
+use Rattle.trees.specs.Plain.{Answer, refused, gives}
 use Rattle.trees.specs.Text.{semicolon, open_after, has_end, before_end}
 use Rattle.trees.specs.Tree.{Nodes, children}
 use Rattle.trees.specs.Splits.{clusters, splits_of}

@@ -5,7 +5,7 @@
 --   ending-opening                  the opening stays
 --   ending-whole, run-whole         from an accepted opening on, a collection is whole after every run
 --   lanes-hold-pending              every lane holds the bytes fed to it since its last text ended or it was closed, or ran over
-use Rattle.std.specs.Prelude.{ℕ, ◌≡◌, ◌↔◌, Bool, ltb, length, set, replicate}
+use Rattle.std.specs.Prelude.{ℕ, ◌≡◌, ◌↔◌, Bool, ltb, length, set, replicate, if◌then◌else◌}
 use Rattle.std.proofs.Common.{arith, ap₂, sym, ◌∙◌, subst, true≢false, ltb-false}
 use Rattle.std.proofs.Math.Path.{refl, ap}
 use Rattle.std.proofs.Math.Bool.{true, false}
@@ -13,7 +13,7 @@ use mathlib.Core.List.{List, [], ◌∷◌, ◌++◌, map}
 use Rattle.std.proofs.Math.ListN.{get_or, length-set, get_or-map}
 use Rattle.std.proofs.lemmas.List.{length-replicate}
 use Rattle.std.proofs.Math.Seq.{set_out}
-use Rattle.trees.specs.Plain.{if◌then◌else◌, Answer, refused, gives}
+use Rattle.trees.specs.Plain.{Answer, refused, gives}
 use Rattle.trees.specs.Text.{has_end}
 use Rattle.trees.specs.Opening.{Numbers, Opening, opening}
 use Rattle.trees.specs.Verdict.{Branches}

@@ -10,13 +10,13 @@
 --   run-begins        a run is not empty exactly where the first byte passes
 --   begins-of         bytes that pass begin with one
 --   begins-apart, begins-other     bytes that pass a test do not begin with one that passes a test apart from it
-use Rattle.std.specs.Prelude.{ℕ, ◌≤◌, ◌≡◌, Bool, ◌&&◌}
+use Rattle.std.specs.Prelude.{ℕ, ◌≤◌, ◌≡◌, Bool, ◌&&◌, if◌then◌else◌}
 use Rattle.std.proofs.Common.{arith, sym, ◌∙◌, true≢false}
 use Rattle.std.proofs.Math.Path.{refl, ap}
 use Rattle.std.proofs.Math.Bool.{true, false}
 use mathlib.Core.List.{List, [], ◌∷◌, ◌++◌}
 use Rattle.std.proofs.Math.ListN.{length}
-use Rattle.trees.specs.Plain.{if◌then◌else◌, every}
+use Rattle.trees.specs.Plain.{every}
 use Rattle.trees.specs.Nexus.{run_of, behind_run, begins}
 use Rattle.theorems.specs.ListLaws.{if-true, if-false, and_left}
 

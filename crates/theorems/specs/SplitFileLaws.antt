@@ -14,7 +14,7 @@
 --   entry c t m, listed c t l    the record of the mask m, and those of the masks l, with the counts that c gives, of t trees
 --   listed-mem, listed-masks, listed-trees, listed-count, listed_same     what stands in them
 --   listed-formed                they are well formed where the masks are proper and rise and the counts are from 1 to t
-use Rattle.std.specs.Prelude.{ℕ, zero, suc, ◌-◌, ◌*◌, ◌/◌, ◌%◌, ◌^◌, ◌≤◌, ◌<◌, ◌≡◌, ◌⊎◌, ◌&&◌, leb, length}
+use Rattle.std.specs.Prelude.{ℕ, zero, suc, ◌-◌, ◌*◌, ◌/◌, ◌%◌, ◌^◌, ◌≤◌, ◌<◌, ◌≡◌, ◌⊎◌, ◌&&◌, leb, length, if◌then◌else◌}
 use Rattle.std.proofs.Common.{zero-lt-suc, pow-suc, div-lt_iff_lt-mul, arith, ap₂, sym, ◌∙◌, subst, inl, inr, length-append}
 use Rattle.std.proofs.Math.Nat.{pow-le-pow_right}
 use Rattle.std.proofs.Math.Path.{refl, ap}
@@ -22,7 +22,7 @@ use Rattle.std.proofs.Math.Bool.{true}
 use mathlib.Core.List.{List, [], ◌∷◌, ◌++◌, map}
 use Rattle.std.proofs.Math.Dec.{ltb, eqb}
 use borrow.Author.Tests.{leb-true, le-leb, ltb-true, lt-ltb, eqb-true, eq-eqb, ne_eqb}
-use Rattle.trees.specs.Plain.{if◌then◌else◌, every}
+use Rattle.trees.specs.Plain.{every}
 use Rattle.trees.specs.Mask.{ones_below, proper}
 use Rattle.trees.specs.SplitFile.{low_first, number_of, Record, record_bytes, bytes_of, records_in, trees_of, masks_of, proper_record, well_formed, count_for, fits}
 use Rattle.trees.specs.Whole.{rising}

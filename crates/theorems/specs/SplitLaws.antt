@@ -4,11 +4,11 @@
 --   clusters-agree      then every two clusters agree
 --   counted-mem, mem-counted, counted-rising    what counts among the sides of clusters
 --   splits-good         then the splits of a tree are proper, rising, and agree in pairs
-use Rattle.std.specs.Prelude.{ℕ, suc, ◌+◌, ◌^◌, ◌<◌, ◌≡◌, refl, ◌⊎◌, Bool, true, false, List, [], ◌∷◌, ◌++◌, length}
+use Rattle.std.specs.Prelude.{ℕ, suc, ◌+◌, ◌^◌, ◌<◌, ◌≡◌, refl, ◌⊎◌, Bool, true, false, List, [], ◌∷◌, ◌++◌, length, if◌then◌else◌}
 use Rattle.std.proofs.Common.{arith, ap, sym, ◌∙◌, subst, inl, inr, ⊎_elim, true≢false}
 use Rattle.std.proofs.Math.Option.{Option, none, some}
 use Rattle.std.specs.Int.Bits.{bit_or}
-use Rattle.trees.specs.Plain.{if◌then◌else◌, every, same_bytes}
+use Rattle.trees.specs.Plain.{every, same_bytes}
 use Rattle.trees.specs.Mask.{every_taxon, agree, side, proper}
 use Rattle.trees.specs.Tree.{Nodes, nil, leaf, inner, children}
 use Rattle.trees.specs.Text.{read_as}

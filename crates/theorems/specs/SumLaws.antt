@@ -5,7 +5,7 @@
 --   none-shorter          no length is below it
 --   longest-given, none-longer     likewise the longest
 --   sum_number            the sum is no NaN
-use Rattle.std.specs.Prelude.{◌<◌, ◌≡◌, Bool, true, false, not, T, length}
+use Rattle.std.specs.Prelude.{◌<◌, ◌≡◌, Bool, true, false, not, T, length, if◌then◌else◌}
 use Rattle.std.proofs.Common.{arith, sym, inr}
 use Rattle.std.proofs.Math.Path.{refl, subst}
 use Rattle.std.proofs.Math.Logic.{inl}
@@ -13,7 +13,7 @@ use mathlib.Core.List.{List, [], ◌∷◌, ◌++◌}
 use Rattle.std.specs.Float.Ieee.{Float, add, lt, is_nan}
 use Rattle.std.specs.Float.{binary64}
 use Rattle.std.specs.Float.Ieee.Scale.{finite}
-use Rattle.trees.specs.Plain.{if◌then◌else◌, every}
+use Rattle.trees.specs.Plain.{every}
 use Rattle.trees.specs.Value.{proper}
 use Rattle.trees.specs.Sums.{plus_zero, shortest, longest, added, sums}
 use Rattle.theorems.specs.ListLaws.{by-test, and_left, and_right, Mem, every-at}

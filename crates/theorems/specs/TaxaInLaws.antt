@@ -4,9 +4,9 @@
 --   taxa-in-exactly        the list of the taxa of a mask has exactly these
 --   taxa-in-rising         it rises, so it has none twice
 --   taxa-in-count          and it has as many as are counted in the mask
-use Rattle.std.specs.Prelude.{ℕ, zero, suc, ◌<◌, ◌≡◌, refl, ◌⊎◌, ◌↔◌, Bool, true, false, [], ◌∷◌, ◌++◌, length}
+use Rattle.std.specs.Prelude.{ℕ, zero, suc, ◌<◌, ◌≡◌, refl, ◌⊎◌, ◌↔◌, Bool, true, false, [], ◌∷◌, ◌++◌, length, if◌then◌else◌}
 use Rattle.std.proofs.Common.{arith, ap, ◌∙◌, inl, inr, length-append}
-use Rattle.trees.specs.Plain.{if◌then◌else◌, keep}
+use Rattle.trees.specs.Plain.{keep}
 use Rattle.trees.specs.Mask.{has, ones_below}
 use Rattle.trees.specs.Groups.{up_to, taxa_in}
 use Rattle.theorems.specs.ListLaws.{equal_or_not, Mem, mem-left, mem-right, mem-cases, keep_append, keep-mem, mem-keep}

@@ -10,13 +10,13 @@
 --   first_found        the first token is found
 --   TwoOk s p          the two tokens p, if they are any, are what s is
 --   two-sound, two-complete     two tokens are found exactly where they stand
-use Rattle.std.specs.Prelude.{ℕ, ◌-◌, ◌≤◌, ◌≡◌, refl, Bool, true, false, ◌&&◌, not, leb, ltb, length}
+use Rattle.std.specs.Prelude.{ℕ, ◌-◌, ◌≤◌, ◌≡◌, refl, Bool, true, false, ◌&&◌, not, leb, ltb, length, if◌then◌else◌}
 use Prim.Native.String.{String}
 use Rattle.std.proofs.Common.{arith, ap₂, sym, ◌∙◌, true≢false, leb-true, le-leb, ltb-true}
 use Rattle.std.proofs.Math.Path.{ap}
 use mathlib.Core.List.{List, [], ◌∷◌, ◌++◌, map}
 use Rattle.std.proofs.Math.Option.{Option, none, some}
-use Rattle.trees.specs.Plain.{if◌then◌else◌, every, same_bytes, bytes}
+use Rattle.trees.specs.Plain.{every, same_bytes, bytes}
 use Rattle.trees.specs.Text.{is_blank, is_label_byte}
 use Rattle.trees.specs.Nexus.{run_of, behind_run, capital, is_word, is_token, First, is-first, Two, are-two, Pair}
 use Rattle.trees.specs.NexusReading.{first_token, behind_first, two_tokens}

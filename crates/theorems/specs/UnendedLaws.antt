@@ -3,13 +3,12 @@
 --   no_stray            no symbol of a tree is a stray one
 --   symbols-unended     bytes without a stray symbol have no semicolon outside quotes, and end outside quotes
 --   tree-unended        so has a tree's text
-use Rattle.std.specs.Prelude.{ℕ, Bool, ◌&&◌, not, eqb}
+use Rattle.std.specs.Prelude.{ℕ, Bool, ◌&&◌, not, eqb, if◌then◌else◌}
 use Rattle.std.proofs.Common.{arith, ap, sym, ◌∙◌, subst, inl, inr, ⊎_elim, true≢false, ne_eqb}
 use Rattle.std.proofs.Math.Path.{◌≡◌, refl}
 use Rattle.std.proofs.Math.Bool.{true, false}
 use mathlib.Core.List.{List, [], ◌∷◌, ◌++◌}
 use Rattle.std.proofs.Math.Option.{Option}
-use Rattle.trees.specs.Plain.{if◌then◌else◌}
 use Rattle.trees.specs.Text.{semicolon, apostrophe, open_after, is_label, Symbol, stray, Kind, blank, label, mark, kind, kind_in, ended, symbols, symbols_after}
 use Rattle.trees.specs.Tree.{Nodes}
 use Rattle.trees.specs.Grammar.{MayHaveLength, no_length, a-length, MayHaveLabel, no_label, a-label, IsNode, is_leaf, is-inner, IsNodes, is_one, is-more, IsTree}

@@ -7,7 +7,7 @@
 --   length-valued             a length that has a value is in the exact range, and that is its value
 --   length-proper             the value of a length is finite and not minus zero
 --   length-fits               and it is a double
-use Rattle.std.specs.Prelude.{ℕ, zero, suc, ◌*◌, ◌^◌, ◌≤◌, ◌<◌, ◌≡◌, refl, Bool, true, false, not, ◌&&◌, List, T, leb, eqb, ℤ, pos, negsuc, Float}
+use Rattle.std.specs.Prelude.{ℕ, zero, suc, ◌*◌, ◌^◌, ◌≤◌, ◌<◌, ◌≡◌, refl, Bool, true, false, not, ◌&&◌, List, T, leb, eqb, ℤ, pos, negsuc, Float, if◌then◌else◌}
 use Rattle.std.proofs.Common.{zero-lt-suc, zero-mul, mul-one, mul-pos, mul-le-mul, mul-le-mul_left, mul-le-mul_right, le_trans, arith, sym, ap, ◌∙◌, ltb→lt, lit≤, pow_pos, le-leb, leb-true, ne_eqb}
 use Rattle.std.proofs.Math.Option.{Option, none, some}
 use Rattle.std.proofs.lemmas.Bool.{lt-leb}
@@ -17,7 +17,6 @@ use Rattle.std.specs.Float.Ieee.Exact.{HasValue}
 use Rattle.std.specs.Float.Ieee.Fits.{round-fits, neg-fits}
 use Rattle.std.specs.Float.Ieee.Scale.{round_same, finite}
 use Rattle.std.specs.Float.Ieee.Positive.{positive}
-use Rattle.trees.specs.Plain.{if◌then◌else◌}
 use Rattle.trees.specs.Value.{is_minus, joined_digits, power, inside, scaled, signed, measured, length_of, proper}
 use Rattle.theorems.specs.ListLaws.{and_left, and_right}
 use Rattle.theorems.specs.FloatLaws.{mul-exact, div-exact, round-finite, round-positive, whole-value, ten-pos, ten-most, ten-value}

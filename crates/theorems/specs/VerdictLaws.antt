@@ -6,12 +6,12 @@
 --   seven-exactly                        7 exactly when the text is no tree by the grammar
 --   judged-good                          the splits of a text are proper, rising, and agree in pairs
 --   refusal-numbers                      a text is refused with 7, 8, 9 or 10
-use Rattle.std.specs.Prelude.{ℕ, zero, suc, ◌+◌, ◌^◌, ◌≤◌, ◌≡◌, refl, ◌⊎◌, ◌↔◌, Bool, true, false, List, [], ◌∷◌, ◌++◌, eqb, length}
+use Rattle.std.specs.Prelude.{ℕ, zero, suc, ◌+◌, ◌^◌, ◌≤◌, ◌≡◌, refl, ◌⊎◌, ◌↔◌, Bool, true, false, List, [], ◌∷◌, ◌++◌, eqb, length, if◌then◌else◌}
 use Rattle.std.proofs.Common.{arith, add-zero, add_assoc, ap, sym, ◌∙◌, subst, inl, inr, ⊎_elim, append_assoc, append-nil}
 use Rattle.std.proofs.Math.Option.{Option, none, some}
 use Rattle.std.specs.Int.Bits.{bit_or}
 use Rattle.std.proofs.lemmas.Nat.{or_disjoint}
-use Rattle.trees.specs.Plain.{if◌then◌else◌, Answer, refused, gives}
+use Rattle.trees.specs.Plain.{Answer, refused, gives}
 use Rattle.trees.specs.Mask.{has, every_taxon}
 use Rattle.trees.specs.Tree.{Nodes, nil, leaf, inner, leaves}
 use Rattle.trees.specs.Grammar.{IsTree}

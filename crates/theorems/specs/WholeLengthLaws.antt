@@ -4,13 +4,13 @@
 --                     that is given is finite and not minus zero
 --   whole-lengths     so are the lengths of a whole collection
 --   run-lengths       and so from an accepted opening on, after every run
-use Rattle.std.specs.Prelude.{ℕ, zero, suc, ◌≡◌, refl, Bool, true, false, ◌&&◌, List, [], ◌∷◌, Float, get_or}
+use Rattle.std.specs.Prelude.{ℕ, zero, suc, ◌≡◌, refl, Bool, true, false, ◌&&◌, List, [], ◌∷◌, Float, get_or, if◌then◌else◌}
 use Rattle.std.proofs.Common.{arith, ap, sym, ◌∙◌, true≢false}
 use Rattle.std.proofs.Math.Option.{none, some}
 use Rattle.std.proofs.Math.Dec.{eqb}
 use Rattle.std.proofs.Math.ListN.{length}
 use borrow.Author.Tests.{eqb-true, eq-eqb, ne_eqb}
-use Rattle.trees.specs.Plain.{if◌then◌else◌, every, gives}
+use Rattle.trees.specs.Plain.{every, gives}
 use Rattle.trees.specs.Value.{Length, proper}
 use Rattle.trees.specs.Opening.{Numbers, Opening, opening}
 use Rattle.trees.specs.Held.{Held, opened}

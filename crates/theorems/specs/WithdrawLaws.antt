@@ -15,12 +15,12 @@
 --   thirteen-exactly                         13 exactly where there is none
 use Prim.Native.Nat.{ℕ, zero, suc, ◌≤◌, ◌<◌}
 use Rattle.std.proofs.Common.{arith, sym, ◌∙◌, subst, lt-ltb, le-ltb}
-use Rattle.std.specs.Prelude.{◌≡◌, ◌⊎◌, ◌↔◌, Bool, ltb, length, get_or}
+use Rattle.std.specs.Prelude.{◌≡◌, ◌⊎◌, ◌↔◌, Bool, ltb, length, get_or, if◌then◌else◌}
 use Rattle.std.proofs.Math.Path.{refl, ap}
 use Rattle.std.proofs.Math.Logic.{inl, inr}
 use Rattle.std.proofs.Math.Bool.{true, false}
 use mathlib.Core.List.{List, [], ◌∷◌, ◌++◌, map}
-use Rattle.trees.specs.Plain.{if◌then◌else◌, every, member, Answer, refused, gives}
+use Rattle.trees.specs.Plain.{every, member, Answer, refused, gives}
 use Rattle.trees.specs.Consensus.{recorded, count}
 use Rattle.trees.specs.Held.{Held}
 use Rattle.trees.specs.Withdrawing.{without_at, without_tree, Withdrawn, withdrawing}

@@ -21,11 +21,11 @@ use Rattle.std.proofs.Math.Nat.{mul-mod_right, mul-div_cancel_left}
 use Rattle.std.proofs.Common.{zero-lt-suc, arith, ◌∙◌, subst, inl, inr, le-ltb, lt-ltb, eq-eqb, ne_eqb}
 use Rattle.std.proofs.Math.Path.{◌≡◌, refl, ap, ap₂, sym}
 use Rattle.std.proofs.Math.Bool.{Bool, true, false}
-use Rattle.std.specs.Prelude.{◌||◌}
+use Rattle.std.specs.Prelude.{◌||◌, if◌then◌else◌}
 use mathlib.Core.List.{List, [], ◌∷◌, map}
 use Rattle.std.proofs.Math.Dec.{ltb, eqb}
 use Rattle.std.proofs.Math.ListN.{length, length-map}
-use Rattle.trees.specs.Plain.{if◌then◌else◌, member, Answer, refused, gives}
+use Rattle.trees.specs.Plain.{member, Answer, refused, gives}
 use Rattle.trees.specs.Mask.{proper}
 use Rattle.trees.specs.Consensus.{recorded, count}
 use Rattle.trees.specs.Held.{Held}

@@ -13,7 +13,7 @@
 --   written-before-end         so what is written, up to its end, is what is shown
 --   written-short              68 bytes for each of n taxa, less 3, are enough
 --   written-length             so at most 4,349 bytes are written
-use Rattle.std.specs.Prelude.{ℕ, zero, suc, ◌+◌, ◌*◌, ◌≤◌, ◌<◌, ◌≡◌, ◌⊎◌, true}
+use Rattle.std.specs.Prelude.{ℕ, zero, suc, ◌+◌, ◌*◌, ◌≤◌, ◌<◌, ◌≡◌, ◌⊎◌, true, if◌then◌else◌}
 use Rattle.std.proofs.Common.{arith, sym, ◌∙◌, subst, inl, inr, length-append, eq-eqb}
 use Rattle.std.proofs.Math.Path.{ap}
 use Rattle.std.proofs.Math.Bool.{false}
@@ -22,7 +22,7 @@ use Rattle.std.proofs.Math.Option.{none, some}
 use Rattle.std.specs.Int.Count.{ones}
 use Rattle.std.proofs.Math.Dec.{eqb}
 use Rattle.std.proofs.Math.ListN.{length, replicate}
-use Rattle.trees.specs.Plain.{if◌then◌else◌, byte, Answer, refused, gives}
+use Rattle.trees.specs.Plain.{byte, Answer, refused, gives}
 use Rattle.trees.specs.Text.{open_after, has_end, before_end}
 use Rattle.trees.specs.Mask.{every_taxon, side, proper}
 use Rattle.trees.specs.Tree.{Nodes, nil, inner, children, leaves, width}

@@ -15,7 +15,7 @@
 --   all_quotes            that name
 --   quotes_at ns          its place among the names
 --   other-shorter        of different names every other is written in 65 bytes at most
-use Rattle.std.specs.Prelude.{ℕ, ◌+◌, ◌*◌, ◌≤◌, ◌<◌, ◌≡◌, ◌⊎◌, Bool, false, leb, eqb, get_or, replicate}
+use Rattle.std.specs.Prelude.{ℕ, ◌+◌, ◌*◌, ◌≤◌, ◌<◌, ◌≡◌, ◌⊎◌, Bool, false, leb, eqb, get_or, replicate, if◌then◌else◌}
 use Rattle.std.proofs.Common.{arith, ap, ap₂, ◌∙◌, inl, inr, length-append}
 use Rattle.std.proofs.Math.Path.{refl, sym}
 use Rattle.std.proofs.Math.Bool.{true, not}
@@ -23,7 +23,7 @@ use mathlib.Core.List.{List, [], ◌∷◌, ◌++◌, map}
 use Rattle.std.proofs.Math.Option.{Option, none, some}
 use Rattle.std.proofs.Math.ListN.{length, length-map}
 use borrow.Author.Tests.{eqb-true, eqb-false, leb-true, le-leb, not-true}
-use Rattle.trees.specs.Plain.{if◌then◌else◌, every, member, bytes}
+use Rattle.trees.specs.Plain.{every, member, bytes}
 use Rattle.trees.specs.Text.{apostrophe, is_label_byte, is_quoted_byte, turned, open_after, has_end, is_quoted, is_label, spaced, unquoted, read_as}
 use Rattle.trees.specs.Names.{taxon_from, taxon_of, is_name, good_names}
 use Rattle.trees.specs.Written.{doubled, wants_quotes, underscored, written_name}

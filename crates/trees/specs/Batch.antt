@@ -9,8 +9,8 @@
 --   Batched               the verdicts, and what is held afterwards
 --   batching n h l p      feeding the piece p to lane l again and again, each time the rest: n texts, and what is behind them
 --   batch h l p room      the same as a call, with room for so many verdicts
-use Rattle.std.specs.Prelude.{ℕ, zero, suc, ◌+◌, Bool, List, [], ◌∷◌, ltb, length, drop}
-use Rattle.trees.specs.Plain.{if◌then◌else◌, every, keep, Answer, refused, gives}
+use Rattle.std.specs.Prelude.{ℕ, zero, suc, ◌+◌, Bool, List, [], ◌∷◌, ltb, length, drop, if◌then◌else◌}
+use Rattle.trees.specs.Plain.{every, keep, Answer, refused, gives}
 use Rattle.trees.specs.Text.{turned, ends_text}
 use Rattle.trees.specs.Held.{Held, Progress, more_wanted, accepted, lane_of, open_in, feeding}
 

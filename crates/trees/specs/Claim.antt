@@ -5,8 +5,8 @@
 --   ends_once t          the text t ends with its only semicolon outside quotes
 --   claimed_by h s       the answer to a text with the bytes s before its semicolon, but for their number
 --   claim_of h t         the answer to the text t, with its semicolon
-use Rattle.std.specs.Prelude.{ℕ, suc, Bool, false, List, [], ◌∷◌, ltb, eqb, length}
-use Rattle.trees.specs.Plain.{if◌then◌else◌, lacking, Answer, refused, gives}
+use Rattle.std.specs.Prelude.{ℕ, suc, Bool, false, List, [], ◌∷◌, ltb, eqb, length, if◌then◌else◌}
+use Rattle.trees.specs.Plain.{lacking, Answer, refused, gives}
 use Rattle.trees.specs.Text.{before_end}
 use Rattle.trees.specs.Verdict.{judged}
 use Rattle.trees.specs.Consensus.{majority}

@@ -2,9 +2,9 @@
 --
 --   digits_of n         the number n in decimal digits
 --   number_in most w    the number that the digits w are, unless it is above most; leading zeros are allowed
-use Rattle.std.specs.Prelude.{ℕ, zero, suc, ◌+◌, ◌/◌, ◌%◌, true, false, ◌&&◌, List, [], ◌∷◌, ◌++◌, leb, ltb}
+use Rattle.std.specs.Prelude.{ℕ, zero, suc, ◌+◌, ◌/◌, ◌%◌, true, false, ◌&&◌, List, [], ◌∷◌, ◌++◌, leb, ltb, if◌then◌else◌}
 use Rattle.std.proofs.Math.Option.{Option, none, some}
-use Rattle.trees.specs.Plain.{if◌then◌else◌, byte}
+use Rattle.trees.specs.Plain.{byte}
 use Rattle.trees.specs.Length.{is_digits}
 use Rattle.trees.specs.Value.{number_from}
 

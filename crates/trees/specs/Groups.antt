@@ -8,8 +8,8 @@
 --                        none has both
 --   group_of n i j ms     that mask; all taxa, where none has both
 --   stand_ins n i ms      all other taxa, those whose group with taxon i is larger first
-use Rattle.std.specs.Prelude.{ℕ, zero, suc, Bool, ◌&&◌, ◌||◌, not, List, [], ◌∷◌, ◌++◌, leb, eqb}
-use Rattle.trees.specs.Plain.{if◌then◌else◌, keep}
+use Rattle.std.specs.Prelude.{ℕ, zero, suc, Bool, ◌&&◌, ◌||◌, not, List, [], ◌∷◌, ◌++◌, leb, eqb, if◌then◌else◌}
+use Rattle.trees.specs.Plain.{keep}
 use Rattle.trees.specs.Mask.{has, ones_below, every_taxon}
 
 unfoldable pub up_to : ℕ → List ℕ

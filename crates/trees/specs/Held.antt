@@ -7,8 +7,8 @@
 --   verdict h l         the verdict on the text of the lane l: 6 to 12 and 17, or the splits and lengths of the tree that is accepted
 --   feeding h l p       feeding the piece p to lane l
 --   closing h l         closing lane l
-use Rattle.std.specs.Prelude.{ℕ, suc, ◌+◌, Bool, false, List, [], ◌∷◌, ◌++◌, ltb, eqb, length, get_or, set, replicate}
-use Rattle.trees.specs.Plain.{if◌then◌else◌, every, lacking, Answer, refused, gives}
+use Rattle.std.specs.Prelude.{ℕ, suc, ◌+◌, Bool, false, List, [], ◌∷◌, ◌++◌, ltb, eqb, length, get_or, set, replicate, if◌then◌else◌}
+use Rattle.trees.specs.Plain.{every, lacking, Answer, refused, gives}
 use Rattle.trees.specs.Text.{is_blank, open_after, has_end, before_end}
 use Rattle.trees.specs.Value.{Length}
 use Rattle.trees.specs.Verdict.{Branches, judged_with}

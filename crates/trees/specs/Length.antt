@@ -1,8 +1,8 @@
 -- Branch lengths: which tokens are one. Value.antt says what they are worth.
 --
 --   is_length w      the token w is a length
-use Rattle.std.specs.Prelude.{ℕ, Bool, true, false, ◌&&◌, ◌||◌, List, [], ◌∷◌, leb, eqb}
-use Rattle.trees.specs.Plain.{if◌then◌else◌, every, byte}
+use Rattle.std.specs.Prelude.{ℕ, Bool, true, false, ◌&&◌, ◌||◌, List, [], ◌∷◌, leb, eqb, if◌then◌else◌}
+use Rattle.trees.specs.Plain.{every, byte}
 
 -- 0 to 9
 unfoldable pub is_digit : ℕ → Bool

@@ -10,9 +10,8 @@
 --   side n m      the side without taxon 0 of the split that parts the taxa m from the others
 --   proper n m    m is the mask of a split that counts, of n taxa
 --   lowest m      the smallest taxon of m
-use Rattle.std.specs.Prelude.{ℕ, zero, suc, ◌-◌, ◌/◌, ◌%◌, ◌^◌, Bool, true, false, ◌&&◌, ◌||◌, leb, ltb, eqb}
+use Rattle.std.specs.Prelude.{ℕ, zero, suc, ◌-◌, ◌/◌, ◌%◌, ◌^◌, Bool, true, false, ◌&&◌, ◌||◌, leb, ltb, eqb, if◌then◌else◌}
 use Rattle.std.specs.Int.Bits.{bit_and}
-use Rattle.trees.specs.Plain.{if◌then◌else◌}
 
 -- "bit i set for each taxon i on the side"
 unfoldable pub has : ℕ → ℕ → Bool

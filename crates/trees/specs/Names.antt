@@ -6,9 +6,9 @@
 --   is_name w          a name, as it is read: 1 to 32 bytes
 --   different ws      no name comes twice
 --   good_names n ns    n different names
-use Rattle.std.specs.Prelude.{ℕ, suc, Bool, true, false, ◌&&◌, not, List, [], ◌∷◌, map, leb, eqb, length}
+use Rattle.std.specs.Prelude.{ℕ, suc, Bool, true, false, ◌&&◌, not, List, [], ◌∷◌, map, leb, eqb, length, if◌then◌else◌}
 use Rattle.std.proofs.Math.Option.{Option, none, some}
-use Rattle.trees.specs.Plain.{if◌then◌else◌, every, same_bytes, in_names, byte}
+use Rattle.trees.specs.Plain.{every, same_bytes, in_names, byte}
 use Rattle.trees.specs.Text.{is_quoted_byte, parts, is_label, read_as}
 
 -- the place of w in the names, of which the first is taxon k

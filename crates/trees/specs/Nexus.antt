@@ -21,9 +21,9 @@
 --   IsEnd c                   the command c ends the TREES block
 --   IsTrees cs x              the commands cs are the TREES block that gives x
 --   IsNexus f x               the bytes f are a NEXUS file that gives x
-use Rattle.std.specs.Prelude.{ℕ, ◌-◌, ◌≤◌, ◌≡◌, Bool, true, false, ◌&&◌, not, List, [], ◌∷◌, ◌++◌, map, leb, eqb, length}
+use Rattle.std.specs.Prelude.{ℕ, ◌-◌, ◌≤◌, ◌≡◌, Bool, true, false, ◌&&◌, not, List, [], ◌∷◌, ◌++◌, map, leb, eqb, length, if◌then◌else◌}
 use Prim.Native.String.{String}
-use Rattle.trees.specs.Plain.{if◌then◌else◌, every, same_bytes, bytes, byte}
+use Rattle.trees.specs.Plain.{every, same_bytes, bytes, byte}
 use Rattle.trees.specs.Text.{semicolon, is_blank, is_label_byte, turned, parts, is_label}
 
 -- ---- bytes

@@ -8,9 +8,9 @@
 --   handing h ts           the verdicts on the plain texts ts, one after another, and what is held afterwards
 --   handed_in h x room      what a file gives that is x, with room for so many verdicts: 16, 4, or the verdicts
 --   nexus h f room         the file f, with room for so many verdicts
-use Rattle.std.specs.Prelude.{ℕ, Bool, true, false, ◌&&◌, not, List, [], ◌∷◌, ◌++◌, map, ltb, length}
+use Rattle.std.specs.Prelude.{ℕ, Bool, true, false, ◌&&◌, not, List, [], ◌∷◌, ◌++◌, map, ltb, length, if◌then◌else◌}
 use Rattle.std.proofs.Math.Option.{none, some}
-use Rattle.trees.specs.Plain.{if◌then◌else◌, member, same_bytes, bytes, Answer, refused, gives}
+use Rattle.trees.specs.Plain.{member, same_bytes, bytes, Answer, refused, gives}
 use Rattle.trees.specs.Text.{is_blank, is_label_byte, turned}
 use Rattle.trees.specs.Names.{different}
 use Rattle.trees.specs.Verdict.{Branches}

@@ -15,9 +15,9 @@
 --   closes q e            what a file gives whose last bytes e stand at the place q
 --   reads q cs            what the commands cs give, from the place q on; the last of cs is what stands behind the last semicolon
 --   read_file f            what the file f gives, or nothing where it is malformed
-use Rattle.std.specs.Prelude.{ℕ, Bool, true, false, ◌&&◌, ◌||◌, not, List, [], ◌∷◌, ◌++◌, leb, eqb, length}
+use Rattle.std.specs.Prelude.{ℕ, Bool, true, false, ◌&&◌, ◌||◌, not, List, [], ◌∷◌, ◌++◌, leb, eqb, length, if◌then◌else◌}
 use Rattle.std.proofs.Math.Option.{Option, none, some}
-use Rattle.trees.specs.Plain.{if◌then◌else◌, every, byte}
+use Rattle.trees.specs.Plain.{every, byte}
 use Rattle.trees.specs.Text.{semicolon, apostrophe, is_blank, is_label_byte, turned, parts, is_label}
 use Rattle.trees.specs.Nexus.{run_of, behind_run, begins, uncommented, is_word, Pair, File, most_keys, is_name_byte}
 

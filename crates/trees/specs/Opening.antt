@@ -9,8 +9,8 @@
 --   sizing x           the answer of the call that tells it
 --   Opening            what an accepted opening fixes
 --   opening ..         the opening, or its refusal: 2, 3 or 4
-use Rattle.std.specs.Prelude.{ℕ, ◌+◌, ◌*◌, ◌^◌, Bool, ◌&&◌, List, leb, ltb, eqb, length}
-use Rattle.trees.specs.Plain.{if◌then◌else◌, every, Answer, refused, gives}
+use Rattle.std.specs.Prelude.{ℕ, ◌+◌, ◌*◌, ◌^◌, Bool, ◌&&◌, List, leb, ltb, eqb, length, if◌then◌else◌}
+use Rattle.trees.specs.Plain.{every, Answer, refused, gives}
 use Rattle.trees.specs.Names.{names_in, good_names}
 
 pub record Numbers : Type 0 where

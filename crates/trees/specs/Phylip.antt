@@ -10,10 +10,10 @@
 --   Square              a matrix that is read: how many trees, and the values, row by row
 --   square_in f          the matrix that the text f is, or nothing where it is malformed
 --   symmetric q         the matrix q is symmetric, and its diagonal zero
-use Rattle.std.specs.Prelude.{ℕ, zero, suc, ◌+◌, ◌-◌, ◌*◌, Bool, true, false, ◌&&◌, not, leb, eqb, length, take, drop, get_or, replicate}
+use Rattle.std.specs.Prelude.{ℕ, zero, suc, ◌+◌, ◌-◌, ◌*◌, Bool, true, false, ◌&&◌, not, leb, eqb, length, take, drop, get_or, replicate, if◌then◌else◌}
 use mathlib.Core.List.{List, [], ◌∷◌, ◌++◌, flat_map}
 use Rattle.std.proofs.Math.Option.{Option, none, some}
-use Rattle.trees.specs.Plain.{if◌then◌else◌, every, keep, bytes, byte}
+use Rattle.trees.specs.Plain.{every, keep, bytes, byte}
 use Rattle.trees.specs.Text.{with_byte}
 use Rattle.trees.specs.Decimal.{digits_of, number_in}
 

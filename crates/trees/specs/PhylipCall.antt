@@ -2,9 +2,9 @@
 --
 --   phylip_of h room          the doubled distances of the collection's trees, written
 --   read_phylip_of f room      the matrix that the text f is
-use Rattle.std.specs.Prelude.{ℕ, List, map, ltb, length}
+use Rattle.std.specs.Prelude.{ℕ, List, map, ltb, length, if◌then◌else◌}
 use Rattle.std.proofs.Math.Option.{none, some}
-use Rattle.trees.specs.Plain.{if◌then◌else◌, Answer, refused, gives}
+use Rattle.trees.specs.Plain.{Answer, refused, gives}
 use Rattle.trees.specs.Distance.{doubled}
 use Rattle.trees.specs.Held.{Held}
 use Rattle.trees.specs.Questions.{if_room}

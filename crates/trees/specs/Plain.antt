@@ -1,6 +1,5 @@
--- Plain words that the other files are written in: a choice, tests over lists, refusals.
+-- Plain words that the other files are written in, beside the library's choice `if b then x else y`: tests over lists, refusals.
 --
---   if b then x else y    x where the test b passes, y where it fails
 --   every p xs            every member of xs passes the test p
 --   keep p xs             the members of xs that pass, in their order; how many pass is its length
 --   member m xs           the number m is in the list xs
@@ -9,15 +8,10 @@
 --   in_names w ws          the run of bytes w is in the list ws
 --   bytes t, byte t       the bytes of a quoted text; the byte of a quoted character
 --   Answer A              a call's answer: refused with a number of the table, or what it gives
-use Rattle.std.specs.Prelude.{ℕ, Bool, true, false, ◌&&◌, ◌||◌, not, List, [], ◌∷◌, eqb}
+use Rattle.std.specs.Prelude.{ℕ, Bool, true, false, ◌&&◌, ◌||◌, not, List, [], ◌∷◌, eqb, if◌then◌else◌}
 use Prim.Native.String.{String}
 use Prim.Native.String as text
 use Prim.Native.Char.{code}
-
-infix 10 if◌then◌else◌
-abbrev pub if◌then◌else◌ : {A : Type 0} → Bool → A → A → A
-if◌then◌else◌ true x y = x
-if◌then◌else◌ false x y = y
 
 unfoldable pub every : {A : Type 0} → (A → Bool) → List A → Bool
 every p [] = true

@@ -12,9 +12,9 @@
 --   written_of               an accepted tree, written
 --   weighted_of              the weighted distance of two trees
 --   sums_of                  the shortest, longest and summed length of one recorded split
-use Rattle.std.specs.Prelude.{ℕ, ◌||◌, List, [], ◌∷◌, map, ltb, eqb, length, get_or, Float}
+use Rattle.std.specs.Prelude.{ℕ, ◌||◌, List, [], ◌∷◌, map, ltb, eqb, length, get_or, Float, if◌then◌else◌}
 use Rattle.std.proofs.Math.Option.{Option, none, some}
-use Rattle.trees.specs.Plain.{if◌then◌else◌, member, Answer, refused, gives}
+use Rattle.trees.specs.Plain.{member, Answer, refused, gives}
 use Rattle.trees.specs.Value.{Length}
 use Rattle.trees.specs.Distance.{one_sided, doubled, matrix}
 use Rattle.trees.specs.Consensus.{recorded, count, strict, majority}

@@ -4,9 +4,8 @@
 --   read_node f d ss   the node at the front of ss, with at most d brackets open at once; f is more than enough steps
 --   read_nodes f d ss  the nodes at the front of ss, with commas between
 --   reading s         the tree that the text s is, or nothing
-use Rattle.std.specs.Prelude.{ℕ, zero, suc, ◌*◌, List, [], ◌∷◌, leb, length}
+use Rattle.std.specs.Prelude.{ℕ, zero, suc, ◌*◌, List, [], ◌∷◌, leb, length, if◌then◌else◌}
 use Rattle.std.proofs.Math.Option.{Option, none, some}
-use Rattle.trees.specs.Plain.{if◌then◌else◌}
 use Rattle.trees.specs.Text.{Symbol, open_bracket, close_bracket, comma, colon, stray, token, symbols, symbols_after}
 use Rattle.trees.specs.Length.{is_length}
 use Rattle.trees.specs.Tree.{Nodes, leaf_with, inner_with, beside, width}

@@ -12,8 +12,8 @@
 --   whole_texts n cs      the calls cs on n lanes with every text fed whole: at its semicolon, or at its lane's closing
 --   on_lane g c           the call c, on lane g l in place of l
 --   on_one_lane n l        lane 0 for each of n lanes; a lane that does not exist stays
-use Rattle.std.specs.Prelude.{ℕ, suc, Bool, false, List, [], ◌∷◌, ◌++◌, ltb, length, get_or, set, replicate}
-use Rattle.trees.specs.Plain.{if◌then◌else◌, Answer, refused, gives}
+use Rattle.std.specs.Prelude.{ℕ, suc, Bool, false, List, [], ◌∷◌, ◌++◌, ltb, length, get_or, set, replicate, if◌then◌else◌}
+use Rattle.trees.specs.Plain.{Answer, refused, gives}
 use Rattle.trees.specs.Text.{semicolon, open_after, has_end, before_end}
 use Rattle.trees.specs.Held.{Held, Progress, more_wanted, accepted, finished, recording, feeding, closing}
 use Rattle.trees.specs.NexusCall.{on_text}

@@ -15,8 +15,8 @@
 --   merged a b            the records of two files together
 --   fits rs               no count and no number of trees passes 32 bits
 --   strict_in, majority_in  the masks of rs that are strict, and those that are in the majority
-use Rattle.std.specs.Prelude.{ℕ, zero, suc, ◌+◌, ◌*◌, ◌/◌, ◌%◌, ◌^◌, Bool, ◌&&◌, List, [], ◌∷◌, ◌++◌, map, leb, ltb, eqb, length, take, drop}
-use Rattle.trees.specs.Plain.{if◌then◌else◌, every, keep}
+use Rattle.std.specs.Prelude.{ℕ, zero, suc, ◌+◌, ◌*◌, ◌/◌, ◌%◌, ◌^◌, Bool, ◌&&◌, List, [], ◌∷◌, ◌++◌, map, leb, ltb, eqb, length, take, drop, if◌then◌else◌}
+use Rattle.trees.specs.Plain.{every, keep}
 use Rattle.trees.specs.Mask.{proper}
 use Rattle.trees.specs.Consensus.{recorded, count, insert_all}
 use Rattle.trees.specs.Whole.{rising}

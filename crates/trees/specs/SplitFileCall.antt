@@ -8,8 +8,8 @@
 --   chosen_tree ..            the tree of the splits that are chosen from a file, or its refusal: 14, 23 or 4
 --   strict_file_of h f room    the strict tree of the file f, written
 --   majority_file_of ..        its majority tree, written
-use Rattle.std.specs.Prelude.{ℕ, ◌/◌, ◌%◌, ◌||◌, List, map, ltb, eqb, length}
-use Rattle.trees.specs.Plain.{if◌then◌else◌, Answer, refused, gives}
+use Rattle.std.specs.Prelude.{ℕ, ◌/◌, ◌%◌, ◌||◌, List, map, ltb, eqb, length, if◌then◌else◌}
+use Rattle.trees.specs.Plain.{Answer, refused, gives}
 use Rattle.trees.specs.Written.{written}
 use Rattle.trees.specs.Held.{Held}
 use Rattle.trees.specs.Questions.{if_room}

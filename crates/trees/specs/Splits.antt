@@ -6,10 +6,9 @@
 --   insert m l        the rising list l with m, once
 --   counted n cs      the splits that count among the sides of the clusters cs, rising, once
 --   splits_of ns t     the splits of the tree t over the names ns
-use Rattle.std.specs.Prelude.{ℕ, ◌^◌, List, [], ◌∷◌, ◌++◌, ltb, eqb, length}
+use Rattle.std.specs.Prelude.{ℕ, ◌^◌, List, [], ◌∷◌, ◌++◌, ltb, eqb, length, if◌then◌else◌}
 use Rattle.std.proofs.Math.Option.{Option, none, some}
 use Rattle.std.specs.Int.Bits.{bit_or}
-use Rattle.trees.specs.Plain.{if◌then◌else◌}
 use Rattle.trees.specs.Mask.{side, proper}
 use Rattle.trees.specs.Tree.{Nodes, nil, leaf, inner, children}
 use Rattle.trees.specs.Names.{taxon_of}

@@ -5,10 +5,9 @@
 --   longest x xs      the longest of them
 --   added t xs        t with the lengths xs added to it, in their order
 --   Sums, sums xs     all three, of one length or more in tree order
-use Rattle.std.specs.Prelude.{false, List, [], ◌∷◌, pos, Float}
+use Rattle.std.specs.Prelude.{false, List, [], ◌∷◌, pos, Float, if◌then◌else◌}
 use Rattle.std.specs.Float.{fin, binary64}
 use Rattle.std.specs.Float.Ieee.{add, lt}
-use Rattle.trees.specs.Plain.{if◌then◌else◌}
 
 -- "zero is plus zero"
 abbrev pub plus_zero : Float

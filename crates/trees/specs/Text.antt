@@ -16,8 +16,8 @@
 --   Symbol            what a text is made of: a token, a bracket, a comma, a colon; or a stray one, which no tree has
 --   kind b            what the byte b is outside quotes
 --   symbols s         the symbols of the text s, blanks left out
-use Rattle.std.specs.Prelude.{ℕ, Bool, true, false, ◌&&◌, ◌||◌, not, List, [], ◌∷◌, ◌++◌, map, leb, eqb, length}
-use Rattle.trees.specs.Plain.{if◌then◌else◌, every, member, bytes, byte}
+use Rattle.std.specs.Prelude.{ℕ, Bool, true, false, ◌&&◌, ◌||◌, not, List, [], ◌∷◌, ◌++◌, map, leb, eqb, length, if◌then◌else◌}
+use Rattle.trees.specs.Plain.{every, member, bytes, byte}
 
 -- ---- bytes
 

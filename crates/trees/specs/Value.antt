@@ -10,11 +10,11 @@
 --   length_of w       the value of the length w; none outside the exact range
 --   proper x         the double x is finite and not minus zero
 --   Length           a length, or none
-use Rattle.std.specs.Prelude.{ℕ, suc, ◌+◌, ◌-◌, ◌*◌, ◌^◌, Bool, false, not, ◌&&◌, List, [], ◌∷◌, leb, eqb, ℤ, pos, negsuc, neg_ℤ, ◌-ℤ◌, Float, length}
+use Rattle.std.specs.Prelude.{ℕ, suc, ◌+◌, ◌-◌, ◌*◌, ◌^◌, Bool, false, not, ◌&&◌, List, [], ◌∷◌, leb, eqb, ℤ, pos, negsuc, neg_ℤ, ◌-ℤ◌, Float, length, if◌then◌else◌}
 use Rattle.std.proofs.Math.Option.{Option, none, some}
 use Rattle.std.specs.Float.{nan, inf, fin, binary64}
 use Rattle.std.specs.Float.Ieee.{round, neg}
-use Rattle.trees.specs.Plain.{if◌then◌else◌, byte}
+use Rattle.trees.specs.Plain.{byte}
 use Rattle.trees.specs.Length.{is_point, unsigned, without_point, before_e, from_e}
 
 -- the number n with the digits w written behind it

@@ -5,9 +5,9 @@
 --   judged ns s            the verdict on the text s
 --   Branches               a tree that was judged: its splits and, where lengths are kept, their lengths in the same order
 --   judged_with k ns s      the verdict on the text s, 17 too where lengths are kept (k is 1)
-use Rattle.std.specs.Prelude.{ℕ, zero, suc, ◌+◌, ◌^◌, List, [], ◌∷◌, eqb, length}
+use Rattle.std.specs.Prelude.{ℕ, zero, suc, ◌+◌, ◌^◌, List, [], ◌∷◌, eqb, length, if◌then◌else◌}
 use Rattle.std.proofs.Math.Option.{none, some}
-use Rattle.trees.specs.Plain.{if◌then◌else◌, Answer, refused, gives}
+use Rattle.trees.specs.Plain.{Answer, refused, gives}
 use Rattle.trees.specs.Mask.{has, every_taxon}
 use Rattle.trees.specs.Tree.{Nodes, leaves}
 use Rattle.trees.specs.Reading.{reading}

@@ -5,10 +5,9 @@
 --   gap x y                   the size of the difference of x and y
 --   gap_at av xs bv ys m       that of the lengths that the two trees have for the split m
 --   weighted av xs bv ys      the weighted distance
-use Rattle.std.specs.Prelude.{ℕ, List, [], ◌∷◌, map, eqb, Float}
+use Rattle.std.specs.Prelude.{ℕ, List, [], ◌∷◌, map, eqb, Float, if◌then◌else◌}
 use Rattle.std.specs.Float.{binary64}
 use Rattle.std.specs.Float.Ieee.{sub, lt}
-use Rattle.trees.specs.Plain.{if◌then◌else◌}
 use Rattle.trees.specs.Consensus.{recorded}
 use Rattle.trees.specs.Sums.{plus_zero, added}
 

@@ -9,9 +9,9 @@
 --   good_lengths ..     so they are for each of the trees
 --   good_lane l         a lane's text has a length in range
 --   good_opening o      numbers, constants and names pass the opening checks
-use Rattle.std.specs.Prelude.{ℕ, Bool, true, false, ◌&&◌, List, [], ◌∷◌, leb, ltb, eqb, length}
+use Rattle.std.specs.Prelude.{ℕ, Bool, true, false, ◌&&◌, List, [], ◌∷◌, leb, ltb, eqb, length, if◌then◌else◌}
 use Rattle.std.proofs.Math.Option.{none, some}
-use Rattle.trees.specs.Plain.{if◌then◌else◌, every}
+use Rattle.trees.specs.Plain.{every}
 use Rattle.trees.specs.Mask.{agree, proper}
 use Rattle.trees.specs.Names.{good_names}
 use Rattle.trees.specs.Value.{Length, proper as proper_double}

@@ -4,8 +4,8 @@
 --   without_tree h k      what is held without tree k
 --   Withdrawn            what withdrawing answers, and what is held afterwards
 --   withdrawing h k      withdrawing tree k
-use Rattle.std.specs.Prelude.{ℕ, zero, suc, List, [], ◌∷◌, ltb, length}
-use Rattle.trees.specs.Plain.{if◌then◌else◌, Answer, refused, gives}
+use Rattle.std.specs.Prelude.{ℕ, zero, suc, List, [], ◌∷◌, ltb, length, if◌then◌else◌}
+use Rattle.trees.specs.Plain.{Answer, refused, gives}
 use Rattle.trees.specs.Held.{Held}
 
 -- "trees after it move down by one number"

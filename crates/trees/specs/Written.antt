@@ -7,9 +7,9 @@
 --   tree_of ns s      the tree that has exactly the splits s
 --   shown t          its bytes
 --   written ns s     and a semicolon
-use Rattle.std.specs.Prelude.{ℕ, zero, suc, ◌+◌, ◌^◌, Bool, true, false, ◌&&◌, not, List, [], ◌∷◌, ◌++◌, map, ltb, eqb, length, get_or}
+use Rattle.std.specs.Prelude.{ℕ, zero, suc, ◌+◌, ◌^◌, Bool, true, false, ◌&&◌, not, List, [], ◌∷◌, ◌++◌, map, ltb, eqb, length, get_or, if◌then◌else◌}
 use Rattle.std.proofs.Math.Option.{none}
-use Rattle.trees.specs.Plain.{if◌then◌else◌, every, member, bytes, byte}
+use Rattle.trees.specs.Plain.{every, member, bytes, byte}
 use Rattle.trees.specs.Text.{semicolon, apostrophe}
 use Rattle.trees.specs.Mask.{has, every_taxon, without, lowest}
 use Rattle.trees.specs.Tree.{Nodes, nil, leaf, inner}

@@ -5,9 +5,8 @@
 // lists of masks goes on.
 #![tactic(auto)]
 
-ghost use Rattle.std.specs.Prelude.{◌≡◌, true, [], ◌∷◌, ◌+◌, ◌≤◌, ◌<◌, length};
+ghost use Rattle.std.specs.Prelude.{◌≡◌, true, [], ◌∷◌, ◌+◌, ◌≤◌, ◌<◌, length, if◌then◌else◌};
 ghost use Rattle.std.specs.Float.Ieee.{lt};
-ghost use Rattle.trees.specs.Plain.{if◌then◌else◌};
 ghost use Rattle.trees.specs.Whole.{rising};
 ghost use Rattle.trees.specs.Sums.{sums};
 ghost use Rattle.trees.specs.Weighted.{gap as gap_of, weighted as weighted_of};

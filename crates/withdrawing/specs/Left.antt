@@ -9,8 +9,8 @@
 --   new_entry p e        what the entry e becomes
 --   without_rows p       the parts p without the rows that do not stay
 --   Turned s p t        the lent bytes t have the parts p; the opening, the lanes and what lies behind the store are as in s
-use Rattle.std.specs.Prelude.{ℕ, zero, suc, ◌-◌, Bool, List, [], ◌∷◌, ◌++◌, map, ltb, length, get_or}
-use Rattle.trees.specs.Plain.{if◌then◌else◌, keep, member}
+use Rattle.std.specs.Prelude.{ℕ, zero, suc, ◌-◌, Bool, List, [], ◌∷◌, ◌++◌, map, ltb, length, get_or, if◌then◌else◌}
+use Rattle.trees.specs.Plain.{keep, member}
 use Rattle.trees.specs.Withdrawing.{without_at}
 use Rattle.head.specs.Head.{up_to}
 use Rattle.layout.specs.Store.{Parts, splits_in, mask_in, identifier_in, count_in, link_in, list_in}

@@ -3,8 +3,8 @@
 --   CountedLess s k t      the bytes t are s, but each split of tree k counts one less
 --   lengths_moved n k m s   the bytes s, with the lengths of the m trees behind tree k moved down by one number, where lengths are kept
 --   TreesMoved s k t       the bytes t are s, but the trees behind tree k, and their lengths, have moved down by one number
-use Rattle.std.specs.Prelude.{ℕ, suc, ◌+◌, ◌-◌, ◌*◌, ◌≤◌, ◌<◌, ◌≡◌, ◌⊎◌, List, eqb, length, get_or}
-use Rattle.trees.specs.Plain.{if◌then◌else◌, member}
+use Rattle.std.specs.Prelude.{ℕ, suc, ◌+◌, ◌-◌, ◌*◌, ◌≤◌, ◌<◌, ◌≡◌, ◌⊎◌, List, eqb, length, get_or, if◌then◌else◌}
+use Rattle.trees.specs.Plain.{member}
 use Rattle.trees.specs.Opening.{Numbers, tree_bytes, branch_bytes}
 use Rattle.fields.specs.Field.{number}
 use Rattle.fields.specs.Run.{copied}

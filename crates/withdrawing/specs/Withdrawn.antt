@@ -4,8 +4,8 @@
 --   withdrawn_of s k         what withdrawing gives
 --   SameFront s t           the lent bytes t are as in s before the trees, but for how many trees and splits there are
 --   WithdrawnAs s k r t     withdrawing answers r and leaves t
-use Rattle.std.specs.Prelude.{ℕ, ◌≤◌, ◌<◌, ◌≡◌, ◌⊎◌, Bool, true, false, ◌&&◌, List, ltb, get_or}
-use Rattle.trees.specs.Plain.{if◌then◌else◌, refused}
+use Rattle.std.specs.Prelude.{ℕ, ◌≤◌, ◌<◌, ◌≡◌, ◌⊎◌, Bool, true, false, ◌&&◌, List, ltb, get_or, if◌then◌else◌}
+use Rattle.trees.specs.Plain.{refused}
 use Rattle.trees.specs.Withdrawing.{Withdrawn, withdrawing}
 use Rattle.answers.specs.declared.Finish.{Finish}
 use Rattle.answers.specs.Answers.{finish_given}

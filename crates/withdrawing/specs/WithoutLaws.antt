@@ -7,8 +7,8 @@
 --   count_less                       the count of a split, with the list that is not there
 use Prim.Native.Nat.{ℕ, suc, ◌+◌, ◌≤◌, ◌<◌}
 use Rattle.std.proofs.Common.{arith, sym, ap, ◌∙◌, inl, inr, lt-ltb, le-ltb}
-use Rattle.std.specs.Prelude.{◌≡◌, ◌⊎◌, List, [], ltb, length, get_or}
-use Rattle.trees.specs.Plain.{if◌then◌else◌, member}
+use Rattle.std.specs.Prelude.{◌≡◌, ◌⊎◌, List, [], ltb, length, get_or, if◌then◌else◌}
+use Rattle.trees.specs.Plain.{member}
 use Rattle.trees.specs.Consensus.{count}
 use Rattle.trees.specs.Withdrawing.{without_at}
 use Rattle.theorems.specs.ListLaws.{less-or-not, by-test, if-true, if-false}

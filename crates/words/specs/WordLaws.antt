@@ -1,7 +1,7 @@
 -- Reading decimal digits one after another.
 --
 --   DecimalRead     what is read of the digits from b up to e, when i has been reached
-use Rattle.std.specs.Prelude.{ℕ, suc, ◌+◌, ◌-◌, ◌*◌, ◌^◌, ◌≤◌, ◌<◌, ◌≡◌, refl, Bool, true, false, ◌&&◌, not, List, ◌∷◌, leb, ltb, length}
+use Rattle.std.specs.Prelude.{ℕ, suc, ◌+◌, ◌-◌, ◌*◌, ◌^◌, ◌≤◌, ◌<◌, ◌≡◌, refl, Bool, true, false, ◌&&◌, not, List, ◌∷◌, leb, ltb, length, if◌then◌else◌}
 use native.Mathlib.Omega.{arith}
 use Rattle.std.proofs.Common.{add-one, ap₂, ◌∙◌, le-leb, ltb-true}
 use Rattle.std.proofs.Math.Path.{ap, sym}
@@ -9,7 +9,6 @@ use Rattle.std.proofs.Math.Option.{none}
 use Rattle.std.proofs.Math.ListN.{get_or}
 use Rattle.std.proofs.Math.Seq.{slice, slice_empty, slice-cons}
 use Rattle.std.proofs.lemmas.Bool.{lt-leb, not-true, not-false}
-use Rattle.trees.specs.Plain.{if◌then◌else◌}
 use Rattle.trees.specs.Length.{is_digit}
 use Rattle.theorems.specs.ListLaws.{if-true, if-false}
 use Rattle.words.specs.Words.{decimal_from, decimal_of}

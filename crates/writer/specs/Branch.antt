@@ -8,8 +8,7 @@
 --                            lies within them or away from them
 --   Child n ns s i x         so it can with the child of i and x
 --   Step n ns s m r i x      that child is the first of the branches of m that have the taxa r
-use Rattle.std.specs.Prelude.{ℕ, suc, ◌+◌, ◌^◌, ◌<◌, ◌≡◌, true, List, [], ◌∷◌, ◌++◌, eqb}
-use Rattle.trees.specs.Plain.{if◌then◌else◌}
+use Rattle.std.specs.Prelude.{ℕ, suc, ◌+◌, ◌^◌, ◌<◌, ◌≡◌, true, List, [], ◌∷◌, ◌++◌, eqb, if◌then◌else◌}
 use Rattle.trees.specs.Mask.{every_taxon, lowest}
 use Rattle.trees.specs.Tree.{Nodes}
 use Rattle.trees.specs.Names.{good_names}

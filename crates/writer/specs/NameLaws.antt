@@ -7,13 +7,13 @@
 --   doubled-other, doubled-quote           one byte in quotes
 --   doubled-more, doubled-end              a name in quotes, a byte at a time
 --   plain_more, plain-not, plain_end       whether a name is plain, a byte at a time
-use Rattle.std.specs.Prelude.{ℕ, suc, ◌+◌, ◌-◌, ◌*◌, ◌≤◌, ◌<◌, ◌≡◌, refl, Bool, true, false, ◌&&◌, List, [], ◌∷◌, ◌++◌, map, eqb, length, get_or, set}
+use Rattle.std.specs.Prelude.{ℕ, suc, ◌+◌, ◌-◌, ◌*◌, ◌≤◌, ◌<◌, ◌≡◌, refl, Bool, true, false, ◌&&◌, List, [], ◌∷◌, ◌++◌, map, eqb, length, get_or, set, if◌then◌else◌}
 use Rattle.std.proofs.Common.{add-one, arith, ◌∙◌}
 use Rattle.std.proofs.Math.Path.{ap, sym}
 use Rattle.std.proofs.Math.Bool.{not}
 use Rattle.std.proofs.Math.Seq.{slice, slice-cons, slice_empty}
 use borrow.Author.Tests.{eq-eqb, ne_eqb}
-use Rattle.trees.specs.Plain.{if◌then◌else◌, every, member, bytes}
+use Rattle.trees.specs.Plain.{every, member, bytes}
 use Rattle.trees.specs.Text.{apostrophe}
 use Rattle.trees.specs.Written.{doubled, wants_quotes, underscored, written_name}
 use Rattle.theorems.specs.ListLaws.{if-true, if-false, Mem, mem-member}
