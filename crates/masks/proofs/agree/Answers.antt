@@ -19,8 +19,8 @@ pub returns-then-first_within_second : goal.returns-then-first_within_second
 returns-then-first_within_second c =
     let e = first_two c.are_apart-no_common_bit.result c.is_within-first_within_second.result _
     (elim c.if-no_common_bit.branch [
-    then-no_common_bit w ↦ inl (w.if-no_common_bit.true, w.t-7-is)
-    | else-no_common_bit w ↦ inr (w.if-no_common_bit.false, w.t-7-is)
+      | then-no_common_bit w ↦ inl (w.if-no_common_bit.true, w.t-7-is)
+      | else-no_common_bit w ↦ inr (w.if-no_common_bit.false, w.t-7-is)
     ]) in
     let f = clauses _ _ _ _ _ _ c.are_apart-no_common_bit.ensures c.is_within-first_within_second.ensures c.is_within-second_within_first.ensures e in
     let x = c.are_apart-no_common_bit.result in
@@ -32,8 +32,8 @@ pub returns-else-first_within_second : goal.returns-else-first_within_second
 returns-else-first_within_second d =
     let e = first_two d.are_apart-no_common_bit.result d.is_within-first_within_second.result _
     (elim d.if-no_common_bit.branch [
-    then-no_common_bit v ↦ inl (v.if-no_common_bit.true, v.t-7-is)
-    | else-no_common_bit v ↦ inr (v.if-no_common_bit.false, v.t-7-is)
+      | then-no_common_bit v ↦ inl (v.if-no_common_bit.true, v.t-7-is)
+      | else-no_common_bit v ↦ inr (v.if-no_common_bit.false, v.t-7-is)
     ]) in
     let f = clauses _ _ _ _ _ _ d.are_apart-no_common_bit.ensures d.is_within-first_within_second.ensures d.is_within-second_within_first.ensures e in
     let x = d.are_apart-no_common_bit.result in
