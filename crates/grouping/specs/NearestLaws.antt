@@ -71,6 +71,7 @@ place-first i j (m ∷ ms) h = go (has_both i j m) refl h (place-first i j ms)
 
 place_none : (i j : ℕ) (ms : List ℕ) → length ms ≤ place_of i j ms → (x : ℕ) → Mem x ms → Both i j x → ⊥
 unfolding place_of
+place_none i j [] h x k b = elim k [ ]
 place_none i j (m ∷ ms) h x k b = go (has_both i j m) refl h k (place_none i j ms)
   where
     go : (t : Bool) → has_both i j m ≡ t → suc (length ms) ≤ (if t then 0 else suc (place_of i j ms)) → (x ≡ m) ⊎ Mem x ms

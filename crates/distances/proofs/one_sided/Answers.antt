@@ -1,5 +1,5 @@
 -- `distances::one_sided` meets its contract. Assumes nothing.
-use Rattle.std.proofs.Common.{arith, rules}
+use Rattle.std.proofs.Common.{arith}
 use Rattle.distances.specs.Marks.{no_marks, marks_of}
 use Rattle.distances.proofs.one_sided.Goals as goal
 

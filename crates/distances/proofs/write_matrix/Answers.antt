@@ -1,5 +1,5 @@
 -- `distances::write_matrix` meets its contract. Assumes nothing.
-use Rattle.std.proofs.Common.{ℕ, arith, rules}
+use Rattle.std.proofs.Common.{ℕ, arith}
 use lib.ListN.{length-replicate}
 use Rattle.distances.specs.WholeTreeLaws.{head_at}
 use Rattle.distances.proofs.write_matrix.Goals as goal

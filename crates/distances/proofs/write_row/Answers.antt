@@ -1,7 +1,6 @@
-use Rattle.std.proofs.Common.{◌≡◌, ◌-◌, ◌≤◌, ◌++◌, map, take, drop, sym, refl, ◌∙◌, arith}
-use Rattle.trees.specs.Distance.{doubled}
+use Rattle.std.proofs.Common.{◌≡◌, sym, refl, ◌∙◌, arith}
 use Rattle.answers.specs.FrontLaws.{copied-length, copied_more, copied_all}
-use Rattle.layout.specs.Store.{trees_held_at, list_at, tree_at, held_at}
+use Rattle.layout.specs.Store.{trees_held_at}
 use Rattle.distances.specs.Marks.{no_marks, marks_of}
 use Rattle.distances.specs.MarkLaws.{none-length}
 use Rattle.distances.specs.RowLaws.{row-length, row-entry}

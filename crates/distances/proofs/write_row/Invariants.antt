@@ -1,12 +1,8 @@
 -- `distances::write_row` meets its contract. The loop's invariant: the first j distances are written. Assumes nothing.
-use Rattle.std.proofs.Common.{◌≡◌, ◌-◌, ◌≤◌, ◌++◌, map, take, drop, sym, refl, ◌∙◌, arith}
+use Rattle.std.proofs.Common.{◌≡◌, ◌-◌, ◌≤◌, ◌++◌, map, take, drop}
 use Rattle.trees.specs.Distance.{doubled}
-use Rattle.answers.specs.FrontLaws.{copied-length, copied_more, copied_all}
 use Rattle.layout.specs.Store.{trees_held_at, list_at, tree_at, held_at}
-use Rattle.distances.specs.Marks.{no_marks, marks_of}
-use Rattle.distances.specs.MarkLaws.{none-length}
-use Rattle.distances.specs.RowLaws.{row-length, row-entry}
-use Rattle.distances.specs.WholeTreeLaws.{head_at}
+use Rattle.distances.specs.Marks.{marks_of}
 use Rattle.distances.proofs.write_row.Given as goal
 
 abbrev pub invariant-loop-j : goal.invariant-loop-j

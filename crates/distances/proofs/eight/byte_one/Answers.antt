@@ -1,5 +1,4 @@
 -- `distances::eight::byte_one` meets its contract. Assumes nothing.
-use Rattle.std.proofs.Common.{rules}
 use Rattle.distances.specs.EightLaws.{one_shifted}
 use Rattle.distances.proofs.eight.byte_one.Goals as goal
 

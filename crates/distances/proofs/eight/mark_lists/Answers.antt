@@ -1,6 +1,5 @@
-use Rattle.std.proofs.Common.{◌≡◌, ◌+◌, ◌-◌, ◌<◌, ◌≤◌, sym, subst, arith}
+use Rattle.std.proofs.Common.{◌≡◌, ◌+◌, ◌<◌, sym, subst, arith}
 use Rattle.distances.specs.Short.{Rows}
-use Rattle.distances.specs.Eight.{Words}
 use Rattle.distances.specs.EightLaws.{words_more}
 use Rattle.distances.proofs.eight.mark_lists.Goals as goal
 

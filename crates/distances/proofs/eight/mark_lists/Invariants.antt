@@ -1,8 +1,6 @@
 -- `distances::eight::mark_lists` meets its contract. The loop's invariant: the words are those of the first b lists. Assumes nothing.
-use Rattle.std.proofs.Common.{◌≡◌, ◌+◌, ◌-◌, ◌<◌, ◌≤◌, sym, subst, arith}
-use Rattle.distances.specs.Short.{Rows}
+use Rattle.std.proofs.Common.{◌-◌, ◌≤◌}
 use Rattle.distances.specs.Eight.{Words}
-use Rattle.distances.specs.EightLaws.{words_more}
 use Rattle.distances.proofs.eight.mark_lists.Given as goal
 
 abbrev pub invariant-loop-b : goal.invariant-loop-b

@@ -1,7 +1,5 @@
-use Rattle.std.proofs.Common.{◌≡◌, ◌-◌, ◌<◌, ◌≤◌, length, drop, sym, refl, ◌∙◌, arith, length-set, rules}
-use Rattle.trees.specs.Opening.{most_room}
+use Rattle.std.proofs.Common.{◌<◌, length, sym, refl, ◌∙◌, arith, length-set}
 use Rattle.theorems.specs.ListLaws.{mem-get_d}
-use Rattle.distances.specs.Eight.{added}
 use Rattle.distances.specs.EightLaws.{added_more, added-end}
 use Rattle.distances.proofs.eight.mark_words.Goals as goal
 

@@ -1,9 +1,7 @@
 -- `distances::eight::mark_words` meets its contract. The loop's invariant: with the rows from j on added too, all are. Assumes nothing.
-use Rattle.std.proofs.Common.{◌≡◌, ◌-◌, ◌<◌, ◌≤◌, length, drop, sym, refl, ◌∙◌, arith, length-set, rules}
+use Rattle.std.proofs.Common.{◌≡◌, ◌-◌, ◌≤◌, length, drop}
 use Rattle.trees.specs.Opening.{most_room}
-use Rattle.theorems.specs.ListLaws.{mem-get_d}
 use Rattle.distances.specs.Eight.{added}
-use Rattle.distances.specs.EightLaws.{added_more, added-end}
 use Rattle.distances.proofs.eight.mark_words.Given as goal
 
 abbrev pub invariant-loop-j : goal.invariant-loop-j

@@ -1,5 +1,5 @@
-use Rattle.std.proofs.Common.{◌≡◌, ℕ, ◌+◌, ◌-◌, ◌*◌, ◌%◌, ◌≤◌, length, get_or, sym, ap, ◌∙◌, zero-add, arith}
-use Rattle.distances.specs.Eight.{byte_at, Column}
+use Rattle.std.proofs.Common.{◌≡◌, ℕ, ◌+◌, ◌-◌, ◌*◌, ◌%◌, get_or, sym, ap, ◌∙◌, zero-add, arith}
+use Rattle.distances.specs.Eight.{byte_at}
 use Rattle.distances.specs.EightLaws.{column-none, column-more, bytes_next, byte-first}
 use Rattle.distances.proofs.eight.put_column.Goals as goal
 

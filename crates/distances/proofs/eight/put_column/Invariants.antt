@@ -1,8 +1,7 @@
 -- `distances::eight::put_column` meets its contract. The loop's invariant: the first b places are put, and `rest` has the bytes from b on.
 -- Assumes nothing.
-use Rattle.std.proofs.Common.{◌≡◌, ℕ, ◌+◌, ◌-◌, ◌*◌, ◌%◌, ◌≤◌, length, get_or, sym, ap, ◌∙◌, zero-add, arith}
+use Rattle.std.proofs.Common.{◌≡◌, ℕ, ◌+◌, ◌-◌, ◌≤◌, length}
 use Rattle.distances.specs.Eight.{byte_at, Column}
-use Rattle.distances.specs.EightLaws.{column-none, column-more, bytes_next, byte-first}
 use Rattle.distances.proofs.eight.put_column.Given as goal
 
 abbrev pub invariant-loop-b : goal.invariant-loop-b

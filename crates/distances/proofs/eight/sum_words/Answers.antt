@@ -1,6 +1,5 @@
-use Rattle.std.proofs.Common.{◌≡◌, ◌+◌, ◌-◌, ◌*◌, ◌<◌, ◌≤◌, length, drop, arith, rules}
+use Rattle.std.proofs.Common.{◌<◌, length, arith}
 use Rattle.theorems.specs.ListLaws.{mem-get_d}
-use Rattle.distances.specs.Marks.{mark_sum}
 use Rattle.distances.specs.MarkLaws.{sum_more, sum-end}
 use Rattle.distances.proofs.eight.sum_words.Goals as goal
 
@@ -21,15 +20,15 @@ bounds-words-k c =
 pub overflow_add-sum : goal.overflow_add-sum
 overflow_add-sum c =
     let l = c.loop-j in
+    let h : l.j < length c.args.rows.now = omega arith in
     omega (
       arith,
       l.invariant.1,
       c.requires.rows.few,
       c.requires.small_words.small c.wide-k.result (omega (
         arith,
-        (let l = c.loop-j in
-            let h : l.j < length c.args.rows.now = omega arith in
-            omega (arith, c.requires.rows.below _ (mem-get_d c.args.rows.now l.j h), c.wide-k.ensures.0, c.requires.small_words.room)),
+        c.requires.rows.below _ (mem-get_d c.args.rows.now l.j h),
+        c.wide-k.ensures.0,
         c.requires.small_words.room,
       )),
     )
@@ -37,12 +36,12 @@ overflow_add-sum c =
 pub loop-j-preserved : goal.loop-j-preserved
 loop-j-preserved c =
     let l = c.loop-j in
+    let h : l.j < length c.args.rows.now = omega arith in
     let q = sum_more c.args.words.now c.args.rows.now l.j _ (omega arith) c.wide-k.ensures.0 in
     let w = c.requires.small_words.small c.wide-k.result (omega (
       arith,
-      (let l = c.loop-j in
-          let h : l.j < length c.args.rows.now = omega arith in
-          omega (arith, c.requires.rows.below _ (mem-get_d c.args.rows.now l.j h), c.wide-k.ensures.0, c.requires.small_words.room)),
+      c.requires.rows.below _ (mem-get_d c.args.rows.now l.j h),
+      c.wide-k.ensures.0,
       c.requires.small_words.room,
     )) in
     (omega arith, omega (arith, w, l.invariant.1), omega (arith, l.invariant.2, q))

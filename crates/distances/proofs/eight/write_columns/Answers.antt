@@ -1,7 +1,6 @@
-use Rattle.std.proofs.Common.{◌≡◌, ◌-◌, ◌<◌, ◌≤◌, sym, ap, ◌∙◌, subst, arith}
+use Rattle.std.proofs.Common.{◌≡◌, ◌<◌, sym, ap, ◌∙◌, subst, arith}
 use Rattle.distances.specs.Marks.{mark_sum}
 use Rattle.distances.specs.Short.{Rows}
-use Rattle.distances.specs.Eight.{Columns}
 use Rattle.distances.specs.EightLaws.{words_small, words-sum, column_fits, columns-none, columns-more}
 use Rattle.distances.proofs.eight.write_columns.Goals as goal
 

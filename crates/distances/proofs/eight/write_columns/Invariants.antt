@@ -1,9 +1,6 @@
 -- `distances::eight::write_columns` meets its contract. The loop's invariant: the columns below j are put. Assumes nothing.
-use Rattle.std.proofs.Common.{◌≡◌, ◌-◌, ◌<◌, ◌≤◌, sym, ap, ◌∙◌, subst, arith}
-use Rattle.distances.specs.Marks.{mark_sum}
-use Rattle.distances.specs.Short.{Rows}
+use Rattle.std.proofs.Common.{◌-◌, ◌≤◌}
 use Rattle.distances.specs.Eight.{Columns}
-use Rattle.distances.specs.EightLaws.{words_small, words-sum, column_fits, columns-none, columns-more}
 use Rattle.distances.proofs.eight.write_columns.Given as goal
 
 abbrev pub invariant-loop-j : goal.invariant-loop-j

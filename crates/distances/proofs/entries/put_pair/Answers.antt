@@ -1,5 +1,5 @@
 -- `distances::entries::put_pair` meets its contract. Assumes nothing.
-use Rattle.std.proofs.Common.{ℕ, set, ap₂, arith, length-set, rules}
+use Rattle.std.proofs.Common.{ℕ, set, ap₂, arith, length-set}
 use Rattle.distances.proofs.entries.put_pair.Goals as goal
 
 pub bounds-out-there : goal.bounds-out-there

@@ -1,9 +1,8 @@
-use Rattle.std.proofs.Common.{◌≡◌, ◌-◌, ◌*◌, ◌<◌, length, drop, sym, refl, ap, ◌∙◌, subst, arith}
+use Rattle.std.proofs.Common.{◌<◌, length, sym, refl, ap, ◌∙◌, subst, arith}
 use Rattle.layout.specs.Store.{trees_held_at}
 use Rattle.layout.specs.InsideLaws.{trees-few}
 use Rattle.distances.specs.Marks.{marked, no_marks}
 use Rattle.distances.specs.MarkLaws.{none-length, marks-made, marks_of-length, marks-gone}
-use Rattle.distances.specs.Entries.{Filled}
 use Rattle.distances.specs.EntryLaws.{filled_none, filled-all}
 use Rattle.distances.specs.Short.{Rows}
 use Rattle.distances.specs.ShortLaws.{short-rows, size_few}

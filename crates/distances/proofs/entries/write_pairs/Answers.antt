@@ -1,8 +1,7 @@
-use Rattle.std.proofs.Common.{◌≡◌, ◌-◌, ◌*◌, ◌<◌, ◌≤◌, length, drop, sym, refl, ap, ◌∙◌, subst, ap₂, arith}
+use Rattle.std.proofs.Common.{◌*◌, ◌<◌, sym, refl, ap, ◌∙◌, subst, ap₂, arith}
 use Rattle.trees.specs.Distance.{doubled}
 use Rattle.layout.specs.Store.{trees_held_at}
 use Rattle.layout.specs.InsideLaws.{trees-few}
-use Rattle.distances.specs.Entries.{Filled}
 use Rattle.distances.specs.EntryLaws.{filled_row, pair-more}
 use Rattle.distances.specs.Short.{Rows}
 use Rattle.distances.specs.ShortLaws.{short-rows, short-doubled, size_few}

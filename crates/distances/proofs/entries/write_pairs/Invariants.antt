@@ -1,14 +1,8 @@
 -- `distances::entries::write_pairs` meets its contract. The loop's invariant: the entries of tree i with the trees below j are written.
 -- Assumes nothing.
-use Rattle.std.proofs.Common.{◌≡◌, ◌-◌, ◌*◌, ◌<◌, ◌≤◌, length, drop, sym, refl, ap, ◌∙◌, subst, ap₂, arith}
-use Rattle.trees.specs.Distance.{doubled}
+use Rattle.std.proofs.Common.{◌≡◌, ◌-◌, ◌*◌, ◌≤◌, length, drop}
 use Rattle.layout.specs.Store.{trees_held_at}
-use Rattle.layout.specs.InsideLaws.{trees-few}
 use Rattle.distances.specs.Entries.{Filled}
-use Rattle.distances.specs.EntryLaws.{filled_row, pair-more}
-use Rattle.distances.specs.Short.{Rows}
-use Rattle.distances.specs.ShortLaws.{short-rows, short-doubled, size_few}
-use Rattle.distances.specs.WholeTreeLaws.{head_at}
 use Rattle.distances.proofs.entries.write_pairs.Given as goal
 
 abbrev pub invariant-loop-j : goal.invariant-loop-j

@@ -1,5 +1,5 @@
 -- `distances::marks::distance` meets its contract: what tree i has and tree j has not is known from the lengths. Assumes nothing.
-use Rattle.std.proofs.Common.{arith, rules}
+use Rattle.std.proofs.Common.{arith}
 use Rattle.trees.specs.Distance.{doubled}
 use Rattle.distances.specs.WholeTreeLaws.{head_at, list-few, trees-balance}
 use Rattle.distances.proofs.marks.distance.Goals as goal

@@ -1,7 +1,5 @@
-use Rattle.std.proofs.Common.{◌≡◌, ◌-◌, ◌≤◌, length, drop, sym, refl, ◌∙◌, arith, length-set}
-use Rattle.trees.specs.Opening.{most_room}
+use Rattle.std.proofs.Common.{sym, refl, ◌∙◌, arith, length-set}
 use Rattle.layout.specs.Store.{list_at}
-use Rattle.distances.specs.Marks.{marked}
 use Rattle.distances.specs.MarkLaws.{marked_more, marked-end}
 use Rattle.distances.specs.WholeTreeLaws.{head_at, list-few, row_small}
 use Rattle.distances.proofs.marks.mark_tree.Goals as goal

@@ -1,10 +1,8 @@
 -- `distances::marks::mark_tree` meets its contract. The loop's invariant: with the rows from j on marked too, all are. Assumes nothing.
-use Rattle.std.proofs.Common.{◌≡◌, ◌-◌, ◌≤◌, length, drop, sym, refl, ◌∙◌, arith, length-set}
+use Rattle.std.proofs.Common.{◌≡◌, ◌-◌, ◌≤◌, length, drop}
 use Rattle.trees.specs.Opening.{most_room}
 use Rattle.layout.specs.Store.{list_at}
 use Rattle.distances.specs.Marks.{marked}
-use Rattle.distances.specs.MarkLaws.{marked_more, marked-end}
-use Rattle.distances.specs.WholeTreeLaws.{head_at, list-few, row_small}
 use Rattle.distances.proofs.marks.mark_tree.Given as goal
 
 abbrev pub invariant-loop-j : goal.invariant-loop-j

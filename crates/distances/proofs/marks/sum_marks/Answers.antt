@@ -1,6 +1,5 @@
-use Rattle.std.proofs.Common.{◌≡◌, ◌+◌, ◌-◌, ◌*◌, ◌≤◌, drop, arith, rules}
-use Rattle.layout.specs.Store.{list_at, most_splits}
-use Rattle.distances.specs.Marks.{mark_sum}
+use Rattle.std.proofs.Common.{arith}
+use Rattle.layout.specs.Store.{list_at}
 use Rattle.distances.specs.MarkLaws.{sum_more, sum-end}
 use Rattle.distances.specs.WholeTreeLaws.{head_at, list-few, row_small}
 use Rattle.distances.proofs.marks.sum_marks.Goals as goal

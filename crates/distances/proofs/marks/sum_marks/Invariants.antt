@@ -1,9 +1,7 @@
 -- `distances::marks::sum_marks` meets its contract. The loop's invariant: the rows from `at` on are left to sum. Assumes nothing.
-use Rattle.std.proofs.Common.{◌≡◌, ◌+◌, ◌-◌, ◌*◌, ◌≤◌, drop, arith, rules}
+use Rattle.std.proofs.Common.{◌≡◌, ◌+◌, ◌-◌, ◌*◌, ◌≤◌, drop}
 use Rattle.layout.specs.Store.{list_at, most_splits}
 use Rattle.distances.specs.Marks.{mark_sum}
-use Rattle.distances.specs.MarkLaws.{sum_more, sum-end}
-use Rattle.distances.specs.WholeTreeLaws.{head_at, list-few, row_small}
 use Rattle.distances.proofs.marks.sum_marks.Given as goal
 
 abbrev pub invariant-loop-at : goal.invariant-loop-at

@@ -1,7 +1,5 @@
-use Rattle.std.proofs.Common.{◌≡◌, ◌-◌, ◌<◌, ◌≤◌, length, drop, sym, refl, ◌∙◌, arith, length-set}
-use Rattle.trees.specs.Opening.{most_room}
+use Rattle.std.proofs.Common.{◌<◌, length, sym, refl, ◌∙◌, arith, length-set}
 use Rattle.theorems.specs.ListLaws.{mem-get_d}
-use Rattle.distances.specs.Marks.{marked}
 use Rattle.distances.specs.MarkLaws.{marked_more, marked-end}
 use Rattle.distances.proofs.short.mark_rows.Goals as goal
 

@@ -1,9 +1,7 @@
 -- `distances::short::mark_rows` meets its contract. The loop's invariant: with the rows from j on marked too, all are. Assumes nothing.
-use Rattle.std.proofs.Common.{◌≡◌, ◌-◌, ◌<◌, ◌≤◌, length, drop, sym, refl, ◌∙◌, arith, length-set}
+use Rattle.std.proofs.Common.{◌≡◌, ◌-◌, ◌≤◌, length, drop}
 use Rattle.trees.specs.Opening.{most_room}
-use Rattle.theorems.specs.ListLaws.{mem-get_d}
 use Rattle.distances.specs.Marks.{marked}
-use Rattle.distances.specs.MarkLaws.{marked_more, marked-end}
 use Rattle.distances.proofs.short.mark_rows.Given as goal
 
 abbrev pub invariant-loop-j : goal.invariant-loop-j

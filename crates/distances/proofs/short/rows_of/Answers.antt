@@ -1,5 +1,5 @@
 -- `distances::short::rows_of` meets its contract. Assumes nothing.
-use Rattle.std.proofs.Common.{◌≡◌, ◌+◌, ◌-◌, ◌*◌, arith, rules}
+use Rattle.std.proofs.Common.{◌≡◌, ◌+◌, ◌-◌, ◌*◌, arith}
 use Rattle.distances.specs.Short.{rows_in}
 use Rattle.distances.proofs.short.rows_of.Goals as goal
 

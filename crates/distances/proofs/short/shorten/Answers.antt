@@ -1,6 +1,5 @@
-use Rattle.std.proofs.Common.{◌≡◌, ◌-◌, ◌≤◌, arith}
+use Rattle.std.proofs.Common.{◌≡◌, arith}
 use Rattle.layout.specs.InsideLaws.{trees-few}
-use Rattle.distances.specs.Short.{Shortened}
 use Rattle.distances.specs.ShortLaws.{short-few, shortened-none, shortened-more}
 use Rattle.distances.specs.WholeTreeLaws.{head_at}
 use Rattle.distances.proofs.short.shorten.Goals as goal

@@ -1,9 +1,6 @@
 -- `distances::short::shorten` meets its contract. The loop's invariant: the lists of the first i trees stand in the table. Assumes nothing.
-use Rattle.std.proofs.Common.{◌≡◌, ◌-◌, ◌≤◌, arith}
-use Rattle.layout.specs.InsideLaws.{trees-few}
+use Rattle.std.proofs.Common.{◌-◌, ◌≤◌}
 use Rattle.distances.specs.Short.{Shortened}
-use Rattle.distances.specs.ShortLaws.{short-few, shortened-none, shortened-more}
-use Rattle.distances.specs.WholeTreeLaws.{head_at}
 use Rattle.distances.proofs.short.shorten.Given as goal
 
 abbrev pub invariant-loop-i : goal.invariant-loop-i

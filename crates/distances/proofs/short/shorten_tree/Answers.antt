@@ -1,7 +1,7 @@
-use Rattle.std.proofs.Common.{◌≡◌, ◌-◌, ◌*◌, ◌<◌, ◌≤◌, length, refl, ◌∙◌, ⊎_elim, arith, length-set}
-use Rattle.layout.specs.Store.{trees_held_at, list_at}
+use Rattle.std.proofs.Common.{◌<◌, length, refl, ◌∙◌, arith, length-set}
+use Rattle.layout.specs.Store.{list_at}
 use Rattle.layout.specs.InsideLaws.{trees-few}
-use Rattle.distances.specs.ShortLaws.{row-missing, row_common, Left, left-all, left-inside, left_in, left_out, left_end, short-few}
+use Rattle.distances.specs.ShortLaws.{row-missing, row_common, left-all, left-inside, left_in, left_out, left_end, short-few}
 use Rattle.distances.specs.WholeTreeLaws.{head_at, list-few, row_small, row_at}
 use Rattle.distances.proofs.short.shorten_tree.Goals as goal
 use Rattle.distances.proofs.short.shorten_tree.Goals.{then-count_at-trees, else-count_at-trees}

@@ -1,9 +1,7 @@
 -- `distances::short::shorten_tree` meets its contract. The loop's invariant: the rows from j on are left. Assumes nothing.
-use Rattle.std.proofs.Common.{◌≡◌, ◌-◌, ◌*◌, ◌<◌, ◌≤◌, length, refl, ◌∙◌, ⊎_elim, arith, length-set}
+use Rattle.std.proofs.Common.{◌≡◌, ◌-◌, ◌*◌, ◌≤◌, length}
 use Rattle.layout.specs.Store.{trees_held_at, list_at}
-use Rattle.layout.specs.InsideLaws.{trees-few}
-use Rattle.distances.specs.ShortLaws.{row-missing, row_common, Left, left-all, left-inside, left_in, left_out, left_end, short-few}
-use Rattle.distances.specs.WholeTreeLaws.{head_at, list-few, row_small, row_at}
+use Rattle.distances.specs.ShortLaws.{Left}
 use Rattle.distances.proofs.short.shorten_tree.Given as goal
 
 abbrev pub invariant-loop-j : goal.invariant-loop-j

@@ -1,6 +1,5 @@
-use Rattle.std.proofs.Common.{◌≡◌, ◌+◌, ◌-◌, ◌*◌, ◌<◌, ◌≤◌, length, drop, arith, rules}
+use Rattle.std.proofs.Common.{◌<◌, length, arith}
 use Rattle.theorems.specs.ListLaws.{mem-get_d}
-use Rattle.distances.specs.Marks.{mark_sum}
 use Rattle.distances.specs.MarkLaws.{sum_more, sum-end}
 use Rattle.distances.proofs.short.sum_rows.Goals as goal
 

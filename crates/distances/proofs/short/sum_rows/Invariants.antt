@@ -1,8 +1,6 @@
 -- `distances::short::sum_rows` meets its contract. The loop's invariant: the rows from j on are left to sum. Assumes nothing.
-use Rattle.std.proofs.Common.{◌≡◌, ◌+◌, ◌-◌, ◌*◌, ◌<◌, ◌≤◌, length, drop, arith, rules}
-use Rattle.theorems.specs.ListLaws.{mem-get_d}
+use Rattle.std.proofs.Common.{◌≡◌, ◌+◌, ◌-◌, ◌*◌, ◌≤◌, length, drop}
 use Rattle.distances.specs.Marks.{mark_sum}
-use Rattle.distances.specs.MarkLaws.{sum_more, sum-end}
 use Rattle.distances.proofs.short.sum_rows.Given as goal
 
 abbrev pub invariant-loop-j : goal.invariant-loop-j

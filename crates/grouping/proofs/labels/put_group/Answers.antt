@@ -1,0 +1,7 @@
+-- `grouping::labels::put_group` meets its contract. Assumes nothing.
+use native.Mathlib.Omega.{arith}
+use Rattle.grouping.specs.LabelLaws.{group-put}
+use Rattle.grouping.proofs.labels.put_group.Goals as goal
+
+pub returns : goal.returns
+returns c = let e = c.put_end.ensures in record { put = group-put _ _ c.put_counted-b.ensures.put c.put_labels-e.ensures.put e; upper_bound = omega (arith, c.put_counted-b.ensures.upper_bound.1 c.requires.count_bound, c.put_labels-e.ensures.upper_bound, e.ends) }
