@@ -1,4 +1,4 @@
--- What the proof of `leaving::close_order` knows of its loop or its steps. Assumes nothing.
+-- How far `leaving::close_order` has come, and what one turn of its loop does. Assumes nothing.
 use Prim.Native.Nat.{ℕ, ◌+◌, ◌*◌, ◌≤◌, ◌<◌, ◌-◌}
 use native.Mathlib.Numerals.{add-one}
 use native.Mathlib.Omega.{arith}

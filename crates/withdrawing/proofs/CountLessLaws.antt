@@ -1,4 +1,4 @@
--- What the proof of `unlisting::count_less` knows of its loop or its steps. Assumes nothing.
+-- What one turn of the loop of `unlisting::count_less` does. Assumes nothing.
 use Prim.Native.Nat.{ℕ, ◌+◌, ◌*◌, ◌≤◌, ◌<◌, ◌-◌}
 use native.Mathlib.Omega.{arith}
 use mathlib.Core.Path.{◌≡◌, ap, ◌∙◌}

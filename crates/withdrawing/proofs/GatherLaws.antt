@@ -1,4 +1,4 @@
--- What the proof of `columns::gather` knows of its loop or its steps. Assumes nothing.
+-- What one turn of the loop of `columns::gather` does: the next number lies behind those that are moved. Assumes nothing.
 use Prim.Native.Nat.{ℕ, ◌+◌, ◌*◌, ◌≤◌, ◌<◌}
 use native.Mathlib.Nat.{mul-le-mul_left}
 use native.Mathlib.Numerals.{add-one}

@@ -1,4 +1,4 @@
--- What the proof of `unlisting::move_trees` knows of its loop or its steps. Assumes nothing.
+-- What the steps of `unlisting::move_trees` move: they stay inside, and together move all of each later tree. Assumes nothing.
 use Prim.Native.Nat.{ℕ, suc, ◌+◌, ◌-◌, ◌*◌, ◌≤◌, ◌<◌}
 use native.Mathlib.Omega.{arith}
 use mathlib.Core.Path.{◌≡◌}

@@ -1,4 +1,4 @@
--- What the proof of `columns::rename` knows of its loop or its steps. Assumes nothing.
+-- What one turn of the loop of `columns::rename` does: the next number lies behind those that are named anew. Assumes nothing.
 use Prim.Native.Nat.{ℕ, ◌+◌, ◌-◌, ◌*◌, ◌≤◌, ◌<◌}
 use native.Mathlib.Numerals.{add-one}
 use native.Mathlib.Omega.{arith}

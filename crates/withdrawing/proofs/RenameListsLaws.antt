@@ -1,4 +1,4 @@
--- What the proof of `leaving::rename_lists` knows of its loop or its steps. Assumes nothing.
+-- How far `leaving::rename_lists` has come, and what one turn of its loop does. Assumes nothing.
 use Prim.Native.Nat.{ℕ, suc, ◌+◌, ◌*◌, ◌≤◌, ◌<◌}
 use native.Mathlib.Numerals.{add-one}
 use native.Mathlib.Omega.{arith}

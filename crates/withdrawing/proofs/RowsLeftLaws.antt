@@ -1,4 +1,4 @@
--- What the proof of `leaving::rows_left` knows of its loop or its steps. Assumes nothing.
+-- How far `leaving::rows_left` has come, and what one turn of its loop does. Assumes nothing.
 use Prim.Native.Nat.{ℕ, ◌+◌, ◌*◌, ◌≤◌, ◌<◌}
 use native.Mathlib.Omega.{arith}
 use mathlib.Core.Path.{◌≡◌, sym, ap, ◌∙◌}

@@ -13,6 +13,7 @@ rows_left-m-requires c =
     let e = c.splits_held-n.ensures.value in
     let few = splits-few _ c.requires.0 in record { head_at = c.requires; n_value = e; n_in_bounds = (omega arith, omega arith) }
 
+-- here and below, the entries that are found have a place behind the rows
 pub returns-then-m-n : goal.returns-then-m-n
 returns-then-m-n c =
     let p = c.requires in
