@@ -10,9 +10,9 @@
 
 mod arguments;
 mod beginning;
+mod candidates;
 mod merging;
 mod showing;
-mod trees;
 mod writing;
 
 ghost use Rattle.std.specs.Prelude.{◌≤◌, IfOk};

@@ -1,7 +1,7 @@
 // `splitfiles write OUT NAMES TREES`.
 ghost use Rattle.std.specs.Prelude.{◌≤◌};
 
-use crate::trees;
+use crate::candidates;
 use std::rt::{Env, Files};
 
 // The arguments.
@@ -19,7 +19,7 @@ pub(crate) fn write<R: Env + Files>(
 ) -> u32
     ensures { result ≤ 2 }
 {
-    let status = trees::feed_all(rt, TREES, trees, lent, verdicts);
+    let status = candidates::feed_all(rt, TREES, trees, lent, verdicts);
     if status == 2 {
         return 2;
     }
