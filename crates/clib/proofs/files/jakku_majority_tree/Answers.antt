@@ -1,0 +1,5 @@
+-- `clib::files::jakku_majority_tree` meets its contract. Assumes nothing.
+use Rattle.clib.proofs.files.jakku_majority_tree.Goals as goal
+
+pub returns : goal.returns
+returns c = let h = c.number.ensures in record { filled_as = rw h.0 c.majority_tree.ensures; value = rw h.0 h.1 }

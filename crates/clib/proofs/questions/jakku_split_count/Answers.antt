@@ -1,0 +1,5 @@
+-- `clib::questions::jakku_split_count` meets its contract. Assumes nothing.
+use Rattle.clib.proofs.questions.jakku_split_count.Goals as goal
+
+pub returns : goal.returns
+returns c = let h = c.number.ensures in record { result_value = rw h.0 c.split_count.ensures; value = rw h.0 h.1 }
