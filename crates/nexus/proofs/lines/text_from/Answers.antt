@@ -25,8 +25,8 @@ returns-then-not-has_byte c =
 
 pub returns : goal.returns
 unfolding bytes
-returns c =
-    line-text _ _ c.first_token-w.ensures
-    (passed _ _ c.is_word.ensures c.if-not-is_word.false-raw) _ _ c.skip-name.ensures
-    c.name_end-end.ensures c.if-end-name.false _
-    c.skip-equals.ensures (passed _ _ c.has_byte.ensures c.if-not-has_byte.false-raw)
+returns d =
+    line-text _ _ d.first_token-w.ensures
+    (passed _ _ d.is_word.ensures d.if-not-is_word.false-raw) _ _ d.skip-name.ensures
+    d.name_end-end.ensures d.if-end-name.false _
+    d.skip-equals.ensures (passed _ _ d.has_byte.ensures d.if-not-has_byte.false-raw)
