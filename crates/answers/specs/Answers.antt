@@ -6,7 +6,7 @@
 --                                                     as the definitions of crate trees have it
 --   sums_given l                                       the three lengths of a split that the code has
 --   Small a                                           the number of an accepted tree is at most 1,024
-use Rattle.std.specs.Prelude.{ℕ, ◌≤◌, Float}
+use Rattle.std.specs.Prelude.{ℕ, ◌≤◌, Float, Result, Ok, Err, Option, None, Some}
 use Rattle.trees.specs.Plain.{Answer, refused, gives}
 use Rattle.trees.specs.Sums.{Sums}
 use Rattle.trees.specs.Held.{more_wanted, accepted}
@@ -14,23 +14,10 @@ use Rattle.trees.specs.Claim.{Claimed, same, text_alone, majority_alone}
 use Rattle.trees.specs.Held as held
 use Rattle.answers.specs.declared.Refusal.{Refusal}
 use Rattle.answers.specs.declared.Refusal.TheVariants as why
-use Rattle.answers.specs.declared.Finish.{Finish}
-use Rattle.answers.specs.declared.Finish.TheVariants as finish
-use Rattle.answers.specs.declared.Number.{Number}
-use Rattle.answers.specs.declared.Number.TheVariants as number
-use Rattle.answers.specs.declared.Both.{Both}
-use Rattle.answers.specs.declared.Both.TheVariants as both
-use Rattle.answers.specs.declared.Recorded.{Recorded}
-use Rattle.answers.specs.declared.Recorded.TheVariants as recorded
+use Rattle.answers.specs.declared.Tree.{Tree}
 use Rattle.answers.specs.declared.Claim.{Claim}
 use Rattle.answers.specs.declared.Claim.TheVariants as claim
 use Rattle.answers.specs.declared.Lengths.{Lengths}
-use Rattle.answers.specs.declared.SplitLengths.{SplitLengths}
-use Rattle.answers.specs.declared.SplitLengths.TheVariants as split_lengths
-use Rattle.answers.specs.declared.Weight.{Weight}
-use Rattle.answers.specs.declared.Weight.TheVariants as weight
-use Rattle.answers.specs.declared.Progress.{Progress}
-use Rattle.answers.specs.declared.Progress.TheVariants as progress
 
 -- "Refusal numbers"; "15 block malformed, 16 key listed twice"; "17 any length in the text outside the exact range",
 -- "18 a length needed is absent or none are kept"; "19 length no multiple of 16, 20 record improper or out of order", "21 merge with an empty
@@ -65,57 +52,57 @@ refusal_number why.NotSymmetric = 25
 abbrev pub refusing : {A : Type 0} → Refusal → Answer A
 refusing r = refused (refusal_number r)
 
-unfoldable pub finish_given : Finish → Answer (Unit {0})
+unfoldable pub finish_given : Result (Unit {0}) Refusal → Answer (Unit {0})
 unfolding refusal_number
-finish_given (finish.Refused r) = refused (refusal_number r)
-finish_given finish.Done = gives tt
+finish_given (Err r) = refused (refusal_number r)
+finish_given (Ok d) = gives d
 
-unfoldable pub number_given : Number → Answer ℕ
+unfoldable pub number_given : Result ℕ Refusal → Answer ℕ
 unfolding refusal_number
-number_given (number.Refused r) = refused (refusal_number r)
-number_given (number.Gives n) = gives n
+number_given (Err r) = refused (refusal_number r)
+number_given (Ok n) = gives n
 
 -- two numbers at once
-unfoldable pub both_given : Both → Answer (ℕ × ℕ)
+unfoldable pub both_given : Result (ℕ × ℕ) Refusal → Answer (ℕ × ℕ)
 unfolding refusal_number
-both_given (both.Refused r) = refused (refusal_number r)
-both_given (both.Gives m n) = gives (m, n)
+both_given (Err r) = refused (refusal_number r)
+both_given (Ok p) = gives p
 
 -- a split's mask and its count
-unfoldable pub split_given : Recorded → Answer (ℕ × ℕ)
+unfoldable pub split_given : Result (ℕ × ℕ) Refusal → Answer (ℕ × ℕ)
 unfolding refusal_number
-split_given (recorded.Refused r) = refused (refusal_number r)
-split_given (recorded.Gives m c) = gives (m, c)
+split_given (Err r) = refused (refusal_number r)
+split_given (Ok p) = gives p
 
 -- "name the smallest mask that is in one set alone, and which set"
-unfoldable pub claim_given : Claim → Answer Claimed
+unfoldable pub claim_given : Result Claim Refusal → Answer Claimed
 unfolding refusal_number
-claim_given (claim.Refused r) = refused (refusal_number r)
-claim_given claim.Same = gives same
-claim_given (claim.Text m) = gives (text_alone m)
-claim_given (claim.Majority m) = gives (majority_alone m)
+claim_given (Err r) = refused (refusal_number r)
+claim_given (Ok claim.Same) = gives same
+claim_given (Ok (claim.Text m)) = gives (text_alone m)
+claim_given (Ok (claim.Majority m)) = gives (majority_alone m)
 
 -- "the shortest, longest and summed length"
 unfoldable pub sums_given : Lengths → Sums
 sums_given l = record { shortest = l.shortest; longest = l.longest; sum = l.sum }
 
-unfoldable pub split_lengths_given : SplitLengths → Answer Sums
+unfoldable pub split_lengths_given : Result Lengths Refusal → Answer Sums
 unfolding refusal_number sums_given
-split_lengths_given (split_lengths.Refused r) = refused (refusal_number r)
-split_lengths_given (split_lengths.Gives l) = gives (sums_given l)
+split_lengths_given (Err r) = refused (refusal_number r)
+split_lengths_given (Ok l) = gives (sums_given l)
 
 -- a double, bit for bit
-unfoldable pub weight_given : Weight → Answer Float
+unfoldable pub weight_given : Result Float Refusal → Answer Float
 unfolding refusal_number
-weight_given (weight.Refused r) = refused (refusal_number r)
-weight_given (weight.Gives x) = gives x
+weight_given (Err r) = refused (refusal_number r)
+weight_given (Ok x) = gives x
 
 -- "one of: more wanted; accepted, with the tree's number; refused, with a number"
-unfoldable pub progress_given : Progress → Answer held.Progress
+unfoldable pub progress_given : Result (Option Tree) Refusal → Answer held.Progress
 unfolding refusal_number
-progress_given (progress.Refused r) = refused (refusal_number r)
-progress_given progress.MoreWanted = gives more_wanted
-progress_given (progress.Accepted t) = gives (accepted t.0)
+progress_given (Err r) = refused (refusal_number r)
+progress_given (Ok None) = gives more_wanted
+progress_given (Ok (Some t)) = gives (accepted t.0)
 
 -- a tree's number that fits its room
 unfoldable pub Small : Answer held.Progress → Type 0

@@ -6,11 +6,10 @@
 --   first_of, second_of     the two halves of an answer for two buffers
 --   lengths_given a        how many elements a call gives each of two buffers
 --   BothFilledAs x r xs ys m n     the answer x is given as r, and leaves the buffers xs and ys as m and n
-use Rattle.std.specs.Prelude.{ℕ, ◌≡◌, List, ◌++◌, length, drop}
+use Rattle.std.specs.Prelude.{ℕ, ◌≡◌, List, ◌++◌, length, drop, Result}
 use Rattle.trees.specs.Plain.{Answer, refused, gives}
-use Rattle.answers.specs.declared.Number.{Number}
-use Rattle.answers.specs.declared.Both.{Both}
 use Rattle.answers.specs.Answers.{number_given, both_given}
+use Rattle.answers.specs.declared.Refusal.{Refusal}
 
 unfoldable pub length_given : {A : Type 0} → Answer (List A) → Answer ℕ
 length_given (refused k) = refused k
@@ -21,7 +20,7 @@ unfoldable pub front : {A : Type 0} → Answer (List A) → List A → List A
 front (refused k) old = old
 front (gives xs) old = xs ++ drop (length xs) old
 
-abbrev pub FilledAs : Answer (List ℕ) → Number → List ℕ → List ℕ → Type 0
+abbrev pub FilledAs : Answer (List ℕ) → Result ℕ Refusal → List ℕ → List ℕ → Type 0
 FilledAs x r old m = (number_given r ≡ length_given x) × (m ≡ front x old)
 
 -- ---- two buffers
@@ -38,5 +37,5 @@ unfoldable pub lengths_given : {A B : Type 0} → Answer (List A × List B) → 
 lengths_given (refused k) = refused k
 lengths_given (gives x) = gives (length x.0, length x.1)
 
-abbrev pub BothFilledAs : Answer (List ℕ × List ℕ) → Both → List ℕ → List ℕ → List ℕ → List ℕ → Type 0
+abbrev pub BothFilledAs : Answer (List ℕ × List ℕ) → Result (ℕ × ℕ) Refusal → List ℕ → List ℕ → List ℕ → List ℕ → Type 0
 BothFilledAs x r xs ys m n = (both_given r ≡ lengths_given x) × ((m ≡ front (first_of x) xs) × (n ≡ front (second_of x) ys))

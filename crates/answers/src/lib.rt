@@ -53,40 +53,10 @@ pub enum Refusal {
     NotSymmetric,
 }
 
-// The answer of a call that gives nothing but that it was done.
-#[derive(Clone, Copy)]
-pub enum Finish {
-    Refused(Refusal),
-    Done,
-}
-
-// The answer of a call that gives a number, or how many elements it wrote.
-#[derive(Clone, Copy)]
-pub enum Number {
-    Refused(Refusal),
-    Gives(usize),
-}
-
-// The answer of a call that gives two numbers: how many elements it wrote into each of two buffers, or how many
-// bytes it wrote and how many lines they are.
-#[derive(Clone, Copy)]
-pub enum Both {
-    Refused(Refusal),
-    Gives(usize, usize),
-}
-
-// The answer of a call that gives one split: its mask and its count.
-#[derive(Clone, Copy)]
-pub enum Recorded {
-    Refused(Refusal),
-    Gives(u64, u32),
-}
-
 // The answer to a claim that a text is the majority tree: it has the same splits, or the smallest mask that the text's
 // splits or the majority's have alone.
 #[derive(Clone, Copy)]
 pub enum Claim {
-    Refused(Refusal),
     Same,
     Text(u64),
     Majority(u64),
@@ -100,33 +70,11 @@ pub struct Lengths {
     pub sum: f64,
 }
 
-// The answer of a call that gives the lengths of one split.
-#[derive(Clone, Copy)]
-pub enum SplitLengths {
-    Refused(Refusal),
-    Gives(Lengths),
-}
-
-// The answer of a call that gives a double.
-#[derive(Clone, Copy)]
-pub enum Weight {
-    Refused(Refusal),
-    Gives(f64),
-}
-
-// What feeding answers besides the bytes taken.
-#[derive(Clone, Copy)]
-pub enum Progress {
-    Refused(Refusal),
-    MoreWanted,
-    Accepted(Tree),
-}
-
-// The answer of feeding.
+// The answer of feeding: the bytes taken, and the tree that was accepted, or none where more is wanted.
 #[derive(Clone, Copy)]
 pub struct Fed {
     pub taken: usize,
-    pub progress: Progress,
+    pub progress: Result<Option<Tree>, Refusal>,
 }
 
 // The number of a refusal in documents 01 and 02.
@@ -163,13 +111,14 @@ pub fn refusal_number(r: Refusal) -> u32
 }
 
 // A verdict as a number: a refusal's, or 256 more than the tree's.
-pub fn verdict_number(p: Progress) -> u32
+#[tactic(auto, unfolding(crate::specs::Answers::progress_given, crate::specs::Answers::Small, trees::specs::Batch::verdict_number))]
+pub fn verdict_number(p: Result<Option<Tree>, Refusal>) -> u32
     requires { Small (progress_given p) }
     ensures { result ≡ verdict_number (progress_given p) }
 {
     match p {
-        Progress::Refused(r) => refusal_number(r),
-        Progress::MoreWanted => 0,
-        Progress::Accepted(t) => 256 + t.0 as u32,
+        Err(r) => refusal_number(r),
+        Ok(None) => 0,
+        Ok(Some(t)) => 256 + t.0 as u32,
     }
 }

@@ -1,128 +1,98 @@
 // A line is parsed, its call is made, and the answer is put.
-use crate::parse::Call;
+use crate::changes::{Change, lend};
+use crate::lists::List;
+use crate::opens::Opening;
+use crate::output::Output;
+use crate::questions::Question;
 use crate::replies::Reply;
-use crate::{State, changes, kinds, lists, opens, parse, parts, questions, replies, texts};
+use crate::texts::{Bytes, Text};
+use crate::{parse, replies};
+use answers::Refusal;
 
-// Answers a line.
-pub(crate) fn answer(
-    line: &mut [u8],
-    memory: &mut [u8],
-    out: &mut [u8],
-    masks: &mut [u64],
-    counts: &mut [u32],
-    distances: &mut [u16],
-    file: &mut [u8],
-    state: State,
-) -> State {
-    let call = parse::parsed(line);
-    answer_call(
-        line, memory, out, masks, counts, distances, file, call, state,
-    )
+// A call, with the values that stand in its line.
+#[derive(Clone, Copy)]
+pub(crate) enum Call<'a> {
+    Lend(usize),
+    Room(usize),
+    Open(Opening<'a>),
+    Change(Change<'a>),
+    Question(Question<'a>),
+    List(List<'a>),
+    Text(Text<'a>),
+    Bytes(Bytes<'a>),
 }
 
-// Answers the call that a line is.
-fn answer_call(
-    line: &[u8],
-    memory: &mut [u8],
-    out: &mut [u8],
-    masks: &mut [u64],
-    counts: &mut [u32],
-    distances: &mut [u16],
-    file: &mut [u8],
-    call: Call,
-    state: State,
-) -> State {
-    if kinds::gives_bytes(call.kind) {
-        return give_bytes(line, memory, out, file, call, state);
-    }
-    let reply = make(line, memory, masks, counts, distances, call, state);
-    let next = kept(state, call, reply);
-    replies::put(out, masks, counts, distances, reply, next)
+// The buffers that answers are written into, and the most elements of each that an answer may take.
+#[derive(Drop)]
+pub(crate) struct Buffers<'a> {
+    pub masks: &'a mut [u64],
+    pub counts: &'a mut [u32],
+    pub distances: &'a mut [u16],
+    pub file: &'a mut [u8],
+    pub room: usize,
 }
 
-// Answers a call that gives bytes, which no reply has.
-fn give_bytes(
-    line: &[u8],
-    memory: &[u8],
-    out: &mut [u8],
-    file: &mut [u8],
-    call: Call,
-    state: State,
-) -> State {
-    let lent = parts::least(state.lent, memory.len());
-    if call.kind == kinds::PEEK {
-        return texts::peek(&memory[..lent], call.a, call.b, out, state);
-    }
-    if kinds::writes(call.kind) == kinds::A_FILE {
-        return texts::file(line, &memory[..lent], call, file, out, state);
-    }
-    let bytes = parse::bytes_of(line, call);
-    let from = bytes.from;
-    let to = bytes.to;
-    texts::trees(&line[from..to], &memory[..lent], call, out, state)
+// The bytes of memory that are lent, and the most elements of each buffer that an answer may take.
+#[derive(Clone, Copy)]
+pub(crate) struct Session {
+    lent: usize,
+    pub room: usize,
 }
 
-// Makes a call. Only `lend` sees the memory that is not lent.
-fn make(
-    line: &[u8],
-    memory: &mut [u8],
-    masks: &mut [u64],
-    counts: &mut [u32],
-    distances: &mut [u16],
-    call: Call,
-    state: State,
-) -> Reply {
-    if call.kind == kinds::LEND {
-        return changes::lend(memory, call.a);
-    }
-    let lent = parts::least(state.lent, memory.len());
-    if kinds::writes(call.kind) == kinds::A_LIST {
-        let bytes = parse::bytes_of(line, call);
-        let from = bytes.from;
-        let to = bytes.to;
-        return lists::make(
-            &line[from..to],
-            &memory[..lent],
-            masks,
-            counts,
-            distances,
-            call,
-            state.room,
-        );
-    }
-    make_other(line, &mut memory[..lent], counts, call, state.room)
-}
+impl Session {
+    // Nothing is lent, and answers may be of any length.
+    pub(crate) const START: Session = Session {
+        lent: 0,
+        room: usize::MAX,
+    };
 
-// Makes a call that writes no list.
-fn make_other(
-    line: &[u8],
-    lent: &mut [u8],
-    verdicts: &mut [u32],
-    call: Call,
-    room: usize,
-) -> Reply {
-    if call.kind == kinds::OPEN {
-        return opens::open(line, lent, call);
-    }
-    let bytes = parse::bytes_of(line, call);
-    let from = bytes.from;
-    let to = bytes.to;
-    if kinds::writes(call.kind) == kinds::MEMORY {
-        return changes::make(&line[from..to], lent, verdicts, call, room);
-    }
-    questions::make(&line[from..to], lent, call)
-}
-
-// What is kept from a call: what was lent, and the room.
-fn kept(state: State, call: Call, reply: Reply) -> State {
-    let mut next = state;
-    if reply.form == replies::DONE {
-        if call.kind == kinds::LEND {
-            next.lent = call.a;
-        }
-        if call.kind == kinds::ROOM {
-            next.room = call.a;
+    // Answers a line.
+    pub(crate) fn answer(
+        &mut self,
+        line: &mut [u8],
+        memory: &mut [u8],
+        buffers: Buffers,
+        out: &mut Output,
+    ) {
+        let Some(call) = parse::parsed(line) else {
+            Reply::BadLine.put(out);
+            return;
+        };
+        match self.made(call, memory, buffers) {
+            Ok(reply) => reply.put(out),
+            Err(refusal) => replies::put_refusal(refusal, out),
         }
     }
-    next
+
+    // Makes a call. Only `lend` sees the memory that is not lent.
+    fn made<'b>(
+        &mut self,
+        call: Call,
+        memory: &'b mut [u8],
+        buffers: Buffers<'b>,
+    ) -> Result<Reply<'b>, Refusal> {
+        let lent = self.lent.min(memory.len());
+        match call {
+            Call::Lend(n) => Ok(self.lend(memory, n)),
+            Call::Room(room) => {
+                self.room = room;
+                Ok(Reply::Done)
+            }
+            Call::Open(opening) => opening.made(&mut memory[..lent]),
+            Call::Change(change) => change.made(&mut memory[..lent], buffers.counts, buffers.room),
+            Call::Question(question) => question.made(&memory[..lent]),
+            Call::List(list) => list.made(&memory[..lent], buffers),
+            Call::Text(text) => text.made(&memory[..lent], buffers.file, buffers.room),
+            Call::Bytes(bytes) => bytes.made(&memory[..lent], buffers.file, buffers.room),
+        }
+    }
+
+    // Lends so many bytes, if there are so many.
+    fn lend(&mut self, memory: &mut [u8], n: usize) -> Reply<'static> {
+        let reply = lend(memory, n);
+        if let Reply::Done = reply {
+            self.lent = n;
+        }
+        reply
+    }
 }

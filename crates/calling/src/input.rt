@@ -1,124 +1,119 @@
 // The lines of standard input, as their bytes come.
-ghost use Rattle.std.specs.Prelude.{◌≤◌, length};
-
-use crate::parts::{NO_PART, Part};
-use crate::{State, output, parts};
+use crate::output::{Output, STDERR};
 use std::io::{Read, Stdin};
 
 // The most bytes that are read at once.
 const CHUNK: usize = 65536;
 
-// The state at the next line, which is whole, unless the input has ended without one. The turns are so many that no run uses them up.
-pub(crate) fn next_line(stdin: Stdin, input: &mut [u8], out: &[u8], before: State) -> State {
-    let mut state = passed(before);
-    let mut turns = u64::MAX;
-    while turns > 0 {
-        state = look(input, state);
-        if state.is_line {
-            return state;
-        }
-        state = more(stdin, input, out, state);
-        if state.has_ended {
-            return state;
-        }
-        turns -= 1;
-    }
-    state
+// The bytes of the input that are read and not answered, from `from` up to `to` of a buffer; those before `seen` have no line's end.
+#[derive(Drop)]
+pub(crate) struct Input<'a> {
+    buffer: &'a mut [u8],
+    from: usize,
+    seen: usize,
+    to: usize,
+    // Whether bytes of the first line were dropped because it is too long, and whether the input has ended.
+    is_long: bool,
+    has_ended: bool,
 }
 
-// Goes past the line that was answered, and past its end.
-fn passed(state: State) -> State {
-    let mut next = state;
-    if state.is_line {
-        next.from = if state.end < state.to {
-            state.end + 1
+impl<'a> Input<'a> {
+    // Nothing is read.
+    pub(crate) fn new(buffer: &'a mut [u8]) -> Self {
+        Input {
+            buffer,
+            from: 0,
+            seen: 0,
+            to: 0,
+            is_long: false,
+            has_ended: false,
+        }
+    }
+
+    // The next line, if there is one and every read and write goes well. The turns are so many that no run uses them up.
+    pub(crate) fn next_line(&mut self, stdin: Stdin, out: &mut Output) -> Option<&mut [u8]> {
+        for _ in 0..u64::MAX {
+            if let Some(end) = self.line_end() {
+                return Some(self.line(end, end.saturating_add(1)));
+            }
+            if self.has_ended {
+                return None;
+            }
+            if self.more(stdin, out)? == 0 {
+                self.has_ended = true;
+                return self.last_line();
+            }
+        }
+        None
+    }
+
+    // Looks on for the end of the first line.
+    fn line_end(&mut self) -> Option<usize> {
+        let to = self.to.min(self.buffer.len());
+        let seen = self.seen.min(to);
+        self.seen = to;
+        let end = self.buffer[seen..to].iter().position(|b| *b == b'\n')?;
+        Some(seen + end)
+    }
+
+    // The first line, which ends at `end`; the next begins at `next`. One that is too long is empty, which is no call either.
+    fn line(&mut self, end: usize, next: usize) -> &mut [u8] {
+        let end = end.min(self.buffer.len());
+        let from = if self.is_long {
+            end
         } else {
-            state.to
+            self.from.min(end)
         };
-        next.end = next.from;
-        next.is_line = false;
-        next.is_long = false;
+        self.from = next;
+        self.seen = next;
+        self.is_long = false;
+        &mut self.buffer[from..end]
     }
-    next
-}
 
-// Looks on for the end of the line.
-fn look(input: &[u8], state: State) -> State {
-    let to = parts::least(state.to, input.len());
-    let from = parts::least(state.end, to);
-    let end = parts::find(input, from, to, 10);
-    let mut next = state;
-    next.end = end;
-    next.is_line = end < to;
-    next
-}
-
-// Writes the answers that wait, and reads once.
-fn more(stdin: Stdin, input: &mut [u8], out: &[u8], before: State) -> State {
-    let mut state = output::flush(out, before);
-    if !state.is_good {
-        state.has_ended = true;
-        return state;
-    }
-    state = with_place(input, state);
-    let at = parts::least(state.to, input.len());
-    let to = at + parts::least(CHUNK, input.len() - at);
-    read(stdin, &mut input[at..to], state)
-}
-
-// Moves what is there of the line to the front, if that is nothing or fills the buffer up to its end. A line that fills all of the buffer
-// is too long, and its bytes are dropped.
-fn with_place(input: &mut [u8], state: State) -> State {
-    let to = parts::least(state.to, input.len());
-    let from = parts::least(state.from, to);
-    let n = to - from;
-    let mut next = state;
-    if n > 0 {
-        if to < input.len() {
-            return state;
+    // What stands behind the last line's end is a line too.
+    fn last_line(&mut self) -> Option<&mut [u8]> {
+        let to = self.to;
+        if !self.is_long && to <= self.from {
+            return None;
         }
-        if from == 0 {
-            next.is_long = true;
-            return at_front(next, 0);
+        Some(self.line(to, to))
+    }
+
+    // Writes the answers that wait, reads once, and answers how many bytes came: none at the end of the input.
+    fn more(&mut self, mut stdin: Stdin, out: &mut Output) -> Option<usize> {
+        if !out.flush() {
+            return None;
         }
+        self.make_place();
+        let at = self.to.min(self.buffer.len());
+        let to = at + CHUNK.min(self.buffer.len() - at);
+        let Ok(n) = stdin.read(&mut self.buffer[at..to]) else {
+            io::write_all(STDERR, b"treecalls: reading failed\n");
+            out.fail();
+            return None;
+        };
+        self.to = at.saturating_add(n);
+        Some(n)
     }
-    fields::copy_within(input, from, 0, n);
-    at_front(next, n)
-}
 
-// The state with n bytes of the line at the front, in which no end was found.
-fn at_front(state: State, n: usize) -> State {
-    let mut next = state;
-    next.from = 0;
-    next.end = n;
-    next.to = n;
-    next
-}
-
-// Reads once. At the end of the input, what stands behind the last line's end is a line too.
-fn read(mut stdin: Stdin, buf: &mut [u8], state: State) -> State {
-    let mut next = state;
-    let Ok(n) = stdin.read(buf) else {
-        io::write_all(output::STDERR, b"treecalls: reading failed\n");
-        next.has_ended = true;
-        next.is_good = false;
-        return next;
-    };
-    if n > 0 {
-        next.to = std::num::wrapping_add_usize(state.to, n);
-        return next;
+    // Moves what is there of the line to the front, if that is nothing or fills the buffer up to its end. A line that fills all of the buffer
+    // is too long, and its bytes are dropped.
+    fn make_place(&mut self) {
+        let to = self.to.min(self.buffer.len());
+        let from = self.from.min(to);
+        let mut n = to - from;
+        if n > 0 {
+            if to < self.buffer.len() {
+                return;
+            }
+            if from == 0 {
+                self.is_long = true;
+                n = 0;
+            }
+        }
+        fields::copy_within(self.buffer, from, 0, n);
+        self.from = 0;
+        self.seen = n;
+        self.to = n;
     }
-    next.has_ended = true;
-    next.is_line = state.is_long || state.from < state.to;
-    next
-}
-
-// The line of a state; one that is too long is empty, which is no call either.
-pub(crate) fn line_of(input: &[u8], state: State) -> Part
-    ensures { (result.from ≤ result.to) × (result.to ≤ length input.now) }
-{
-    if state.is_long {
-        return NO_PART;
-    }
-    parts::inside(input, state.from, state.end)
 }

@@ -1,89 +1,69 @@
 // Calls that leave the lent memory as it is and give numbers, or a mask with the set that has it.
-use crate::parse::Call;
+use crate::opens::Sizes;
 use crate::replies::Reply;
-use crate::{kinds, opens, replies};
-use answers::{Claim, Number, Recorded, Split, SplitLengths, Tree, Weight};
+use answers::{Claim, Refusal, Split, Tree};
 
-// Makes the call, with these bytes if it takes such.
-pub(crate) fn make(bytes: &[u8], lent: &[u8], call: Call) -> Reply {
-    let kind = call.kind;
-    match kind {
-        kinds::NO_CALL => replies::bad_line(),
-        kinds::ROOM => replies::done(),
-        kinds::AGREE => agree(call.a as u64, call.b as u64),
-        kinds::SPLIT => split(lent, call.a),
-        kinds::WEIGHTED => weighted(lent, call.a, call.b),
-        kinds::LENGTHS => lengths(lent, call.a),
-        kinds::CLAIM => claim(lent, bytes),
-        kinds::SIZE => replies::number(replies::BYTES, opens::size(call)),
-        _ => replies::number(replies::NUMBER, number(lent, call)),
-    }
+// A call that gives numbers.
+#[derive(Clone, Copy)]
+pub(crate) enum Question<'a> {
+    Trees,
+    Count,
+    Collisions,
+    Size(Sizes, bool),
+    One(Tree, Tree),
+    Two(Tree, Tree),
+    Weighted(Tree, Tree),
+    Agree(u64, u64),
+    Split(Split),
+    Lengths(Split),
+    Claim(&'a [u8]),
 }
 
-// The calls that give a number.
-fn number(lent: &[u8], call: Call) -> Number {
-    let kind = call.kind;
-    match kind {
-        kinds::TREES => table::tree_count(lent),
-        kinds::COUNT => table::split_count(lent),
-        kinds::ONE => comparing::one_sided(lent, Tree(call.a), Tree(call.b)),
-        kinds::TWO => comparing::doubled(lent, Tree(call.a), Tree(call.b)),
-        _ => comparing::collisions(lent),
+impl Question<'_> {
+    // Makes the call.
+    pub(crate) fn made(self, lent: &[u8]) -> Result<Reply<'static>, Refusal> {
+        Ok(match self {
+            Question::Trees => Reply::Number(table::tree_count(lent)?),
+            Question::Count => Reply::Number(table::split_count(lent)?),
+            Question::Collisions => Reply::Number(comparing::collisions(lent)?),
+            Question::Size(sizes, kept) => Reply::Size(sizes.bytes(kept)?),
+            Question::One(a, b) => Reply::Number(comparing::one_sided(lent, a, b)?),
+            Question::Two(a, b) => Reply::Number(comparing::doubled(lent, a, b)?),
+            Question::Weighted(a, b) => weighted(lent, a, b)?,
+            Question::Agree(a, b) => Reply::Agree(masks::agree(a, b)),
+            Question::Split(s) => split(lent, s)?,
+            Question::Lengths(s) => lengths(lent, s)?,
+            Question::Claim(text) => claim(lent, text)?,
+        })
     }
-}
-
-// `agree A B`.
-fn agree(a: u64, b: u64) -> Reply {
-    if masks::agree(a, b) {
-        return replies::with(replies::AGREE, 1);
-    }
-    replies::with(replies::AGREE, 0)
 }
 
 // `split S`.
-fn split(lent: &[u8], s: usize) -> Reply {
-    let answer = table::one_split(lent, Split(s));
-    match answer {
-        Recorded::Refused(r) => replies::refused(r),
-        Recorded::Gives(mask, count) => replies::with_two(replies::SPLIT, mask, count as u64),
-    }
+fn split(lent: &[u8], s: Split) -> Result<Reply<'static>, Refusal> {
+    let (mask, count) = table::one_split(lent, s)?;
+    Ok(Reply::Split(mask, count))
 }
 
 // `weighted A B`. A distance is no NaN, so it has bits.
-fn weighted(lent: &[u8], a: usize, b: usize) -> Reply {
-    let answer = comparing::weighted(lent, Tree(a), Tree(b));
-    match answer {
-        Weight::Refused(r) => replies::refused(r),
-        Weight::Gives(x) => replies::with(replies::DOUBLE, f64::to_bits(x)),
-    }
+fn weighted(lent: &[u8], a: Tree, b: Tree) -> Result<Reply<'static>, Refusal> {
+    let x = comparing::weighted(lent, a, b)?;
+    Ok(Reply::Double(f64::to_bits(x)))
 }
 
 // `lengths S`. None of the three is a NaN.
-fn lengths(lent: &[u8], s: usize) -> Reply {
-    let answer = table::split_lengths(lent, Split(s));
-    match answer {
-        SplitLengths::Refused(r) => replies::refused(r),
-        SplitLengths::Gives(x) => {
-            let a = f64::to_bits(x.shortest);
-            let b = f64::to_bits(x.longest);
-            let c = f64::to_bits(x.sum);
-            Reply {
-                form: replies::LENGTHS,
-                a,
-                b,
-                c,
-            }
-        }
-    }
+fn lengths(lent: &[u8], s: Split) -> Result<Reply<'static>, Refusal> {
+    let x = table::split_lengths(lent, s)?;
+    let shortest = f64::to_bits(x.shortest);
+    let longest = f64::to_bits(x.longest);
+    let sum = f64::to_bits(x.sum);
+    Ok(Reply::Lengths(shortest, longest, sum))
 }
 
 // `claim HEX`.
-fn claim(lent: &[u8], text: &[u8]) -> Reply {
-    let answer = claiming::claim(lent, text);
-    match answer {
-        Claim::Refused(r) => replies::refused(r),
-        Claim::Same => replies::with(replies::SAME, 0),
-        Claim::Text(mask) => replies::with(replies::TEXT, mask),
-        Claim::Majority(mask) => replies::with(replies::MAJORITY, mask),
-    }
+fn claim(lent: &[u8], text: &[u8]) -> Result<Reply<'static>, Refusal> {
+    Ok(match claiming::claim(lent, text)? {
+        Claim::Same => Reply::Same,
+        Claim::Text(mask) => Reply::InText(mask),
+        Claim::Majority(mask) => Reply::InMajority(mask),
+    })
 }

@@ -1,323 +1,173 @@
-// Answer lines. A reply says which form its line has and the numbers in it; elements of lists are taken from the buffers of the call.
-use crate::{State, output, parts};
-use answers::{Finish, Number, Refusal};
+// Answer lines.
+use crate::output::{Output, mark, spaced};
+use answers::{Refusal, Tree};
 
-// The form of an answer line, and its numbers.
+// An answer, with what its line gives. Doubles are given by their bits.
 #[derive(Clone, Copy)]
-pub(crate) struct Reply {
-    pub form: usize,
-    pub a: u64,
-    pub b: u64,
-    pub c: u64,
+pub(crate) enum Reply<'a> {
+    BadLine,
+    Done,
+    Same,
+    Number(usize),
+    Size(usize),
+    Agree(bool),
+    More(usize),
+    Accepted(usize, Tree),
+    FedRefused(usize, Refusal),
+    InText(u64),
+    InMajority(u64),
+    Split(u64, u32),
+    Double(u64),
+    Lengths(u64, u64, u64),
+    // Masks with their counts, for a split file with its number of trees before them.
+    Splits(&'a [u64], &'a [u32]),
+    Records(usize, &'a [u64], &'a [u32]),
+    // Masks.
+    Tree(&'a [u64]),
+    // Distances, row by row.
+    Matrix(&'a [u16]),
+    // Verdicts, of a batch with the bytes taken.
+    Nexus(&'a [u32]),
+    Batch(&'a [u32], usize),
+    // Texts as they are, and bytes in hex.
+    Text(&'a [u8]),
+    Both(&'a [u8], &'a [u8]),
+    Bytes(&'a [u8]),
 }
 
-// A word alone.
-pub(crate) const BAD_LINE: usize = 0;
-
-pub(crate) const DONE: usize = 1;
-
-pub(crate) const SAME: usize = 2;
-// The number a behind it.
-pub(crate) const REFUSED: usize = 3;
-
-pub(crate) const NUMBER: usize = 4;
-
-pub(crate) const BYTES: usize = 5;
-
-pub(crate) const AGREE: usize = 6;
-
-pub(crate) const MORE: usize = 7;
-
-pub(crate) const TEXT: usize = 8;
-
-pub(crate) const MAJORITY: usize = 9;
-// The numbers a and b.
-pub(crate) const SPLIT: usize = 10;
-
-pub(crate) const ACCEPTED: usize = 11;
-
-pub(crate) const FED_REFUSED: usize = 12;
-// The double with the bits a.
-pub(crate) const DOUBLE: usize = 13;
-// The doubles with the bits a, b and c.
-pub(crate) const LENGTHS: usize = 14;
-// A list of a elements.
-pub(crate) const SPLITS: usize = 15;
-
-pub(crate) const TREE: usize = 16;
-
-pub(crate) const MATRIX: usize = 17;
-// The number b, and a list of a elements.
-pub(crate) const RECORDS: usize = 18;
-// A list of a verdicts.
-pub(crate) const NEXUS: usize = 19;
-// A list of a verdicts, and the number b.
-pub(crate) const BATCH: usize = 20;
-
-// The word of a form.
-fn word(out: &mut [u8], form: usize, state: State) -> State {
-    nth_word(
-        out,
-        b"bad line,done,same,refused,number,bytes,agree,more,text,majority,split,accepted,refused,double,lengths,splits,tree,matrix,records,nexus,batch",
-        form,
-        state,
-    )
-}
-
-// Word number k of a list with commas between.
-fn nth_word(out: &mut [u8], list: &[u8], k: usize, state: State) -> State {
-    let part = parts::nth(list, k, 44);
-    let from = part.from;
-    let to = part.to;
-    output::bytes(out, &list[from..to], state)
-}
-
-// The reply of a form that has one number.
-pub(crate) fn with(form: usize, a: u64) -> Reply {
-    with_two(form, a, 0)
-}
-
-// The reply of a form that has two numbers.
-pub(crate) fn with_two(form: usize, a: u64, b: u64) -> Reply {
-    Reply { form, a, b, c: 0 }
-}
-
-// The reply to a line that is no call.
-pub(crate) fn bad_line() -> Reply {
-    with(BAD_LINE, 0)
-}
-
-// The reply of a call that gives nothing.
-pub(crate) fn done() -> Reply {
-    with(DONE, 0)
-}
-
-// A refusal.
-pub(crate) fn refused(r: Refusal) -> Reply {
-    with(REFUSED, answers::refusal_number(r) as u64)
-}
-
-// The reply of a call that is done or refused.
-pub(crate) fn finish(answer: Finish) -> Reply {
-    match answer {
-        Finish::Refused(r) => refused(r),
-        Finish::Done => done(),
-    }
-}
-
-// The reply of a call that gives a number, or how many elements it wrote.
-pub(crate) fn number(form: usize, answer: Number) -> Reply {
-    match answer {
-        Number::Refused(r) => refused(r),
-        Number::Gives(n) => with(form, n as u64),
-    }
-}
-
-// The line of a reply.
-pub(crate) fn put(
-    out: &mut [u8],
-    masks: &[u64],
-    counts: &[u32],
-    distances: &[u16],
-    reply: Reply,
-    state: State,
-) -> State {
-    if reply.form < SPLITS {
-        return line(out, reply, state);
-    }
-    let listed = list(out, masks, counts, distances, reply, state);
-    let ended = taken(out, reply, listed);
-    output::byte(out, 10, ended)
-}
-
-// The word of a reply and its list.
-fn list(
-    out: &mut [u8],
-    masks: &[u64],
-    counts: &[u32],
-    distances: &[u16],
-    reply: Reply,
-    state: State,
-) -> State {
-    let begun = word(out, reply.form, state);
-    let headed = heading(out, reply, begun);
-    items(out, masks, counts, distances, reply, headed)
-}
-
-// The line of a reply that has no list.
-pub(crate) fn line(out: &mut [u8], reply: Reply, state: State) -> State {
-    let begun = word(out, reply.form, state);
-    let told = numbers(out, reply, begun);
-    output::byte(out, 10, told)
-}
-
-// The numbers of a reply.
-fn numbers(out: &mut [u8], reply: Reply, state: State) -> State {
-    if reply.form < REFUSED {
-        return state;
-    }
-    if DOUBLE <= reply.form {
-        return doubles(out, reply, state);
-    }
-    let first = output::number(out, reply.a, state);
-    if reply.form < SPLIT {
-        return first;
-    }
-    output::number(out, reply.b, first)
-}
-
-// The doubles of a reply.
-fn doubles(out: &mut [u8], reply: Reply, state: State) -> State {
-    let first = output::double(out, reply.a, state);
-    if reply.form == DOUBLE {
-        return first;
-    }
-    let second = output::double(out, reply.b, first);
-    output::double(out, reply.c, second)
-}
-
-// What stands before the elements of a list: the rows of a matrix, or the trees of a split file.
-fn heading(out: &mut [u8], reply: Reply, state: State) -> State {
-    let form = reply.form;
-    match form {
-        MATRIX => rows(out, reply, state),
-        RECORDS => trees(out, reply, state),
-        _ => state,
-    }
-}
-
-// The number of trees of a split file. One without records has none that is known.
-fn trees(out: &mut [u8], reply: Reply, state: State) -> State {
-    if reply.a == 0 {
-        return output::bytes(out, b" -", state);
-    }
-    output::number(out, reply.b, state)
-}
-
-// The number of rows of a matrix, which has as many columns.
-fn rows(out: &mut [u8], reply: Reply, state: State) -> State {
-    let counted = output::number(out, root(reply.a), state);
-    output::byte(out, 58, counted)
-}
-
-// The number whose square is n: so many of the first odd numbers make up n. No matrix has more than 1,024 rows.
-fn root(n: u64) -> u64 {
-    let mut left = n;
-    let mut odd = 1;
-    while odd < 2049 {
-        if left < odd {
-            return odd / 2;
+impl Reply<'_> {
+    // Puts the answer's line.
+    pub(crate) fn put(self, out: &mut Output) {
+        match self {
+            Reply::BadLine => out.bytes(b"bad line"),
+            Reply::Done => out.bytes(b"done"),
+            Reply::Same => out.bytes(b"same"),
+            Reply::Number(n) => numbered(out, b"number", n as u64),
+            Reply::Size(n) => numbered(out, b"bytes", n as u64),
+            Reply::Agree(agree) => numbered(out, b"agree", u64::from(agree)),
+            Reply::More(taken) => numbered(out, b"more", taken as u64),
+            Reply::Accepted(taken, tree) => {
+                numbered_twice(out, b"accepted", taken as u64, tree.0 as u64)
+            }
+            Reply::FedRefused(taken, refusal) => {
+                numbered_twice(out, b"refused", taken as u64, number_of(refusal))
+            }
+            Reply::InText(mask) => numbered(out, b"text", mask),
+            Reply::InMajority(mask) => numbered(out, b"majority", mask),
+            Reply::Split(mask, count) => numbered_twice(out, b"split", mask, u64::from(count)),
+            Reply::Double(bits) => {
+                out.bytes(b"double");
+                out.double(bits);
+            }
+            Reply::Lengths(shortest, longest, sum) => lengths(out, shortest, longest, sum),
+            _ => self.put_list(out),
         }
-        left -= odd;
-        odd += 2;
+        out.byte(b'\n');
     }
-    odd / 2
+
+    // Puts an answer of lists, texts or bytes, without its line's end.
+    fn put_list(self, out: &mut Output) {
+        match self {
+            Reply::Splits(masks, counts) => {
+                out.bytes(b"splits");
+                out.counted(masks, counts);
+            }
+            Reply::Records(trees, masks, counts) => records(out, trees, masks, counts),
+            Reply::Tree(masks) => {
+                out.bytes(b"tree");
+                out.runs(masks, mask);
+            }
+            Reply::Matrix(distances) => matrix(out, distances),
+            Reply::Nexus(verdicts) => {
+                out.bytes(b"nexus");
+                out.runs(verdicts, verdict);
+            }
+            Reply::Batch(verdicts, taken) => {
+                out.bytes(b"batch");
+                out.runs(verdicts, verdict);
+                numbered(out, b" taken", taken as u64);
+            }
+            Reply::Text(text) => {
+                out.bytes(b"text ");
+                out.bytes(text);
+            }
+            Reply::Both(strict, majority) => both(out, strict, majority),
+            Reply::Bytes(bytes) => {
+                out.bytes(b"bytes ");
+                out.hex(bytes);
+            }
+            _ => {}
+        }
+    }
 }
 
-// The bytes that a batch took.
-fn taken(out: &mut [u8], reply: Reply, state: State) -> State {
-    if reply.form != BATCH {
-        return state;
-    }
-    let parted = output::bytes(out, b" taken", state);
-    output::number(out, reply.b, parted)
+// Puts a refusal's line.
+pub(crate) fn put_refusal(refusal: Refusal, out: &mut Output) {
+    numbered(out, b"refused", number_of(refusal));
+    out.byte(b'\n');
 }
 
-// The elements of a reply's list.
-fn items(
-    out: &mut [u8],
-    masks: &[u64],
-    counts: &[u32],
-    distances: &[u16],
-    reply: Reply,
-    before: State,
-) -> State {
-    let form = reply.form;
-    let n = reply.a as usize;
-    let mut state = before;
-    let mut i = 0;
-    while i < n {
-        let to = output::run_end(i, n);
-        state = output::with_place(out, state);
-        state.waiting = run(out, state.waiting, masks, counts, distances, form, i, to);
-        i = to;
-    }
-    state
+// The number of a refusal.
+fn number_of(refusal: Refusal) -> u64 {
+    u64::from(answers::refusal_number(refusal))
 }
 
-// Puts the elements from `from` on and before `to` at `at`, and answers where they end.
-fn run(
-    out: &mut [u8],
-    at: usize,
-    masks: &[u64],
-    counts: &[u32],
-    distances: &[u16],
-    form: usize,
-    from: usize,
-    to: usize,
-) -> usize {
-    let mut place = at;
-    let mut i = from;
-    while i < to {
-        place = item(out, place, masks, counts, distances, form, i);
-        i += 1;
-    }
-    place
+// Puts a word and a number.
+fn numbered(out: &mut Output, word: &[u8], n: u64) {
+    out.bytes(word);
+    out.number(n);
 }
 
-// Puts element i at `at` and answers where it ends: an entry, a verdict, a mask, or a mask with its count.
-fn item(
-    out: &mut [u8],
-    at: usize,
-    masks: &[u64],
-    counts: &[u32],
-    distances: &[u16],
-    form: usize,
-    i: usize,
-) -> usize {
-    if form == MATRIX {
-        return output::spaced(out, at, 32, at16(distances, i));
+// Puts a word and two numbers.
+fn numbered_twice(out: &mut Output, word: &[u8], n: u64, m: u64) {
+    numbered(out, word, n);
+    out.number(m);
+}
+
+// Puts three doubles.
+fn lengths(out: &mut Output, shortest: u64, longest: u64, sum: u64) {
+    out.bytes(b"lengths");
+    out.double(shortest);
+    out.double(longest);
+    out.double(sum);
+}
+
+// Puts the records of a split file. One without records has no number of trees that is known.
+fn records(out: &mut Output, trees: usize, masks: &[u64], counts: &[u32]) {
+    if masks.is_empty() {
+        out.bytes(b"records -");
+        return;
     }
-    if NEXUS <= form {
-        return verdict(out, at, at32(counts, i));
-    }
-    let masked = output::spaced(out, at, 32, at64(masks, i));
-    if form == TREE {
-        return masked;
-    }
-    output::spaced(out, masked, 58, at32(counts, i))
+    numbered(out, b"records", trees as u64);
+    out.counted(masks, counts);
+}
+
+// Puts a matrix behind the number of its rows; it has as many columns.
+fn matrix(out: &mut Output, distances: &[u16]) {
+    numbered(out, b"matrix", distances.len().isqrt() as u64);
+    out.byte(b':');
+    out.runs(distances, |out, at, d| spaced(out, at, b' ', u64::from(d)));
+}
+
+// Puts two texts, with a space between.
+fn both(out: &mut Output, strict: &[u8], majority: &[u8]) {
+    out.bytes(b"both ");
+    out.bytes(strict);
+    out.byte(b' ');
+    out.bytes(majority);
+}
+
+// Puts a mask at `at` and answers where it ends.
+fn mask(out: &mut [u8], at: usize, mask: u64) -> usize {
+    spaced(out, at, b' ', mask)
 }
 
 // Puts a verdict at `at` and answers where it ends: a refusal's number behind a minus, or a tree's, which the library gives with 256 added.
-fn verdict(out: &mut [u8], at: usize, v: u64) -> usize {
+fn verdict(out: &mut [u8], at: usize, v: u32) -> usize {
+    let v = u64::from(v);
     if v < 256 {
-        let place = output::mark(out, at, 32);
-        return output::spaced(out, place, 45, v);
+        let place = mark(out, at, b' ');
+        return spaced(out, place, b'-', v);
     }
-    output::spaced(out, at, 32, v - 256)
-}
-
-// Element i, or 0 where there is none.
-fn at64(s: &[u64], i: usize) -> u64 {
-    if i < s.len() { s[i] } else { 0 }
-}
-
-// Element i in 64 bits, or 0 where there is none.
-fn at32(s: &[u32], i: usize) -> u64 {
-    if i < s.len() { wide32(s[i]) } else { 0 }
-}
-
-// Element i in 64 bits, or 0 where there is none.
-fn at16(s: &[u16], i: usize) -> u64 {
-    if i < s.len() { wide16(s[i]) } else { 0 }
-}
-
-// A number in 64 bits.
-fn wide32(x: u32) -> u64 {
-    x as u64
-}
-
-// A number in 64 bits.
-fn wide16(x: u16) -> u64 {
-    x as u64
+    spaced(out, at, b' ', v - 256)
 }

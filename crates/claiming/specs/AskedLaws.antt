@@ -8,7 +8,7 @@
 -- of a whole store and a text with its semicolon, in the order of the tests:
 --   no-trees, too_long, not-ended     14, 6 and 7
 --   claim-given                       else what is answered of the bytes before the semicolon
-use Rattle.std.specs.Prelude.{ℕ, suc, ◌+◌, ◌*◌, ◌/◌, ◌≤◌, ◌<◌, ◌≡◌, true, List, length, take, drop}
+use Rattle.std.specs.Prelude.{ℕ, suc, ◌+◌, ◌*◌, ◌/◌, ◌≤◌, ◌<◌, ◌≡◌, true, List, length, take, drop, Result, Ok, Err}
 use Rattle.std.proofs.Common.{arith, sym, ap, ap₂, ◌∙◌, length-append}
 use Rattle.std.proofs.Math.Path.{subst}
 use Rattle.std.proofs.Math.Bool.{false}
@@ -30,8 +30,6 @@ use Rattle.records.specs.Records.{wide, records_of, with_records, masks_of}
 use Rattle.records.specs.RecordLaws.{records-length, masks-records}
 use Rattle.head.specs.Head.{names_at, opening_at}
 use Rattle.head.specs.Index.{Indexed}
-use Rattle.newick.specs.declared.Judged.{Judged}
-use Rattle.newick.specs.declared.Judged.TheVariants.{Refused, Splits}
 use Rattle.newick.specs.Judge.{Prepared, JudgedAs}
 use Rattle.layout.specs.Store.{trees_held_at, held_at, held_in}
 use Rattle.layout.specs.WholeStore.{whole_at}
@@ -55,15 +53,15 @@ module _ (s text : List ℕ) where
   unfolding claimed_by held_in
   by-splits l e = rw (claimed_by, e)
 
-  module _ (r : Judged) (u t : List ℕ) (h : JudgedAs (opening_at s) text r u t) where
-    pub judged-refused : (q : Refusal) → r ≡ Refused q → claimed_by (held_at s) text ≡ refusing q
+  module _ (r : Result ℕ Refusal) (u t : List ℕ) (h : JudgedAs (opening_at s) text r u t) where
+    pub judged-refused : (q : Refusal) → r ≡ Err q → claimed_by (held_at s) text ≡ refusing q
     unfolding JudgedAs
-    judged-refused q e = by-refusal (refusal_number q) (subst (λ (z : Judged). JudgedAs (opening_at s) text z u t) e h).0
+    judged-refused q e = by-refusal (refusal_number q) (subst (λ (z : Result ℕ Refusal). JudgedAs (opening_at s) text z u t) e h).0
 
-    module _ (k : ℕ) (e : r ≡ Splits k) where
+    module _ (k : ℕ) (e : r ≡ Ok k) where
       splits-given : (l : List ℕ) × (judged (opening_at s).names text ≡ gives l) × (k ≡ length l) × (t ≡ with_records (opening_at s) l u)
       unfolding JudgedAs
-      splits-given = subst (λ (z : Judged). JudgedAs (opening_at s) text z u t) e h
+      splits-given = subst (λ (z : Result ℕ Refusal). JudgedAs (opening_at s) text z u t) e h
 
       masks-are : masks_of k t ≡ splits-given.0
       masks-are = let g = splits-given in ap₂ masks_of g.2 g.3 ∙ masks-records (opening_at s) g.0 (drop (wide * length g.0) u)

@@ -13,21 +13,21 @@ use layout::MOST_TEXT;
 mod splits;
 
 // Whether a text has the majority's splits; if not, the smallest mask that one of the two has alone, and which.
-pub fn claim(s: &[u8], text: &[u8]) -> Claim
+pub fn claim(s: &[u8], text: &[u8]) -> Result<Claim, Refusal>
     ensures { claim_given result ≡ claim_asked s.now text.now }
 {
     if !store::is_whole(s) {
-        return Claim::Refused(Refusal::NotWhole);
+        return Err(Refusal::NotWhole);
     }
     if layout::trees_held(s) == 0 {
-        return Claim::Refused(Refusal::NoTrees);
+        return Err(Refusal::NoTrees);
     }
     let n = text::text_end(text, false);
     if MOST_TEXT < n {
-        return Claim::Refused(Refusal::TooLong);
+        return Err(Refusal::TooLong);
     }
     if text.len() != n + 1 {
-        return Claim::Refused(Refusal::BadForm);
+        return Err(Refusal::BadForm);
     }
     splits::claim_text(s, &text[..n])
 }

@@ -10,28 +10,14 @@
 --                             that have no meaning in it are 0
 --   progress_out n p           the same of n bytes taken and the progress p
 --   FinishAs, NumberAs, TwoAs, SplitAs, LengthsAs, WeightAs, ClaimAs, TakenAs, SummedAs           numbers g are those that the answer a is given as, and stand for it
-use Rattle.std.specs.Prelude.{ℕ, ◌-◌, ◌≡◌, true, false, List, [], ◌∷◌, eqb, get_or, Float, if◌then◌else◌}
+use Rattle.std.specs.Prelude.{ℕ, ◌-◌, ◌≡◌, true, false, List, [], ◌∷◌, eqb, get_or, Float, if◌then◌else◌, Result, Ok, Err, Option, None, Some}
 use Rattle.std.specs.Float.{binary64}
 use Rattle.std.specs.Float.Ieee.{of_bits}
 use Rattle.answers.specs.Answers.{refusal_number}
 use Rattle.answers.specs.declared.Refusal.{Refusal}
 use Rattle.answers.specs.declared.Refusal.TheVariants as why
-use Rattle.answers.specs.declared.Finish.{Finish}
-use Rattle.answers.specs.declared.Finish.TheVariants as finish
-use Rattle.answers.specs.declared.Number.{Number}
-use Rattle.answers.specs.declared.Number.TheVariants as number
-use Rattle.answers.specs.declared.Both.{Both}
-use Rattle.answers.specs.declared.Both.TheVariants as both
-use Rattle.answers.specs.declared.Recorded.{Recorded}
-use Rattle.answers.specs.declared.Recorded.TheVariants as recorded
-use Rattle.answers.specs.declared.SplitLengths.{SplitLengths}
-use Rattle.answers.specs.declared.SplitLengths.TheVariants as split_lengths
-use Rattle.answers.specs.declared.Weight.{Weight}
-use Rattle.answers.specs.declared.Weight.TheVariants as weight
 use Rattle.answers.specs.declared.Claim.{Claim}
 use Rattle.answers.specs.declared.Claim.TheVariants as claim
-use Rattle.answers.specs.declared.Progress.{Progress}
-use Rattle.answers.specs.declared.Progress.TheVariants as progress
 use Rattle.answers.specs.declared.Fed.{Fed}
 use Rattle.summary.specs.declared.Summing.{Summing}
 use Rattle.summary.specs.declared.Summing.TheVariants as summing
@@ -43,9 +29,10 @@ use Rattle.clib.specs.declared.given.Double.{Double}
 use Rattle.clib.specs.declared.given.OneClaim.{OneClaim}
 use Rattle.clib.specs.declared.given.Taken.{Taken}
 use Rattle.clib.specs.declared.given.Summed.{Summed}
-use Rattle.release.specs.declared.Apart.TheVariants as apart
 use Rattle.release.specs.declared.Wanted.{Wanted}
 use Rattle.clib.specs.declared.meant.Asked.{Asked}
+use Rattle.answers.specs.declared.Tree.{Tree}
+use Rattle.answers.specs.declared.Lengths.{Lengths}
 
 -- ---- from numbers to answers
 
@@ -82,49 +69,49 @@ unfoldable pub refusal_of : ℕ → Refusal
 unfolding refusals
 refusal_of k = get_or refusals (k - 1) why.NotWhole
 
-unfoldable pub finish_of : ℕ → Finish
+unfoldable pub finish_of : ℕ → Result (Unit {0}) Refusal
 unfolding refusal_of
-finish_of k = if eqb k 0 then finish.Done else finish.Refused (refusal_of k)
+finish_of k = if eqb k 0 then (Ok tt) else Err (refusal_of k)
 
-unfoldable pub number_of : Given → Number
+unfoldable pub number_of : Given → Result ℕ Refusal
 unfolding refusal_of
-number_of g = if eqb g.refusal 0 then number.Gives g.value else number.Refused (refusal_of g.refusal)
+number_of g = if eqb g.refusal 0 then Ok g.value else Err (refusal_of g.refusal)
 
-unfoldable pub both_of : Pair → Both
+unfoldable pub both_of : Pair → Result (ℕ × ℕ) Refusal
 unfolding refusal_of
-both_of p = if eqb p.refusal 0 then both.Gives p.first p.second else both.Refused (refusal_of p.refusal)
+both_of p = if eqb p.refusal 0 then Ok (p.first, p.second) else Err (refusal_of p.refusal)
 
-unfoldable pub split_of : OneSplit → Recorded
+unfoldable pub split_of : OneSplit → Result (ℕ × ℕ) Refusal
 unfolding refusal_of
-split_of o = if eqb o.refusal 0 then recorded.Gives o.mask o.count else recorded.Refused (refusal_of o.refusal)
+split_of o = if eqb o.refusal 0 then Ok (o.mask, o.count) else Err (refusal_of o.refusal)
 
-unfoldable pub lengths_of : OneLengths → SplitLengths
+unfoldable pub lengths_of : OneLengths → Result Lengths Refusal
 unfolding refusal_of
 lengths_of o =
     if eqb o.refusal 0 then
-    split_lengths.Gives (record { shortest = o.shortest; longest = o.longest; sum = o.sum })
+    Ok (record { shortest = o.shortest; longest = o.longest; sum = o.sum })
     else
-    split_lengths.Refused (refusal_of o.refusal)
+    Err (refusal_of o.refusal)
 
-unfoldable pub weight_of : Double → Weight
+unfoldable pub weight_of : Double → Result Float Refusal
 unfolding refusal_of
-weight_of d = if eqb d.refusal 0 then weight.Gives d.value else weight.Refused (refusal_of d.refusal)
+weight_of d = if eqb d.refusal 0 then Ok d.value else Err (refusal_of d.refusal)
 
-unfoldable pub claim_of : OneClaim → Claim
+unfoldable pub claim_of : OneClaim → Result Claim Refusal
 unfolding refusal_of
 claim_of o =
     if eqb o.refusal 0 then
-    (if eqb o.owner 0 then claim.Same else (if eqb o.owner 1 then claim.Text o.mask else claim.Majority o.mask))
+    (if eqb o.owner 0 then (Ok claim.Same) else (if eqb o.owner 1 then Ok (claim.Text o.mask) else Ok (claim.Majority o.mask)))
     else
-    claim.Refused (refusal_of o.refusal)
+    Err (refusal_of o.refusal)
 
-unfoldable pub progress_of : Taken → Progress
+unfoldable pub progress_of : Taken → Result (Option Tree) Refusal
 unfolding refusal_of
 progress_of t =
     if eqb t.refusal 0 then
-    (if t.accepted then progress.Accepted (record { 0 = t.tree }) else progress.MoreWanted)
+    (if t.accepted then Ok (Some (record { 0 = t.tree })) else (Ok None))
     else
-    progress.Refused (refusal_of t.refusal)
+    Err (refusal_of t.refusal)
 
 unfoldable pub fed_of : Taken → Fed
 unfolding progress_of
@@ -139,49 +126,49 @@ summing_of s =
     summing.Refused (refusal_of s.refusal)
 
 unfoldable pub wanted_of : Asked → Wanted
-wanted_of a = record { newick = a.newick; splits = a.splits; apart = if a.apart then apart.Of (record { 0 = a.taxon }) else apart.Nobody }
+wanted_of a = record { newick = a.newick; splits = a.splits; apart = if a.apart then Some (record { 0 = a.taxon }) else None }
 
 -- ---- from answers to numbers
 
 abbrev pub no_double : Float
 no_double = of_bits binary64 0
 
-unfoldable pub finish_out : Finish → ℕ
-finish_out (finish.Refused r) = refusal_number r
-finish_out finish.Done = 0
+unfoldable pub finish_out : Result (Unit {0}) Refusal → ℕ
+finish_out (Err r) = refusal_number r
+finish_out (Ok tt) = 0
 
-unfoldable pub number_out : Number → Given
-number_out (number.Refused r) = record { value = 0; refusal = refusal_number r }
-number_out (number.Gives n) = record { value = n; refusal = 0 }
+unfoldable pub number_out : Result ℕ Refusal → Given
+number_out (Err r) = record { value = 0; refusal = refusal_number r }
+number_out (Ok n) = record { value = n; refusal = 0 }
 
-unfoldable pub both_out : Both → Pair
-both_out (both.Refused r) = record { first = 0; second = 0; refusal = refusal_number r }
-both_out (both.Gives m n) = record { first = m; second = n; refusal = 0 }
+unfoldable pub both_out : Result (ℕ × ℕ) Refusal → Pair
+both_out (Err r) = record { first = 0; second = 0; refusal = refusal_number r }
+both_out (Ok (m, n)) = record { first = m; second = n; refusal = 0 }
 
-unfoldable pub split_out : Recorded → OneSplit
-split_out (recorded.Refused r) = record { mask = 0; count = 0; refusal = refusal_number r }
-split_out (recorded.Gives m c) = record { mask = m; count = c; refusal = 0 }
+unfoldable pub split_out : Result (ℕ × ℕ) Refusal → OneSplit
+split_out (Err r) = record { mask = 0; count = 0; refusal = refusal_number r }
+split_out (Ok (m, c)) = record { mask = m; count = c; refusal = 0 }
 
-unfoldable pub lengths_out : SplitLengths → OneLengths
-lengths_out (split_lengths.Refused r) =
+unfoldable pub lengths_out : Result Lengths Refusal → OneLengths
+lengths_out (Err r) =
     record { shortest = no_double; longest = no_double; sum = no_double; refusal = refusal_number r }
-lengths_out (split_lengths.Gives l) =
+lengths_out (Ok l) =
     record { shortest = l.shortest; longest = l.longest; sum = l.sum; refusal = 0 }
 
-unfoldable pub weight_out : Weight → Double
-weight_out (weight.Refused r) = record { value = no_double; refusal = refusal_number r }
-weight_out (weight.Gives x) = record { value = x; refusal = 0 }
+unfoldable pub weight_out : Result Float Refusal → Double
+weight_out (Err r) = record { value = no_double; refusal = refusal_number r }
+weight_out (Ok x) = record { value = x; refusal = 0 }
 
-unfoldable pub claim_out : Claim → OneClaim
-claim_out (claim.Refused r) = record { mask = 0; owner = 0; refusal = refusal_number r }
-claim_out claim.Same = record { mask = 0; owner = 0; refusal = 0 }
-claim_out (claim.Text m) = record { mask = m; owner = 1; refusal = 0 }
-claim_out (claim.Majority m) = record { mask = m; owner = 2; refusal = 0 }
+unfoldable pub claim_out : Result Claim Refusal → OneClaim
+claim_out (Err r) = record { mask = 0; owner = 0; refusal = refusal_number r }
+claim_out (Ok claim.Same) = record { mask = 0; owner = 0; refusal = 0 }
+claim_out (Ok (claim.Text m)) = record { mask = m; owner = 1; refusal = 0 }
+claim_out (Ok (claim.Majority m)) = record { mask = m; owner = 2; refusal = 0 }
 
-unfoldable pub progress_out : ℕ → Progress → Taken
-progress_out n (progress.Refused r) = record { taken = n; tree = 0; refusal = refusal_number r; accepted = false }
-progress_out n progress.MoreWanted = record { taken = n; tree = 0; refusal = 0; accepted = false }
-progress_out n (progress.Accepted t) = record { taken = n; tree = t.0; refusal = 0; accepted = true }
+unfoldable pub progress_out : ℕ → Result (Option Tree) Refusal → Taken
+progress_out n (Err r) = record { taken = n; tree = 0; refusal = refusal_number r; accepted = false }
+progress_out n (Ok None) = record { taken = n; tree = 0; refusal = 0; accepted = false }
+progress_out n (Ok (Some t)) = record { taken = n; tree = t.0; refusal = 0; accepted = true }
 
 unfoldable pub fed_out : Fed → Taken
 unfolding progress_out
@@ -194,25 +181,25 @@ summed_out (summing.Refused r) = record { used = 0; spaces = 0; refused = 0; ref
 
 -- ---- both at once
 
-abbrev pub FinishAs : ℕ → Finish → Type 0
+abbrev pub FinishAs : ℕ → Result (Unit {0}) Refusal → Type 0
 FinishAs k a = (finish_of k ≡ a) × (k ≡ finish_out a)
 
-abbrev pub NumberAs : Given → Number → Type 0
+abbrev pub NumberAs : Given → Result ℕ Refusal → Type 0
 NumberAs g a = (number_of g ≡ a) × (g ≡ number_out a)
 
-abbrev pub TwoAs : Pair → Both → Type 0
+abbrev pub TwoAs : Pair → Result (ℕ × ℕ) Refusal → Type 0
 TwoAs g a = (both_of g ≡ a) × (g ≡ both_out a)
 
-abbrev pub SplitAs : OneSplit → Recorded → Type 0
+abbrev pub SplitAs : OneSplit → Result (ℕ × ℕ) Refusal → Type 0
 SplitAs g a = (split_of g ≡ a) × (g ≡ split_out a)
 
-abbrev pub LengthsAs : OneLengths → SplitLengths → Type 0
+abbrev pub LengthsAs : OneLengths → Result Lengths Refusal → Type 0
 LengthsAs g a = (lengths_of g ≡ a) × (g ≡ lengths_out a)
 
-abbrev pub WeightAs : Double → Weight → Type 0
+abbrev pub WeightAs : Double → Result Float Refusal → Type 0
 WeightAs g a = (weight_of g ≡ a) × (g ≡ weight_out a)
 
-abbrev pub ClaimAs : OneClaim → Claim → Type 0
+abbrev pub ClaimAs : OneClaim → Result Claim Refusal → Type 0
 ClaimAs g a = (claim_of g ≡ a) × (g ≡ claim_out a)
 
 abbrev pub TakenAs : Taken → Fed → Type 0

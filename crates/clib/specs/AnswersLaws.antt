@@ -7,7 +7,7 @@
 --   answer-refused, answer-given, summing-refused, summing-texts, summing-line, wanted-apart, wanted-alone     what numbers stand for, by cases
 --   finish-refused, number-refused, two-refused, split-refused, lengths-refused, weight-refused, claim-refused, fed-refused, summed-refused     an answer that refuses
 --   finish-done, number-given, two-given, split-given, lengths-given, weight-given, claim-same, claim-text, claim-majority, fed-more, fed-accepted, summed-line, summed-texts       the others
-use Rattle.std.specs.Prelude.{ℕ, ◌+◌, ◌-◌, ◌<◌, ◌≡◌, true, false, eqb, Float}
+use Rattle.std.specs.Prelude.{ℕ, ◌+◌, ◌-◌, ◌<◌, ◌≡◌, true, false, eqb, Float, Result, Ok, Err, None, Some}
 use native.Mathlib.Omega.{arith}
 use Rattle.std.proofs.Math.Path.{refl}
 use Rattle.std.proofs.Common.{sym, ap, ◌∙◌, get_or-append-add, eq-eqb, ne_eqb}
@@ -15,22 +15,9 @@ use mathlib.Core.List.{[]}
 use Rattle.answers.specs.Answers.{refusal_number}
 use Rattle.answers.specs.declared.Refusal.{Refusal}
 use Rattle.answers.specs.declared.Refusal.TheVariants as why
-use Rattle.answers.specs.declared.Finish.{Finish}
-use Rattle.answers.specs.declared.Finish.TheVariants as finish
-use Rattle.answers.specs.declared.Number.{Number}
-use Rattle.answers.specs.declared.Number.TheVariants as number
-use Rattle.answers.specs.declared.Both.{Both}
-use Rattle.answers.specs.declared.Both.TheVariants as both
-use Rattle.answers.specs.declared.Recorded.{Recorded}
-use Rattle.answers.specs.declared.Recorded.TheVariants as recorded
 use Rattle.answers.specs.declared.Lengths.{Lengths}
-use Rattle.answers.specs.declared.SplitLengths.{SplitLengths}
-use Rattle.answers.specs.declared.SplitLengths.TheVariants as split_lengths
-use Rattle.answers.specs.declared.Weight.{Weight}
-use Rattle.answers.specs.declared.Weight.TheVariants as weight
 use Rattle.answers.specs.declared.Claim.{Claim}
 use Rattle.answers.specs.declared.Claim.TheVariants as claim
-use Rattle.answers.specs.declared.Progress.TheVariants as progress
 use Rattle.answers.specs.declared.Tree.{Tree}
 use Rattle.answers.specs.declared.Fed.{Fed}
 use Rattle.summary.specs.declared.LinePart.{LinePart}
@@ -38,7 +25,6 @@ use Rattle.summary.specs.declared.Summing.{Summing}
 use Rattle.summary.specs.declared.Summing.TheVariants as summing
 use Rattle.clib.specs.declared.given.Given.{Given}
 use Rattle.clib.specs.declared.given.Summed.{Summed}
-use Rattle.release.specs.declared.Apart.TheVariants as apart
 use Rattle.release.specs.declared.Wanted.{Wanted}
 use Rattle.clib.specs.declared.meant.Asked.{Asked}
 use Rattle.clib.specs.Answers.{refusals, refusal_of, no_double, finish_of, finish_out, FinishAs, number_of, number_out, NumberAs, both_of, both_out, TwoAs, split_of, split_out, SplitAs, lengths_of, lengths_out, LengthsAs, weight_of, weight_out, WeightAs, claim_of, claim_out, ClaimAs, fed_of, fed_out, TakenAs, summing_of, summed_out, SummedAs, wanted_of}
@@ -108,91 +94,91 @@ refusal-read why.NotSymmetric = refl
 
 -- ---- done or not
 
-pub finish-refused : (k : ℕ) (r : Refusal) (a : Finish) → k ≡ refusal_number r → a ≡ finish.Refused r → FinishAs k a
+pub finish-refused : (k : ℕ) (r : Refusal) (a : Result (Unit {0}) Refusal) → k ≡ refusal_number r → a ≡ Err r → FinishAs k a
 unfolding finish_of finish_out
 finish-refused k r a e f = (rw (e, refusal-not-0 r, refusal-read r) (sym f), rw f e)
 
-pub finish-done : (a : Finish) → a ≡ finish.Done → FinishAs 0 a
+pub finish-done : (a : Result (Unit {0}) Refusal) → a ≡ Ok tt → FinishAs 0 a
 unfolding finish_of finish_out
 finish-done a f = (sym f, rw f refl)
 
 -- ---- a number, two numbers
 
-pub number-refused : (k : ℕ) (r : Refusal) (a : Number) → k ≡ refusal_number r → a ≡ number.Refused r → NumberAs (record { value = 0; refusal = k }) a
+pub number-refused : (k : ℕ) (r : Refusal) (a : Result ℕ Refusal) → k ≡ refusal_number r → a ≡ Err r → NumberAs (record { value = 0; refusal = k }) a
 unfolding number_of number_out
 number-refused k r a e f = (rw (e, refusal-not-0 r, refusal-read r) (sym f), rw (f, e) refl)
 
-pub number-given : (n : ℕ) (a : Number) → a ≡ number.Gives n → NumberAs (record { value = n; refusal = 0 }) a
+pub number-given : (n : ℕ) (a : Result ℕ Refusal) → a ≡ Ok n → NumberAs (record { value = n; refusal = 0 }) a
 unfolding number_of number_out
 number-given n a f = (sym f, rw f refl)
 
-pub two-refused : (k : ℕ) (r : Refusal) (a : Both) → k ≡ refusal_number r → a ≡ both.Refused r → TwoAs (record { first = 0; second = 0; refusal = k }) a
+pub two-refused : (k : ℕ) (r : Refusal) (a : Result (ℕ × ℕ) Refusal) → k ≡ refusal_number r → a ≡ Err r → TwoAs (record { first = 0; second = 0; refusal = k }) a
 unfolding both_of both_out
 two-refused k r a e f = (rw (e, refusal-not-0 r, refusal-read r) (sym f), rw (f, e) refl)
 
-pub two-given : (m n : ℕ) (a : Both) → a ≡ both.Gives m n → TwoAs (record { first = m; second = n; refusal = 0 }) a
+pub two-given : (m n : ℕ) (a : Result (ℕ × ℕ) Refusal) → a ≡ Ok (m, n) → TwoAs (record { first = m; second = n; refusal = 0 }) a
 unfolding both_of both_out
 two-given m n a f = (sym f, rw f refl)
 
 -- ---- a split, its lengths, a double
 
-pub split-refused : (k : ℕ) (r : Refusal) (a : Recorded) → k ≡ refusal_number r → a ≡ recorded.Refused r → SplitAs (record { mask = 0; count = 0; refusal = k }) a
+pub split-refused : (k : ℕ) (r : Refusal) (a : Result (ℕ × ℕ) Refusal) → k ≡ refusal_number r → a ≡ Err r → SplitAs (record { mask = 0; count = 0; refusal = k }) a
 unfolding split_of split_out
 split-refused k r a e f = (rw (e, refusal-not-0 r, refusal-read r) (sym f), rw (f, e) refl)
 
-pub split-given : (m c : ℕ) (a : Recorded) → a ≡ recorded.Gives m c → SplitAs (record { mask = m; count = c; refusal = 0 }) a
+pub split-given : (m c : ℕ) (a : Result (ℕ × ℕ) Refusal) → a ≡ Ok (m, c) → SplitAs (record { mask = m; count = c; refusal = 0 }) a
 unfolding split_of split_out
 split-given m c a f = (sym f, rw f refl)
 
-pub lengths-refused : (k : ℕ) (r : Refusal) (a : SplitLengths) → k ≡ refusal_number r → a ≡ split_lengths.Refused r
+pub lengths-refused : (k : ℕ) (r : Refusal) (a : Result Lengths Refusal) → k ≡ refusal_number r → a ≡ Err r
     → LengthsAs (record { shortest = no_double; longest = no_double; sum = no_double; refusal = k }) a
 unfolding lengths_of lengths_out
 lengths-refused k r a e f = (rw (e, refusal-not-0 r, refusal-read r) (sym f), rw (f, e) refl)
 
-pub lengths-given : (l : Lengths) (a : SplitLengths) → a ≡ split_lengths.Gives l
+pub lengths-given : (l : Lengths) (a : Result Lengths Refusal) → a ≡ Ok l
     → LengthsAs (record { shortest = l.shortest; longest = l.longest; sum = l.sum; refusal = 0 }) a
 unfolding lengths_of lengths_out
 lengths-given l a f = (sym f, rw f refl)
 
-pub weight-refused : (k : ℕ) (r : Refusal) (a : Weight) → k ≡ refusal_number r → a ≡ weight.Refused r → WeightAs (record { value = no_double; refusal = k }) a
+pub weight-refused : (k : ℕ) (r : Refusal) (a : Result Float Refusal) → k ≡ refusal_number r → a ≡ Err r → WeightAs (record { value = no_double; refusal = k }) a
 unfolding weight_of weight_out
 weight-refused k r a e f = (rw (e, refusal-not-0 r, refusal-read r) (sym f), rw (f, e) refl)
 
-pub weight-given : (x : Float) (a : Weight) → a ≡ weight.Gives x → WeightAs (record { value = x; refusal = 0 }) a
+pub weight-given : (x : Float) (a : Result Float Refusal) → a ≡ Ok x → WeightAs (record { value = x; refusal = 0 }) a
 unfolding weight_of weight_out
 weight-given x a f = (sym f, rw f refl)
 
 -- ---- what came of a claim
 
-pub claim-refused : (k : ℕ) (r : Refusal) (a : Claim) → k ≡ refusal_number r → a ≡ claim.Refused r → ClaimAs (record { mask = 0; owner = 0; refusal = k }) a
+pub claim-refused : (k : ℕ) (r : Refusal) (a : Result Claim Refusal) → k ≡ refusal_number r → a ≡ Err r → ClaimAs (record { mask = 0; owner = 0; refusal = k }) a
 unfolding claim_of claim_out
 claim-refused k r a e f = (rw (e, refusal-not-0 r, refusal-read r) (sym f), rw (f, e) refl)
 
-pub claim-same : (a : Claim) → a ≡ claim.Same → ClaimAs (record { mask = 0; owner = 0; refusal = 0 }) a
+pub claim-same : (a : Result Claim Refusal) → a ≡ (Ok claim.Same) → ClaimAs (record { mask = 0; owner = 0; refusal = 0 }) a
 unfolding claim_of claim_out
 claim-same a f = (sym f, rw f refl)
 
-pub claim-text : (m : ℕ) (a : Claim) → a ≡ claim.Text m → ClaimAs (record { mask = m; owner = 1; refusal = 0 }) a
+pub claim-text : (m : ℕ) (a : Result Claim Refusal) → a ≡ Ok (claim.Text m) → ClaimAs (record { mask = m; owner = 1; refusal = 0 }) a
 unfolding claim_of claim_out
 claim-text m a f = (sym f, rw f refl)
 
-pub claim-majority : (m : ℕ) (a : Claim) → a ≡ claim.Majority m → ClaimAs (record { mask = m; owner = 2; refusal = 0 }) a
+pub claim-majority : (m : ℕ) (a : Result Claim Refusal) → a ≡ Ok (claim.Majority m) → ClaimAs (record { mask = m; owner = 2; refusal = 0 }) a
 unfolding claim_of claim_out
 claim-majority m a f = (sym f, rw f refl)
 
 -- ---- what came of feeding
 
 module _ (a : Fed) where
-  pub fed-refused : (k : ℕ) (r : Refusal) → k ≡ refusal_number r → a.progress ≡ progress.Refused r
+  pub fed-refused : (k : ℕ) (r : Refusal) → k ≡ refusal_number r → a.progress ≡ Err r
       → TakenAs (record { taken = a.taken; tree = 0; refusal = k; accepted = false }) a
   unfolding fed_of fed_out
   fed-refused k r e f = (rw (e, refusal-not-0 r, refusal-read r) (rw (← f) refl), rw (f, e) refl)
 
-  pub fed-more : a.progress ≡ progress.MoreWanted → TakenAs (record { taken = a.taken; tree = 0; refusal = 0; accepted = false }) a
+  pub fed-more : a.progress ≡ Ok None → TakenAs (record { taken = a.taken; tree = 0; refusal = 0; accepted = false }) a
   unfolding fed_of fed_out
   fed-more f = (rw (← f) refl, rw f refl)
 
-  pub fed-accepted : (t : Tree) → a.progress ≡ progress.Accepted t → TakenAs (record { taken = a.taken; tree = t.0; refusal = 0; accepted = true }) a
+  pub fed-accepted : (t : Tree) → a.progress ≡ Ok (Some t) → TakenAs (record { taken = a.taken; tree = t.0; refusal = 0; accepted = true }) a
   unfolding fed_of fed_out
   fed-accepted t f = (rw (← f) refl, rw f refl)
 
@@ -227,11 +213,11 @@ module _ (k : ℕ) where
       rw e (get_or-append-add refusals [] (k - 26) why.NotWhole)
 
 module _ (g : Given) where
-  pub answer-refused : (g.refusal ≡ 0 → ⊥) → number.Refused (refusal_of g.refusal) ≡ number_of g
+  pub answer-refused : (g.refusal ≡ 0 → ⊥) → Err (refusal_of g.refusal) ≡ number_of g
   unfolding number_of
   answer-refused h = rw (ne_eqb g.refusal 0 h) refl
 
-  pub answer-given : g.refusal ≡ 0 → number.Gives g.value ≡ number_of g
+  pub answer-given : g.refusal ≡ 0 → Ok g.value ≡ number_of g
   unfolding number_of
   answer-given h = rw (eq-eqb g.refusal 0 h) refl
 
@@ -250,10 +236,10 @@ module _ (s : Summed) where
   summing-line h o = rw (eq-eqb s.refusal 0 h, o) refl
 
 module _ (a : Asked) where
-  pub wanted-apart : a.apart ≡ true → ◌≡◌ {A = Wanted} (record { newick = a.newick; splits = a.splits; apart = apart.Of (record { 0 = a.taxon }) }) (wanted_of a)
+  pub wanted-apart : a.apart ≡ true → ◌≡◌ {A = Wanted} (record { newick = a.newick; splits = a.splits; apart = Some (record { 0 = a.taxon }) }) (wanted_of a)
   unfolding wanted_of
   wanted-apart e = rw e
 
-  pub wanted-alone : a.apart ≡ false → ◌≡◌ {A = Wanted} (record { newick = a.newick; splits = a.splits; apart = apart.Nobody }) (wanted_of a)
+  pub wanted-alone : a.apart ≡ false → ◌≡◌ {A = Wanted} (record { newick = a.newick; splits = a.splits; apart = None }) (wanted_of a)
   unfolding wanted_of
   wanted-alone e = rw e

@@ -6,7 +6,7 @@
 //   finish, number, two, split, lengths, weight, claimed, fed, reached     an answer of the library as such numbers
 ghost use Rattle.clib.specs.Answers.{FinishAs, NumberAs, TwoAs, SplitAs, LengthsAs, WeightAs, ClaimAs, TakenAs, SummedAs};
 
-use answers::{Both, Claim, Fed, Finish, Number, Progress, Recorded, SplitLengths, Weight};
+use answers::{Claim, Fed, Lengths, Refusal};
 use summary::Summing;
 
 #[repr(C)]
@@ -81,25 +81,25 @@ pub struct Summed {
 }
 
 // 0, or the refusal's number.
-pub(crate) fn finish(answer: Finish) -> u32
+pub(crate) fn finish(answer: Result<(), Refusal>) -> u32
     ensures { FinishAs result answer }
 {
     match answer {
-        Finish::Refused(r) => answers::refusal_number(r),
-        Finish::Done => 0,
+        Err(r) => answers::refusal_number(r),
+        Ok(()) => 0,
     }
 }
 
 // A number.
-pub(crate) fn number(answer: Number) -> Given
+pub(crate) fn number(answer: Result<usize, Refusal>) -> Given
     ensures { NumberAs result answer }
 {
     match answer {
-        Number::Refused(r) => Given {
+        Err(r) => Given {
             value: 0,
             refusal: answers::refusal_number(r),
         },
-        Number::Gives(n) => Given {
+        Ok(n) => Given {
             value: n,
             refusal: 0,
         },
@@ -107,16 +107,16 @@ pub(crate) fn number(answer: Number) -> Given
 }
 
 // Two numbers.
-pub(crate) fn two(answer: Both) -> Pair
+pub(crate) fn two(answer: Result<(usize, usize), Refusal>) -> Pair
     ensures { TwoAs result answer }
 {
     match answer {
-        Both::Refused(r) => Pair {
+        Err(r) => Pair {
             first: 0,
             second: 0,
             refusal: answers::refusal_number(r),
         },
-        Both::Gives(m, n) => Pair {
+        Ok((m, n)) => Pair {
             first: m,
             second: n,
             refusal: 0,
@@ -125,16 +125,16 @@ pub(crate) fn two(answer: Both) -> Pair
 }
 
 // A split's mask and count.
-pub(crate) fn split(answer: Recorded) -> OneSplit
+pub(crate) fn split(answer: Result<(u64, u32), Refusal>) -> OneSplit
     ensures { SplitAs result answer }
 {
     match answer {
-        Recorded::Refused(r) => OneSplit {
+        Err(r) => OneSplit {
             mask: 0,
             count: 0,
             refusal: answers::refusal_number(r),
         },
-        Recorded::Gives(m, c) => OneSplit {
+        Ok((m, c)) => OneSplit {
             mask: m,
             count: c,
             refusal: 0,
@@ -143,17 +143,17 @@ pub(crate) fn split(answer: Recorded) -> OneSplit
 }
 
 // A split's lengths.
-pub(crate) fn lengths(answer: SplitLengths) -> OneLengths
+pub(crate) fn lengths(answer: Result<Lengths, Refusal>) -> OneLengths
     ensures { LengthsAs result answer }
 {
     match answer {
-        SplitLengths::Refused(r) => OneLengths {
+        Err(r) => OneLengths {
             shortest: 0.0,
             longest: 0.0,
             sum: 0.0,
             refusal: answers::refusal_number(r),
         },
-        SplitLengths::Gives(l) => OneLengths {
+        Ok(l) => OneLengths {
             shortest: l.shortest,
             longest: l.longest,
             sum: l.sum,
@@ -163,15 +163,15 @@ pub(crate) fn lengths(answer: SplitLengths) -> OneLengths
 }
 
 // A double.
-pub(crate) fn weight(answer: Weight) -> Double
+pub(crate) fn weight(answer: Result<f64, Refusal>) -> Double
     ensures { WeightAs result answer }
 {
     match answer {
-        Weight::Refused(r) => Double {
+        Err(r) => Double {
             value: 0.0,
             refusal: answers::refusal_number(r),
         },
-        Weight::Gives(x) => Double {
+        Ok(x) => Double {
             value: x,
             refusal: 0,
         },
@@ -179,26 +179,26 @@ pub(crate) fn weight(answer: Weight) -> Double
 }
 
 // What came of a claim.
-pub(crate) fn claimed(answer: Claim) -> OneClaim
+pub(crate) fn claimed(answer: Result<Claim, Refusal>) -> OneClaim
     ensures { ClaimAs result answer }
 {
     match answer {
-        Claim::Refused(r) => OneClaim {
+        Err(r) => OneClaim {
             mask: 0,
             owner: 0,
             refusal: answers::refusal_number(r),
         },
-        Claim::Same => OneClaim {
+        Ok(Claim::Same) => OneClaim {
             mask: 0,
             owner: 0,
             refusal: 0,
         },
-        Claim::Text(m) => OneClaim {
+        Ok(Claim::Text(m)) => OneClaim {
             mask: m,
             owner: 1,
             refusal: 0,
         },
-        Claim::Majority(m) => OneClaim {
+        Ok(Claim::Majority(m)) => OneClaim {
             mask: m,
             owner: 2,
             refusal: 0,
@@ -213,19 +213,19 @@ pub(crate) fn fed(answer: Fed) -> Taken
     let bytes = answer.taken;
     let progress = answer.progress;
     match progress {
-        Progress::Refused(r) => Taken {
+        Err(r) => Taken {
             taken: bytes,
             tree: 0,
             refusal: answers::refusal_number(r),
             accepted: false,
         },
-        Progress::MoreWanted => Taken {
+        Ok(None) => Taken {
             taken: bytes,
             tree: 0,
             refusal: 0,
             accepted: false,
         },
-        Progress::Accepted(t) => Taken {
+        Ok(Some(t)) => Taken {
             taken: bytes,
             tree: t.0,
             refusal: 0,

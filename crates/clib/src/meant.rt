@@ -6,8 +6,8 @@ ghost use Rattle.std.specs.Prelude.{◌≡◌};
 ghost use Rattle.clib.specs.Answers.{refusal_of, number_of, summing_of, wanted_of};
 
 use crate::given::{Given, Summed};
-use answers::{Number, Refusal, Taxon};
-use release::{Apart, Wanted};
+use answers::{Refusal, Taxon};
+use release::Wanted;
 use summary::{LinePart, Summing};
 
 // What is wanted of a release sheet: the two trees alone, the recorded splits too, and, if `apart`, the stand-ins of a taxon.
@@ -62,14 +62,14 @@ fn refusal(k: u32) -> Refusal
 }
 
 // An answer that is a number.
-pub(crate) fn answer(given: Given) -> Number
+pub(crate) fn answer(given: Given) -> Result<usize, Refusal>
     ensures { result ≡ number_of given }
 {
     let k = given.refusal;
     if k != 0 {
-        return Number::Refused(refusal(k));
+        return Err(refusal(k));
     }
-    Number::Gives(given.value)
+    Ok(given.value)
 }
 
 // How far a summary is.
@@ -98,12 +98,12 @@ pub(crate) fn wanted(asked: Asked) -> Wanted
         return Wanted {
             newick: asked.newick,
             splits: asked.splits,
-            apart: Apart::Of(Taxon(asked.taxon)),
+            apart: Some(Taxon(asked.taxon)),
         };
     }
     Wanted {
         newick: asked.newick,
         splits: asked.splits,
-        apart: Apart::Nobody,
+        apart: None,
     }
 }

@@ -37,10 +37,8 @@ fn note_places(s: &[u8], rows: &mut [u16; MOST_ROOM])
     ensures { Placed s.now (numbers_at s.now).places rows.new }
 {
     let places = head::places(s) as usize;
-    let mut p = 0;
-    while p < places {
+    for p in 0..places {
         note_place(s, p, rows);
-        p += 1;
     }
 }
 
@@ -72,25 +70,22 @@ fn list_by_number(
     ensures { Numbered s.now (splits_held_at s.now) places.new identifiers.new }
 {
     let held = layout::splits_held(s);
-    let mut k = 0;
-    while k < held {
+    for k in 0..held {
         let row = rows::row_of(s, Split(k));
         places[k] = rows[row];
         identifiers[k] = rows::identifier_at(s, row);
-        k += 1;
     }
 }
 
-// The pairs of the first n numbers that are equal in both lists.
+// The pairs of the first n numbers that are equal in both lists. The lists are given whole, as `pairs_from` of specs/Collisions.antt
+// has them.
 fn count_pairs(places: &[u16; MOST_ROOM], identifiers: &[u64; MOST_ROOM], n: usize) -> usize
     requires { n ≤ most_room }
     ensures { result ≡ pairs_from places.now identifiers.now 0 n }
 {
     let mut sum = 0;
-    let mut k = 0;
-    while k < n {
+    for k in 0..n {
         sum += count_alike(places, identifiers, k + 1, n, places[k], identifiers[k]);
-        k += 1;
     }
     sum
 }
@@ -109,15 +104,13 @@ fn count_alike(
     ensures { result ≡ count_from (alike places.now identifiers.now p x) from (n - from) }
 {
     let mut count = 0;
-    let mut j = from;
-    while j < n {
+    for j in from..n {
         count += one_if_equal(p, places[j], x, identifiers[j]);
-        j += 1;
     }
     count
 }
 
-// 1 where the places p and q are equal and the identifiers x and y too, and 0 otherwise.
+// 1 where the places p and q are equal and the identifiers x and y too, and 0 otherwise. The library makes no number of a truth value.
 fn one_if_equal(p: u16, q: u16, x: u64, y: u64) -> usize
     ensures value { result ≡ one_if (eqb p q && eqb x y) }
     ensures upper_bound { result ≤ 1 }

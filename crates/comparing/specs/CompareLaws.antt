@@ -6,7 +6,7 @@
 --   square-of, entries-few                         how many entries a matrix has
 --   matrix-short, matrix-given                     the doubled distances of all pairs
 --   collisions-found                               the collision number
-use Rattle.std.specs.Prelude.{ℕ, ◌*◌, ◌≤◌, ◌<◌, ◌≡◌, true, List, ◌++◌, length, drop}
+use Rattle.std.specs.Prelude.{ℕ, ◌*◌, ◌≤◌, ◌<◌, ◌≡◌, true, List, ◌++◌, length, drop, Ok, Err}
 use Rattle.std.proofs.Math.Path.{refl, ap}
 use Rattle.std.proofs.Common.{sym, ap₂, ◌∙◌}
 use Rattle.trees.specs.Plain.{Answer, gives}
@@ -16,7 +16,6 @@ use Rattle.trees.specs.Hash.{collisions}
 use Rattle.trees.specs.Questions.{if_room, if_tree, tree, one_sided_of, doubled_of, matrix_of, collisions_of}
 use Rattle.theorems.specs.MatrixLaws.{matrix-length}
 use Rattle.answers.specs.declared.Refusal.TheVariants as why
-use Rattle.answers.specs.declared.Number.TheVariants as number
 use Rattle.answers.specs.Answers.{number_given}
 use Rattle.answers.specs.Filled.{FilledAs}
 use Rattle.answers.specs.AnswerLaws.{number-refused, number-given, filled-short, filled-given}
@@ -50,14 +49,14 @@ module _ (f : List ℕ → List ℕ → ℕ) (s : List ℕ) (w : whole_at s ≡ 
   abbrev second : Held → Answer ℕ
   second h = if_tree h b (gives (f (tree h a) (tree h b)))
 
-  pub first-missing : trees_held_at s ≤ a → number_given (number.Refused why.NoSuchNumber) ≡ x
+  pub first-missing : trees_held_at s ≤ a → number_given (Err why.NoSuchNumber) ≡ x
   first-missing h = number-refused x why.NoSuchNumber (is ∙ asked-missing s w second a h)
 
   module _ (h : a < trees_held_at s) where
-    pub second-missing : trees_held_at s ≤ b → number_given (number.Refused why.NoSuchNumber) ≡ x
+    pub second-missing : trees_held_at s ≤ b → number_given (Err why.NoSuchNumber) ≡ x
     second-missing k = number-refused x why.NoSuchNumber (is ∙ asked-there s w second a h ∙ tree-missing s b _ k)
 
-    pub both-there : b < trees_held_at s → (n : ℕ) → n ≡ f (tree_at s a) (tree_at s b) → number_given (number.Gives n) ≡ x
+    pub both-there : b < trees_held_at s → (n : ℕ) → n ≡ f (tree_at s a) (tree_at s b) → number_given (Ok n) ≡ x
     unfolding tree
     both-there k n e =
         number-given x n _ (is ∙ asked-there s w second a h ∙ tree-there s b _ k ∙ ap gives (ap₂ f (tree-at s a h) (tree-at s b k))) e
@@ -79,12 +78,12 @@ module _ (s out : List ℕ) (w : whole_at s ≡ true) where
   matrix-found = when_whole s (λ z. matrix_of z (length out)) w
 
   -- 4
-  pub matrix-short : length out < trees_held_at s * trees_held_at s → FilledAs (matrix_asked s (length out)) (number.Refused why.TooShort) out out
+  pub matrix-short : length out < trees_held_at s * trees_held_at s → FilledAs (matrix_asked s (length out)) (Err why.TooShort) out out
   matrix-short h = filled-short _ out _ matrix-found (rw entries h)
 
   pub matrix-given : (n : ℕ) (m : List ℕ) → n ≡ trees_held_at s * trees_held_at s → n ≤ length out
       → m ≡ matrix (held_at s).trees ++ drop (trees_held_at s * trees_held_at s) out
-      → FilledAs (matrix_asked s (length out)) (number.Gives n) out m
+      → FilledAs (matrix_asked s (length out)) (Ok n) out m
   matrix-given n m e h p = filled-given _ out _ matrix-found n m (e ∙ sym entries) h (rw entries p)
 
 -- ---- the collision number

@@ -6,7 +6,7 @@
 --   no-consensus, consensus-given        their returns: 14, or what is given of the tree of those splits
 --   tree-copied, copied-there            a tree's masks at the front of a list, as many as the tree lists
 --   accepted-missing, accepted-given     an accepted tree: 13, or what is given of the tree of its splits
-use Rattle.std.specs.Prelude.{ℕ, ◌≤◌, ◌<◌, ◌≡◌, true, List, ◌++◌, length, take, drop}
+use Rattle.std.specs.Prelude.{ℕ, ◌≤◌, ◌<◌, ◌≡◌, true, List, ◌++◌, length, take, drop, Result, Ok, Err, None, Some, Option, ok_or}
 use Rattle.std.proofs.Math.Path.{refl}
 use Rattle.std.proofs.Common.{◌∙◌, arith, length-append}
 use Rattle.std.proofs.Math.Seq.{take-append_seam}
@@ -16,8 +16,6 @@ use Rattle.trees.specs.Consensus.{strict, majority}
 use Rattle.trees.specs.Written.{written}
 use Rattle.trees.specs.Questions.{if_room, if_trees, tree, strict_of, majority_of, written_of}
 use Rattle.answers.specs.declared.Refusal.TheVariants as why
-use Rattle.answers.specs.declared.Number.{Number}
-use Rattle.answers.specs.declared.Number.TheVariants as number
 use Rattle.answers.specs.Answers.{refusing}
 use Rattle.answers.specs.Filled.{FilledAs}
 use Rattle.answers.specs.AnswerLaws.{filled-refused, filled-short, filled-given, filled-as}
@@ -27,20 +25,24 @@ use Rattle.layout.specs.WholeStore.{whole_at}
 use Rattle.rows.specs.ReadLaws.{tree-length}
 use Rattle.store.specs.RecordedAtLaws.{tree-at}
 use Rattle.store.specs.LentLaws.{asked-missing, asked-there, trees-none, trees-some}
-use Rattle.writer.specs.declared.Text.TheVariants.{Bytes, TooShort}
 use Rattle.writer.specs.Text.{Wrote}
 use Rattle.consensus.specs.Consensus.{written_asked, text_asked}
+use Rattle.answers.specs.declared.Refusal.{Refusal}
 
 -- ---- a text that is written
 
 module _ (s l before after : List ℕ) where
-  pub text-written : (n : ℕ) → Wrote (written (names_at s) l) before (Bytes n) after → FilledAs (text_asked s l (length before)) (number.Gives n) before after
+  pub text-written : (n : ℕ) → Wrote (written (names_at s) l) before (Some n) after → FilledAs (text_asked s l (length before)) (Ok n) before after
   unfolding Wrote
   text-written n w = filled-given (text_asked s l (length before)) before (written (names_at s) l) refl n after w.0 w.1 (rw (← w.0) w.2)
 
-  pub text-short : Wrote (written (names_at s) l) before TooShort after → FilledAs (text_asked s l (length before)) (number.Refused why.TooShort) before after
+  pub text-short : Wrote (written (names_at s) l) before None after → FilledAs (text_asked s l (length before)) (Err why.TooShort) before after
   unfolding Wrote
   text-short w = rw w.1 (filled-short (text_asked s l (length before)) before (written (names_at s) l) refl w.0)
+
+  pub text-answered : (r : Option ℕ) → Wrote (written (names_at s) l) before r after → FilledAs (text_asked s l (length before)) (ok_or r why.TooShort) before after
+  text-answered (Some n) w = text-written n w
+  text-answered None w = text-short w
 
 -- the names that are held are those of the head
 text-held : (s l : List ℕ) (room : ℕ) → if_room room (written (held_at s).opening.names l) ≡ text_asked s l room
@@ -62,10 +64,10 @@ module _ (h : Held) (room : ℕ) where
   majority-by = refl
 
 module _ (g : List (List ℕ) → List ℕ) (s out : List ℕ) (x : Answer (List ℕ)) (is : x ≡ consensus_by g (length out) (held_at s)) where
-  pub no-consensus : trees_held_at s ≡ 0 → FilledAs x (number.Refused why.NoTrees) out out
+  pub no-consensus : trees_held_at s ≡ 0 → FilledAs x (Err why.NoTrees) out out
   no-consensus z = filled-refused x out why.NoTrees (is ∙ trees-none s _ z)
 
-  pub consensus-given : (trees_held_at s ≡ 0 → ⊥) → (l : List ℕ) → l ≡ g (held_at s).trees → (r : Number) (m : List ℕ)
+  pub consensus-given : (trees_held_at s ≡ 0 → ⊥) → (l : List ℕ) → l ≡ g (held_at s).trees → (r : Result ℕ Refusal) (m : List ℕ)
       → FilledAs (text_asked s l (length out)) r out m → FilledAs x r out m
   consensus-given z l e r m f = filled-as x out _ (is ∙ trees-some s _ z ∙ text-held s _ _) r m (rw (← e) f)
 
@@ -82,13 +84,13 @@ module _ (s out : List ℕ) (w : whole_at s ≡ true) (i : ℕ) where
   abbrev one : Held → Answer (List ℕ)
   one h = if_room (length out) (written h.opening.names (tree h i))
 
-  pub accepted-missing : trees_held_at s ≤ i → FilledAs (written_asked s i (length out)) (number.Refused why.NoSuchNumber) out out
+  pub accepted-missing : trees_held_at s ≤ i → FilledAs (written_asked s i (length out)) (Err why.NoSuchNumber) out out
   accepted-missing h = filled-refused _ out why.NoSuchNumber asked
     where
       asked : written_asked s i (length out) ≡ refusing why.NoSuchNumber
       asked = unfold written_of in asked-missing s w one i h
 
-  pub accepted-given : i < trees_held_at s → (l : List ℕ) → l ≡ tree_at s i → (r : Number) (m : List ℕ)
+  pub accepted-given : i < trees_held_at s → (l : List ℕ) → l ≡ tree_at s i → (r : Result ℕ Refusal) (m : List ℕ)
       → FilledAs (text_asked s l (length out)) r out m → FilledAs (written_asked s i (length out)) r out m
   unfolding tree
   accepted-given h l e r m f = filled-as _ out _ (asked ∙ text-held s _ _) r m (rw (tree-at s i h, ← e) f)

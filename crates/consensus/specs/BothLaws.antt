@@ -7,7 +7,7 @@
 use Prim.Native.Nat.{ℕ, ◌≤◌, ◌<◌}
 use Rattle.std.proofs.Common.{arith, zero-add, sym, ◌∙◌, take_at, lt-ltb, le-ltb}
 use Rattle.std.proofs.Math.Path.{◌≡◌, ap}
-use Rattle.std.specs.Prelude.{refl, Bool, true, false, eqb, take, drop, if◌then◌else◌}
+use Rattle.std.specs.Prelude.{refl, Bool, true, false, eqb, take, drop, if◌then◌else◌, Ok, Err, ℕ}
 use mathlib.Core.List.{List, ◌++◌}
 use Rattle.std.proofs.Math.ListN.{length, length-append}
 use Rattle.std.proofs.lemmas.List.Edits.{sets-eq}
@@ -20,8 +20,6 @@ use Rattle.trees.specs.Questions.{if_room, if_trees, strict_of, majority_of, tog
 use Rattle.theorems.specs.ConsensusLaws.{strict-good}
 use Rattle.answers.specs.declared.Refusal.{Refusal}
 use Rattle.answers.specs.declared.Refusal.TheVariants as why
-use Rattle.answers.specs.declared.Number.TheVariants as number
-use Rattle.answers.specs.declared.Both.TheVariants as both
 use Rattle.answers.specs.Answers.{refusal_number, refusing, number_given}
 use Rattle.answers.specs.Filled.{length_given, front, FilledAs, BothFilledAs}
 use Rattle.answers.specs.AnswerLaws.{both-refused, both-second, both-filled, gives≢refused}
@@ -92,25 +90,25 @@ module _ (s : List ℕ) (w : whole_at s ≡ true) (old text : List ℕ) (long : 
   unfolding both_of
   both-narrow a b = ap (λ (x : Answer (List ℕ)). together x (majority_of (held_at s) b)) (narrow-strict a)
 
-  pub both-none : (first second : List ℕ) (r : Refusal) → FilledAs (strict_of (held_at s) (length old)) (number.Refused r) old text
-      → BothFilledAs (both_of (held_at s) (length first) (length second)) (both.Refused r) first second first second
+  pub both-none : (first second : List ℕ) (r : Refusal) → FilledAs (strict_of (held_at s) (length old)) (Err r) old text
+      → BothFilledAs (both_of (held_at s) (length first) (length second)) (Err r) first second first second
   unfolding together narrowed number_given length_given
   both-none first second r f =
       both-refused _ first second r (both-narrow (length first) (length second) ∙ go (strict_of (held_at s) (length old)) f.0)
     where
-      go : (x : Answer (List ℕ)) → number_given (number.Refused r) ≡ length_given x
+      go : (x : Answer (List ℕ)) → number_given (Err r) ≡ length_given x
           → together (narrowed (length first) x) (majority_of (held_at s) (length second)) ≡ refusing r
       go (refused k) e = cc
       go (gives xs) e = absurd (gives≢refused (length xs) (refusal_number r) (sym e))
 
-  pub both_some : (a b n : ℕ) → FilledAs (strict_of (held_at s) (length old)) (number.Gives n) old text
+  pub both_some : (a b n : ℕ) → FilledAs (strict_of (held_at s) (length old)) (Ok n) old text
       → (n ≤ length text) × (both_of (held_at s) a b ≡ together (if_room a (take n text)) (majority_of (held_at s) b))
   unfolding narrowed number_given length_given front
   both_some a b n f =
       let g = go (strict_of (held_at s) (length old)) f in
       (g.0, both-narrow a b ∙ ap (λ (x : Answer (List ℕ)). together x (majority_of (held_at s) b)) g.1)
     where
-      go : (x : Answer (List ℕ)) → FilledAs x (number.Gives n) old text → (n ≤ length text) × (narrowed a x ≡ if_room a (take n text))
+      go : (x : Answer (List ℕ)) → FilledAs x (Ok n) old text → (n ≤ length text) × (narrowed a x ≡ if_room a (take n text))
       go (refused k) e = absurd (gives≢refused n k e.0)
       go (gives xs) e =
           let l : n ≡ length xs = cc in
@@ -129,7 +127,7 @@ module _ (text first second : List ℕ) (n : ℕ) (y : Answer (List ℕ)) (fits 
   abbrev given : Answer (List ℕ × List ℕ)
   given = together (if_room (length first) (take n text)) y
 
-  pub give-short : length first < n → BothFilledAs given (both.Refused why.TooShort) first second first second
+  pub give-short : length first < n → BothFilledAs given (Err why.TooShort) first second first second
   unfolding if_room together refusal_number
   give-short h =
       let l = length-take-le n text fits in
@@ -142,10 +140,10 @@ module _ (text first second : List ℕ) (n : ℕ) (y : Answer (List ℕ)) (fits 
         let l = length-take-le n text fits in
         rw (le-ltb (length first) (length (take n text)) (omega arith))
 
-    pub give-second : (r : Refusal) → FilledAs y (number.Refused r) second m → BothFilledAs given (both.Refused r) first second first m
+    pub give-second : (r : Refusal) → FilledAs y (Err r) second m → BothFilledAs given (Err r) first second first m
     give-second r f = both-second given first second (take n text) y given-first m r f
 
-    pub give-both : (k : ℕ) (after : List ℕ) → after ≡ copied first 0 text 0 n → FilledAs y (number.Gives k) second m
-        → BothFilledAs given (both.Gives n k) first second after m
+    pub give-both : (k : ℕ) (after : List ℕ) → after ≡ copied first 0 text 0 n → FilledAs y (Ok k) second m
+        → BothFilledAs given (Ok (n, k)) first second after m
     give-both k after e f =
         both-filled given first second (take n text) y given-first m n k after (sym (length-take-le n text fits)) (copied-front first text after n room fits e) f

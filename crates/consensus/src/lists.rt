@@ -19,14 +19,12 @@ pub(crate) fn choose(s: &[u8], least: usize, list: &mut [u64; 64]) -> usize
 {
     let held = layout::splits_held(s);
     let mut n = 0;
-    let mut k = 0;
-    while k < held {
+    for k in 0..held {
         let row = rows::row_of(s, Split(k));
         if least <= rows::count_at(s, row) {
             list[n] = rows::mask_at(s, row);
             n += 1;
         }
-        k += 1;
     }
     n
 }

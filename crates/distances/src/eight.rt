@@ -11,7 +11,7 @@ ghost use Rattle.distances.specs.Marks.{mark_sum};
 ghost use Rattle.distances.specs.Short.{Rows, Shortened};
 ghost use Rattle.distances.specs.Eight.{byte_one, added, SmallWords, Table, Words, Fits, Column, Columns, Few, Block};
 
-use crate::short::{MOST_TREES, PLACES, rows_of, wide};
+use crate::short::{MOST_TREES, PLACES, rows_of};
 use answers::Tree;
 use layout::MOST_ROOM;
 
@@ -45,10 +45,7 @@ pub fn write_eight(
 fn up_to_eight(n: usize) -> usize
     ensures { Few n result }
 {
-    if n < 8 {
-        return n;
-    }
-    8
+    n.min(8)
 }
 
 // Puts the words of the n trees from tree i on.
@@ -64,11 +61,9 @@ fn mark_lists(
     requires words { Words short.now sizes.now i 0 words.old }
     ensures { Words short.now sizes.now i n words.new }
 {
-    let mut b = 0;
-    while b < n {
+    for b in 0..n {
         let rows = rows_of(short, sizes, i + b);
         mark_words(rows, byte_one(b), words);
-        b += 1;
     }
 }
 
@@ -87,11 +82,9 @@ fn mark_words(rows: &[u16], v: u64, words: &mut [u64; MOST_ROOM])
     requires words_len { length words.old ≡ most_room }
     ensures { words.new ≡ added v rows.now words.old }
 {
-    let mut j = 0;
-    while j < rows.len() {
-        let k = wide(rows[j]);
-        words[k] = std::num::wrapping_add_u64(words[k], v);
-        j += 1;
+    for row in rows {
+        let k = usize::from(*row);
+        words[k] = words[k].wrapping_add(v);
     }
 }
 
@@ -112,11 +105,9 @@ fn write_columns(
     requires out_len { length out.old ≡ 8192 }
     ensures { Columns short.now sizes.now i n trees out.new }
 {
-    let mut j = 0;
-    while j < trees {
+    for j in 0..trees {
         let w = sum_words(rows_of(short, sizes, j), words);
         put_column(sizes, i, n, j, w, out);
-        j += 1;
     }
 }
 
@@ -127,11 +118,9 @@ fn sum_words(rows: &[u16], words: &[u64; MOST_ROOM]) -> u64
     ensures { result ≡ mark_sum words.now rows.now }
 {
     let mut sum = 0;
-    let mut j = 0;
-    while j < rows.len() {
-        let k = wide(rows[j]);
+    for row in rows {
+        let k = usize::from(*row);
         sum += words[k];
-        j += 1;
     }
     sum
 }
@@ -150,11 +139,9 @@ fn put_column(
     ensures { Column sizes.now i n j w out.old out.new }
 {
     let mut rest = w;
-    let mut b = 0;
-    while b < n {
+    for b in 0..n {
         let both = (rest % 256) as u16;
         out[1024 * b + j] = sizes[i + b] + sizes[j] - 2 * both;
         rest /= 256;
-        b += 1;
     }
 }

@@ -28,13 +28,11 @@ pub(crate) fn write_entries(
     ensures { out.new ≡ matrix (held_at s.now).trees ++ drop (trees_held_at s.now * trees_held_at s.now) out.old }
 {
     let mut marks = [1; MOST_ROOM];
-    let mut i = 0;
-    while i < trees {
+    for i in 0..trees {
         let rows = rows_of(short, sizes, i);
         mark_rows(rows, 0, &mut marks);
         write_pairs(s, i, rows, &marks, short, sizes, out);
         mark_rows(rows, 1, &mut marks);
-        i += 1;
     }
 }
 
@@ -60,11 +58,9 @@ fn write_pairs(
     ensures out_unchanged { drop (trees_held_at s.now * trees_held_at s.now) out.new ≡ drop (trees_held_at s.now * trees_held_at s.now) out.old }
 {
     let trees = layout::trees_held(s);
-    let mut j = i;
-    while j < trees {
+    for j in i..trees {
         let d = distance(rows, marks, rows_of(short, sizes, j));
         put_pair(out, trees, i, j, d);
-        j += 1;
     }
 }
 

@@ -53,10 +53,8 @@ pub fn write_row(s: &[u8], i: Tree, out: &mut [u16])
     let trees = layout::trees_held(s);
     let mut marks = [1; MOST_ROOM];
     marks::mark_tree(s, i.0, &mut marks);
-    let mut j = 0;
-    while j < trees {
+    for j in 0..trees {
         out[j] = marks::distance(s, i.0, &marks, j);
-        j += 1;
     }
 }
 

@@ -21,11 +21,9 @@ pub(crate) fn mark_tree(s: &[u8], i: usize, marks: &mut [u8; MOST_ROOM])
 {
     let from = rows::tree_from(s, Tree(i));
     let n = rows::splits_in(s, Tree(i));
-    let mut j = 0;
-    while j < n {
+    for j in 0..n {
         let k = rows::row_in(s, Tree(i), from, j);
         marks[k] = 0;
-        j += 1;
     }
 }
 
@@ -64,18 +62,9 @@ fn sum_marks(s: &[u8], marks: &[u8; MOST_ROOM], j: usize) -> usize
     let from = rows::tree_from(s, Tree(j));
     let n = rows::splits_in(s, Tree(j));
     let mut sum = 0;
-    let mut at = 0;
-    while at < n {
+    for at in 0..n {
         let k = rows::row_in(s, Tree(j), from, at);
-        sum += wide(marks[k]);
-        at += 1;
+        sum += usize::from(marks[k]);
     }
     sum
-}
-
-// A mark as a number to add.
-pub(crate) fn wide(x: u8) -> usize
-    ensures { (result ≡ x) × (result < 256) }
-{
-    x as usize
 }

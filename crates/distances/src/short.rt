@@ -28,11 +28,9 @@ pub fn shorten(s: &[u8], n: usize, short: &mut [u16; PLACES], sizes: &mut [u16; 
     requires sizes_len { length sizes.old ≡ 1024 }
     ensures { Shortened s.now n short.new sizes.new }
 {
-    let mut i = 0;
-    while i < n {
+    for i in 0..n {
         let size = shorten_tree(s, i, short);
         sizes[i] = size as u16;
-        i += 1;
     }
 }
 
@@ -49,14 +47,12 @@ fn shorten_tree(s: &[u8], i: usize, short: &mut [u16; PLACES]) -> usize
     let n = rows::splits_in(s, Tree(i));
     let first = 64 * i;
     let mut at = first;
-    let mut j = 0;
-    while j < n {
+    for j in 0..n {
         let k = rows::row_in(s, Tree(i), from, j);
         if rows::count_at(s, k) != trees {
             short[at] = k as u16;
             at += 1;
         }
-        j += 1;
     }
     at - first
 }
@@ -74,7 +70,7 @@ pub(crate) fn rows_of<'a, 'b>(
     ensures { result.now ≡ rows_in short.now sizes.now i }
 {
     let from = 64 * i;
-    let end = from + wide(sizes[i]);
+    let end = from + usize::from(sizes[i]);
     let all = &short[..];
     &all[from..end]
 }
@@ -85,11 +81,9 @@ pub(crate) fn mark_rows(rows: &[u16], v: u8, marks: &mut [u8; MOST_ROOM])
     requires marks_len { length marks.old ≡ most_room }
     ensures { marks.new ≡ marked v rows.now marks.old }
 {
-    let mut j = 0;
-    while j < rows.len() {
-        let k = wide(rows[j]);
+    for row in rows {
+        let k = usize::from(*row);
         marks[k] = v;
-        j += 1;
     }
 }
 
@@ -112,18 +106,9 @@ fn sum_rows(rows: &[u16], marks: &[u8; MOST_ROOM]) -> usize
     ensures { result ≡ mark_sum marks.now rows.now }
 {
     let mut sum = 0;
-    let mut j = 0;
-    while j < rows.len() {
-        let k = wide(rows[j]);
-        sum += crate::marks::wide(marks[k]);
-        j += 1;
+    for row in rows {
+        let k = usize::from(*row);
+        sum += usize::from(marks[k]);
     }
     sum
-}
-
-// A row, or how many there are, as a number to index with.
-pub(crate) fn wide(x: u16) -> usize
-    ensures { (result ≡ x) × (result < 65536) }
-{
-    x as usize
 }

@@ -4,19 +4,17 @@
 --   length_at s at        the length in the 8 bytes of s from at
 --   good_length_at s at    these bytes hold none, or a double that is finite and not minus zero
 --   put_length s at x     s with x in the 8 bytes from at
-use Rattle.std.specs.Prelude.{ℕ, Bool, List, eqb, if◌then◌else◌}
+use Rattle.std.specs.Prelude.{ℕ, Bool, List, eqb, if◌then◌else◌, Option, None, Some, Float}
 use Rattle.std.proofs.Math.Option.{none, some}
 use Rattle.trees.specs.Value.{Length}
 use Rattle.trees.specs.Whole.{good_length}
 use Rattle.fields.specs.Field.{number, put}
 use Rattle.doubles.specs.Double.{double_at, put_double}
-use Rattle.doubles.specs.declared.Length as code
-use Rattle.doubles.specs.declared.Length.TheVariants.{Absent, Given}
 
 -- "A branch has a length or has none."
-unfoldable pub branch_given : code.Length → Length
-branch_given Absent = none
-branch_given (Given x) = some x
+unfoldable pub branch_given : Option Float → Length
+branch_given None = none
+branch_given (Some x) = some x
 
 -- 8 bytes of 255, as a number; no double that may be stored has these bits
 abbrev pub all_ones : ℕ

@@ -10,39 +10,33 @@ ghost use Rattle.trees.specs.Value.{proper};
 ghost use Rattle.trees.specs.Whole.{good_length};
 ghost use Rattle.doubles.specs.Stored.{branch_given, length_at, good_length_at, put_length};
 
-// A branch has a length or has none.
-#[derive(Clone, Copy)]
-pub enum Length {
-    Absent,
-    Given(f64),
-}
-
 // The bits that stand for no length: those of no double that may be stored.
 const NO_LENGTH: u64 = 0xffff_ffff_ffff_ffff;
 
 // Puts x into the 8 bytes of s from at.
-pub fn put_length(s: &mut [u8], at: usize, x: Length)
+#[tactic(auto, unfolding(crate::specs::Stored::branch_given, crate::specs::Stored::put_length, crate::specs::Double::put_double))]
+pub fn put_length(s: &mut [u8], at: usize, x: Option<f64>)
     requires at_in_bounds { at + 8 ≤ length s.old }
     requires x_value { good_length (branch_given x) ≡ true }
     ensures { s.new ≡ put_length s.old at (branch_given x) }
 {
     match x {
-        Length::Absent => fields::put64(s, at, NO_LENGTH),
-        Length::Given(d) => fields::put64(s, at, f64::to_bits(d)),
+        None => fields::put64(s, at, NO_LENGTH),
+        Some(d) => fields::put64(s, at, f64::to_bits(d)),
     }
 }
 
 // The length in the 8 bytes of s from at.
-pub fn get_length(s: &[u8], at: usize) -> Length
+pub fn get_length(s: &[u8], at: usize) -> Option<f64>
     requires at_in_bounds { at + 8 ≤ length s.now }
     requires at_value { good_length_at s.now at ≡ true }
     ensures { branch_given result ≡ length_at s.now at }
 {
     let bits = fields::get64(s, at);
     if bits == NO_LENGTH {
-        return Length::Absent;
+        return None;
     }
-    Length::Given(f64::from_bits(bits))
+    Some(f64::from_bits(bits))
 }
 
 // Whether the 8 bytes of s from at hold no length, or a double that is finite and not minus zero.

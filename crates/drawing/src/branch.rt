@@ -65,19 +65,10 @@ pub(crate) fn count_of(list: &[u64], counts: &[u32], x: u64) -> u64
     requires { length list.now ≤ length counts.now }
     ensures { result ≡ count_in list.now counts.now x }
 {
-    let mut j = 0;
-    while j < list.len() {
+    for j in 0..list.len() {
         if masks::is_same(list[j], x) {
-            return wide(counts[j]);
+            return u64::from(counts[j]);
         }
-        j += 1;
     }
     0
-}
-
-// The same number in 64 bits.
-fn wide(x: u32) -> u64
-    ensures { result ≡ x }
-{
-    x as u64
 }

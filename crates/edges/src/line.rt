@@ -11,41 +11,16 @@ pub(crate) fn number(v: u64) {
     io::print_decimal(1, v);
 }
 
-// A number that takes 32 bits.
-pub(crate) fn number32(v: u32) {
-    number(v as u64);
-}
-
-// A number that takes 16 bits.
-pub(crate) fn number16(v: u16) {
-    number(v as u64);
-}
-
 // A number that counts bytes.
 pub(crate) fn offset(v: usize) {
     number(v as u64);
 }
 
-// A truth: 1 or 0.
-pub(crate) fn truth(b: bool) {
-    if b {
-        number(1);
-    } else {
-        number(0);
-    }
-}
-
 // The bytes of a buffer.
 pub(crate) fn bytes(b: &[u8]) {
-    let mut i = 0;
-    while i < b.len() {
-        number(wide(b[i]));
-        i += 1;
+    for x in b {
+        number(u64::from(*x));
     }
-}
-
-fn wide(x: u8) -> u64 {
-    x as u64
 }
 
 // What stands between the arguments and the result.
@@ -55,4 +30,15 @@ pub(crate) fn gives() {
 
 pub(crate) fn end() {
     io::write_all(1, b"\n");
+}
+
+// A whole line, of a function that takes numbers and gives one.
+pub(crate) fn whole(word: &[u8], arguments: &[u64], answer: u64) {
+    name(word);
+    for x in arguments {
+        number(*x);
+    }
+    gives();
+    number(answer);
+    end();
 }

@@ -1,6 +1,6 @@
 // Numbers of 8, 4 and 2 bytes, put into a buffer of twelve and read back: at its front, in its middle
 // and at its very end.
-ghost use Rattle.std.specs.Prelude.{◌+◌, ◌≤◌, ◌<◌};
+ghost use Rattle.std.specs.Prelude.{◌+◌, ◌≤◌};
 
 use crate::line;
 
@@ -21,19 +21,11 @@ const NUMBERS32: [u32; 9] = [0, 1, 2, 3, 255, 65536, 2147483648, 2147483649, 429
 const NUMBERS16: [u16; 9] = [0, 1, 2, 3, 255, 256, 32768, 32769, 65535];
 
 pub(crate) fn every_number() {
-    let mut i = 0;
-    while i < 9 {
-        row(i);
-        i += 1;
+    for i in 0..9 {
+        at_each64(NUMBERS64[i]);
+        at_each32(NUMBERS32[i]);
+        at_each16(NUMBERS16[i]);
     }
-}
-
-fn row(i: usize)
-    requires { i < 9 }
-{
-    at_each64(NUMBERS64[i]);
-    at_each32(NUMBERS32[i]);
-    at_each16(NUMBERS16[i]);
 }
 
 fn at_each64(v: u64) {
@@ -57,75 +49,67 @@ fn at_each16(v: u16) {
 fn there_and_back64(at: usize, v: u64)
     requires { at + 8 ≤ 12 }
 {
-    let mut b = [165; 12];
-    line::name(b"put64");
-    line::bytes(&b);
-    line::offset(at);
-    line::number(v);
-    fields::put64(&mut b, at, v);
-    line::gives();
-    show12(&b);
-    read64(&b, at);
-}
-
-fn read64(b: &[u8; 12], at: usize)
-    requires { at + 8 ≤ 12 }
-{
-    line::name(b"get64");
-    line::bytes(b);
-    line::offset(at);
-    line::gives();
-    line::number(fields::get64(b, at));
-    line::end();
+    there_and_back(
+        b"put64",
+        b"get64",
+        at,
+        v,
+        |b| fields::put64(b, at, v),
+        |b| fields::get64(b, at),
+    );
 }
 
 fn there_and_back32(at: usize, v: u32)
     requires { at + 4 ≤ 12 }
 {
-    let mut b = [165; 12];
-    line::name(b"put32");
-    line::bytes(&b);
-    line::offset(at);
-    line::number32(v);
-    fields::put32(&mut b, at, v);
-    line::gives();
-    show12(&b);
-    read32(&b, at);
-}
-
-fn read32(b: &[u8; 12], at: usize)
-    requires { at + 4 ≤ 12 }
-{
-    line::name(b"get32");
-    line::bytes(b);
-    line::offset(at);
-    line::gives();
-    line::number32(fields::get32(b, at));
-    line::end();
+    there_and_back(
+        b"put32",
+        b"get32",
+        at,
+        u64::from(v),
+        |b| fields::put32(b, at, v),
+        |b| u64::from(fields::get32(b, at)),
+    );
 }
 
 fn there_and_back16(at: usize, v: u16)
     requires { at + 2 ≤ 12 }
 {
-    let mut b = [165; 12];
-    line::name(b"put16");
-    line::bytes(&b);
-    line::offset(at);
-    line::number16(v);
-    fields::put16(&mut b, at, v);
-    line::gives();
-    show12(&b);
-    read16(&b, at);
+    there_and_back(
+        b"put16",
+        b"get16",
+        at,
+        u64::from(v),
+        |b| fields::put16(b, at, v),
+        |b| u64::from(fields::get16(b, at)),
+    );
 }
 
-fn read16(b: &[u8; 12], at: usize)
-    requires { at + 2 ≤ 12 }
+// A line of the function that puts v into a buffer, and one of that which reads it back.
+fn there_and_back<P: FnOnce(&mut [u8; 12]), G: FnOnce(&[u8; 12]) -> u64>(
+    put_name: &[u8],
+    get_name: &[u8],
+    at: usize,
+    v: u64,
+    put: P,
+    get: G,
+)
+    requires puts { P.IsAlwaysCallable put }
+    requires gets { G.IsAlwaysCallable get }
 {
-    line::name(b"get16");
-    line::bytes(b);
+    let mut b = [165; 12];
+    line::name(put_name);
+    line::bytes(&b);
+    line::offset(at);
+    line::number(v);
+    put(&mut b);
+    line::gives();
+    show12(&b);
+    line::name(get_name);
+    line::bytes(&b);
     line::offset(at);
     line::gives();
-    line::number16(fields::get16(b, at));
+    line::number(get(&b));
     line::end();
 }
 

@@ -46,36 +46,26 @@ pub(crate) fn every_set() {
 }
 
 fn every_mask() {
-    let mut i = 0;
-    while i < 12 {
-        row(i);
-        i += 1;
+    for i in 0..12 {
+        one_mask(MASKS[i]);
+        proper_of(LIMITS[i]);
     }
-}
-
-fn row(i: usize)
-    requires { i < 12 }
-{
-    one_mask(MASKS[i]);
-    proper_of(LIMITS[i]);
 }
 
 fn one_mask(m: u64) {
     alone(m);
     with_taxa(m);
-    with_each(m);
+    for b in MASKS {
+        relations(m, b);
+        unions(m, b);
+    }
     proper_of(m);
 }
 
 // The functions of one mask.
 fn alone(m: u64) {
-    of_one(b"count_taxa", m);
-    line::number32(masks::count_taxa(m));
-    line::end();
-    of_one(b"lowest_taxon", m);
-    let lowest = masks::lowest_taxon(m);
-    line::number32(lowest.0);
-    line::end();
+    line::whole(b"count_taxa", &[m], u64::from(masks::count_taxa(m)));
+    line::whole(b"lowest_taxon", &[m], u64::from(masks::lowest_taxon(m).0));
 }
 
 // Whether a mask has the first taxa, one in the middle and the last ones.
@@ -92,92 +82,39 @@ fn with_taxa(m: u64) {
 fn has(m: u64, i: u32)
     requires { i < 64 }
 {
-    line::name(b"has_taxon");
-    line::number(m);
-    line::number32(i);
-    line::gives();
-    line::truth(masks::has_taxon(m, answers::Taxon(i)));
-    line::end();
-}
-
-// A mask with each mask of the table.
-fn with_each(a: u64) {
-    let mut j = 0;
-    while j < 12 {
-        column(a, j);
-        j += 1;
-    }
-}
-
-fn column(a: u64, j: usize)
-    requires { j < 12 }
-{
-    let b = MASKS[j];
-    relations(a, b);
-    unions(a, b);
+    let has = masks::has_taxon(m, answers::Taxon(i));
+    line::whole(b"has_taxon", &[m, u64::from(i)], u64::from(has));
 }
 
 // The functions that ask something of two masks.
 fn relations(a: u64, b: u64) {
-    of_two(b"agree", a, b);
-    line::truth(masks::agree(a, b));
-    line::end();
-    of_two(b"is_within", a, b);
-    line::truth(masks::is_within(a, b));
-    line::end();
-    of_two(b"are_apart", a, b);
-    line::truth(masks::are_apart(a, b));
-    line::end();
-    of_two(b"comes_before", a, b);
-    line::truth(masks::comes_before(a, b));
-    line::end();
-    of_two(b"is_same", a, b);
-    line::truth(masks::is_same(a, b));
-    line::end();
+    line::whole(b"agree", &[a, b], u64::from(masks::agree(a, b)));
+    line::whole(b"is_within", &[a, b], u64::from(masks::is_within(a, b)));
+    line::whole(b"are_apart", &[a, b], u64::from(masks::are_apart(a, b)));
+    line::whole(
+        b"comes_before",
+        &[a, b],
+        u64::from(masks::comes_before(a, b)),
+    );
+    line::whole(b"is_same", &[a, b], u64::from(masks::is_same(a, b)));
 }
 
 // The functions that make a mask of two.
 fn unions(a: u64, b: u64) {
-    of_two(b"union_of", a, b);
-    line::number(masks::union_of(a, b));
-    line::end();
-    of_two(b"taxa_without", a, b);
-    line::number(masks::taxa_without(a, b));
-    line::end();
-}
-
-fn of_one(name: &[u8], m: u64) {
-    line::name(name);
-    line::number(m);
-    line::gives();
-}
-
-fn of_two(name: &[u8], a: u64, b: u64) {
-    line::name(name);
-    line::number(a);
-    line::number(b);
-    line::gives();
+    line::whole(b"union_of", &[a, b], masks::union_of(a, b));
+    line::whole(b"taxa_without", &[a, b], masks::taxa_without(a, b));
 }
 
 // Whether a mask is proper, of fewer taxa than a collection may have, of the fewest, of as many as a
 // mask holds, and of one more.
 fn proper_of(m: u64) {
-    proper(m, 0);
-    proper(m, 3);
-    proper(m, 4);
-    proper(m, 5);
-    proper(m, 63);
-    proper(m, 64);
-    proper(m, 65);
-}
-
-fn proper(m: u64, n: u32) {
-    line::name(b"is_proper");
-    line::number(m);
-    line::number32(n);
-    line::gives();
-    line::truth(masks::is_proper(m, n));
-    line::end();
+    for n in [0u32, 3, 4, 5, 63, 64, 65] {
+        line::whole(
+            b"is_proper",
+            &[m, u64::from(n)],
+            u64::from(masks::is_proper(m, n)),
+        );
+    }
 }
 
 fn numbers_of_taxa() {
@@ -192,11 +129,7 @@ fn numbers_of_taxa() {
 fn every(n: u32)
     requires { n ≤ 64 }
 {
-    line::name(b"every_taxon");
-    line::number32(n);
-    line::gives();
-    line::number(masks::every_taxon(n));
-    line::end();
+    line::whole(b"every_taxon", &[u64::from(n)], masks::every_taxon(n));
 }
 
 fn single_taxa() {
@@ -211,11 +144,11 @@ fn single_taxa() {
 fn only(i: u32)
     requires { i < 64 }
 {
-    line::name(b"only_taxon");
-    line::number32(i);
-    line::gives();
-    line::number(masks::only_taxon(answers::Taxon(i)));
-    line::end();
+    line::whole(
+        b"only_taxon",
+        &[u64::from(i)],
+        masks::only_taxon(answers::Taxon(i)),
+    );
 }
 
 // Clusters with and without taxon 0, of no taxa, of all, of the fewest and of the most taxa.
@@ -240,10 +173,5 @@ fn side(m: u64, n: u32)
     requires n_bound { n ≤ 64 }
     requires m_bound { m < 2 ^ n }
 {
-    line::name(b"side");
-    line::number(m);
-    line::number32(n);
-    line::gives();
-    line::number(masks::side(m, n));
-    line::end();
+    line::whole(b"side", &[m, u64::from(n)], masks::side(m, n));
 }

@@ -11,7 +11,7 @@
 --   batched-length     the verdicts' buffer is as long as before
 --   batch-refused      what a refusal promises
 --   batch-no-lane, batch-short, batch-done     what each return promises, of whole bytes
-use Rattle.std.specs.Prelude.{ℕ, zero, suc, ◌+◌, ◌-◌, ◌≤◌, ◌<◌, ◌≡◌, Bool, ltb, length, get_or, set, take, if◌then◌else◌}
+use Rattle.std.specs.Prelude.{ℕ, zero, suc, ◌+◌, ◌-◌, ◌≤◌, ◌<◌, ◌≡◌, Bool, ltb, length, get_or, set, take, if◌then◌else◌, Ok, Err}
 use Rattle.std.proofs.Math.Numerals.{add-one}
 use Rattle.std.proofs.Common.{arith, ap₂, subst, ◌∙◌, length-append, length-drop, take-append-drop, take_all, drop-set-lt, drop-drop}
 use Rattle.std.proofs.Math.Path.{refl, sym, ap}
@@ -32,7 +32,6 @@ use Rattle.theorems.specs.OwnLaneLaws.{feeding-opening}
 use Rattle.text.specs.EndLaws.{end-inside, has-text, lacks-text}
 use Rattle.answers.specs.declared.Refusal.{Refusal}
 use Rattle.answers.specs.declared.Refusal.TheVariants as why
-use Rattle.answers.specs.declared.Number.TheVariants as number
 use Rattle.answers.specs.declared.Fed.{Fed}
 use Rattle.answers.specs.Answers.{refusal_number, refusing, number_given, progress_given, Small}
 use Rattle.head.specs.Head.{numbers_at, names_at, opening_at}
@@ -253,7 +252,7 @@ batched-length n h l p v x f e =
     rw e (omega (arith, length-append (batching n h l p).verdicts (drop n v), batching-length n h l p, length-drop n v))
 
 -- a refusal leaves the lent bytes and the verdicts' buffer as found
-pub batch-refused : (x : Answer Batched) (l : ℕ) (s v : List ℕ) (r : Refusal) → x ≡ refusing r → BatchedAs x l (number.Refused r) s v s v
+pub batch-refused : (x : Answer Batched) (l : ℕ) (s v : List ℕ) (r : Refusal) → x ≡ refusing r → BatchedAs x l (Err r) s v s v
 unfolding BatchedAs number_given
 batch-refused x l s v r e = rw e (refl, refl, refl)
 
@@ -278,7 +277,7 @@ module _ (s : List ℕ) (l : ℕ) (p v : List ℕ) (w : whole_at s ≡ true) whe
 
     pub batch-done : n ≤ length v → (t x : List ℕ) → Holds (batching n (held_at s) l p).after s t → x ≡ (batching n (held_at s) l p).verdicts ++ drop n v
         → (none_accepted (batching n (held_at s) l p).verdicts ≡ true → SameOutside s l t)
-        → BatchedAs (batch_of s l p (length v)) l (number.Gives n) s v t x
+        → BatchedAs (batch_of s l p (length v)) l (Ok n) s v t x
     batch-done h t x a q f =
         rw (batch-whole, batch-here, le-ltb (length v) n h)
         (unfold BatchedAs number_given in (ap gives (sym (batching-length n (held_at s) l p)), a, rw (batching-length n (held_at s) l p) q, f))

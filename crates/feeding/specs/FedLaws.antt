@@ -8,7 +8,7 @@
 use Prim.Native.Nat.{ℕ, suc, ◌+◌, ◌≤◌, ◌<◌}
 use Rattle.std.proofs.Math.Numerals.{add-one}
 use Rattle.std.proofs.Common.{arith, ◌∙◌, inr, set-set}
-use Rattle.std.specs.Prelude.{◌≡◌, true, false, take, if◌then◌else◌}
+use Rattle.std.specs.Prelude.{◌≡◌, true, false, take, if◌then◌else◌, Result, Ok, Err, Option, None}
 use Rattle.std.proofs.Math.Path.{refl, sym, ap, subst}
 use mathlib.Core.List.{List, []}
 use Rattle.std.proofs.Math.ListN.{length}
@@ -22,8 +22,6 @@ use Rattle.trees.specs.Verdict.{Branches, judged_with}
 use Rattle.theorems.specs.QuoteLaws.{before-all}
 use Rattle.theorems.specs.FeedingLaws.{ends_at, last_part}
 use Rattle.answers.specs.declared.Refusal.TheVariants as why
-use Rattle.answers.specs.declared.Progress.{Progress}
-use Rattle.answers.specs.declared.Progress.TheVariants as progress
 use Rattle.answers.specs.declared.Fed.{Fed}
 use Rattle.answers.specs.Answers.{refusal_number, progress_given}
 use Rattle.head.specs.Head.{numbers_at, names_at, opening_at}
@@ -37,6 +35,8 @@ use Rattle.feeding.specs.Feeding.{reached, fed_of, is_accepted, FedAs}
 use Rattle.feeding.specs.Texts.{Left, FedWell, verdict_on, Finished}
 use Rattle.feeding.specs.HoldLaws.{size-held, lane_below, lane-holds, not-whole, no-lane, in_place, both_ways}
 use Rattle.feeding.specs.FinishLaws.{opening-kept}
+use Rattle.answers.specs.declared.Refusal.{Refusal}
+use Rattle.answers.specs.declared.Tree.{Tree}
 
 -- ---- a lane changed
 
@@ -96,7 +96,7 @@ module _ (s : List ℕ) (l : ℕ) (p : List ℕ) (m : l < (numbers_at s).lanes) 
     taken-part = rw e (before-take (open_in (lane_of (held_at s) l)) p)
 
     module _ (u : List ℕ) (c : LaneIs s l (longer (lane_of (held_at s) l) (take n p)) u) where
-      pub fed-more : n ≡ length p → FedWell s l p (record { taken = n; progress = progress.MoreWanted }) u
+      pub fed-more : n ≡ length p → FedWell s l p (record { taken = n; progress = (Ok None) }) u
       unfolding progress_given is_accepted
       fed-more q =
           let x = unended (open_in (lane_of (held_at s) l)) p (omega (arith, e, q)) in
@@ -108,7 +108,7 @@ module _ (s : List ℕ) (l : ℕ) (p : List ℕ) (m : l < (numbers_at s).lanes) 
             left = rw f (record { holds = lane-holds s l _ u m d; outside = λ z. c.outside });
           }
 
-      module _ (q : n < length p) (r : Progress) (t : List ℕ) (g : Finished u l r t) where
+      module _ (q : n < length p) (r : Result (Option Tree) Refusal) (t : List ℕ) (g : Finished u l r t) where
         y : Lane
         y = longer (lane_of (held_at s) l) (last_part (held_at s) l p)
 
@@ -166,7 +166,7 @@ module _ (s : List ℕ) (l : ℕ) (p : List ℕ) where
   unfolding fed_of
   fed-not-whole e = rw e
 
-  pub feed-not-whole : whole_at s ≡ false → FedAs s l p (record { taken = 0; progress = progress.Refused why.NotWhole }) s
+  pub feed-not-whole : whole_at s ≡ false → FedAs s l p (record { taken = 0; progress = Err why.NotWhole }) s
   unfolding progress_given refusal_number
   feed-not-whole e = record {
     taken = sym (ap (λ (f : held.Fed). f.taken) (fed-not-whole e));
@@ -186,7 +186,7 @@ module _ (s : List ℕ) (l : ℕ) (p : List ℕ) where
       unfolding feeding
       fed-nowhere = rw (held-numbers s, le-ltb l (numbers_at s).lanes h)
 
-      pub feed-no-lane : FedAs s l p (record { taken = 0; progress = progress.Refused why.NoLane }) s
+      pub feed-no-lane : FedAs s l p (record { taken = 0; progress = Err why.NoLane }) s
       unfolding progress_given refusal_number
       feed-no-lane = record {
         taken = sym (ap (λ (f : held.Fed). f.taken) (fed-whole ∙ fed-nowhere));

@@ -9,22 +9,22 @@
 --   FedAs s l p r t        feeding answers r and leaves t
 --   ClosedAs s l r t       closing answers r and leaves t
 --   BatchedAs b l r s v t w     a batch that is b, on lane l, answers r and leaves the lent bytes t, which were s, and the verdicts w, which were v
-use Rattle.std.specs.Prelude.{ℕ, ◌+◌, ◌≤◌, ◌<◌, ◌≡◌, ◌⊎◌, Bool, true, false, ◌&&◌, List, ◌++◌, ltb, length, get_or, drop, if◌then◌else◌}
+use Rattle.std.specs.Prelude.{ℕ, ◌+◌, ◌≤◌, ◌<◌, ◌≡◌, ◌⊎◌, Bool, true, false, ◌&&◌, List, ◌++◌, ltb, length, get_or, drop, if◌then◌else◌, Result}
 use Rattle.trees.specs.Opening.{lane_bytes}
 use Rattle.trees.specs.Plain.{Answer, refused, gives}
 use Rattle.trees.specs.Held.{Closed, more_wanted, accepted, feeding, closing}
 use Rattle.trees.specs.Held as held
 use Rattle.trees.specs.Batch.{none_accepted, Batched, batch}
 use Rattle.answers.specs.declared.Fed.{Fed}
-use Rattle.answers.specs.declared.Finish.{Finish}
-use Rattle.answers.specs.declared.Number.{Number}
 use Rattle.answers.specs.Answers.{finish_given, number_given, progress_given}
 use Rattle.head.specs.Head.{numbers_at}
 use Rattle.layout.specs.Store.{lane_from, held_at, held_in}
 use Rattle.layout.specs.WholeStore.{whole_at}
 use Rattle.store.specs.Lent.{if_whole, Holds}
+use Rattle.answers.specs.declared.Refusal.{Refusal}
 
 -- the call comes to a lane: "checks 1, then 5"
+
 unfoldable pub reached : List ℕ → ℕ → Bool
 unfolding whole_at numbers_at
 reached s l = whole_at s && ltb l (numbers_at s).lanes
@@ -59,14 +59,14 @@ pub record FedAs (s : List ℕ) (l : ℕ) (p : List ℕ) (r : Fed) (t : List ℕ
   pub outside : is_accepted (fed_of s l p).answer ≡ false → SameOutside s l t
 
 -- ".. or a closing"
-pub record ClosedAs (s : List ℕ) (l : ℕ) (r : Finish) (t : List ℕ) : Type 0 where
+pub record ClosedAs (s : List ℕ) (l : ℕ) (r : Result (Unit {0}) Refusal) (t : List ℕ) : Type 0 where
   pub answer : finish_given r ≡ (closed_of s l).answer
   pub found : reached s l ≡ false → t ≡ s
   pub holds : reached s l ≡ true → Holds (closed_of s l).after s t
   pub outside : SameOutside s l t
 
 -- the number of verdicts is answered; they stand at the front of their buffer; where no tree is accepted, only the lane changes
-unfoldable pub BatchedAs : Answer Batched → ℕ → Number → List ℕ → List ℕ → List ℕ → List ℕ → Type 0
+unfoldable pub BatchedAs : Answer Batched → ℕ → Result ℕ Refusal → List ℕ → List ℕ → List ℕ → List ℕ → Type 0
 unfolding number_given
 BatchedAs (refused k) l r s v t w = (number_given r ≡ refused k) × (t ≡ s) × (w ≡ v)
 BatchedAs (gives b) l r s v t w =

@@ -5,7 +5,7 @@
 --   accepts-size       the lent bytes are as many as before
 --   finish-refused     a refused text: the lane is empty, and nothing else has changed
 --   finish-room        a text that gives splits: refused for want of room, or recorded
-use Rattle.std.specs.Prelude.{ℕ, ◌<◌, ◌≡◌, refl, Bool, List, []}
+use Rattle.std.specs.Prelude.{ℕ, ◌<◌, ◌≡◌, refl, Bool, List, [], Result, Option}
 use Rattle.std.proofs.Common.{arith, ◌∙◌, inr, true≢false}
 use Rattle.std.proofs.Math.Path.{sym, ap, subst}
 use Rattle.std.proofs.Math.ListN.{length}
@@ -13,7 +13,6 @@ use Rattle.trees.specs.Plain.{Answer, refused, gives}
 use Rattle.trees.specs.Opening.{store_size}
 use Rattle.trees.specs.Held.{Held, Lane, holding, overrun, lane_of, with_lane, with_tree, room_for, with_room, verdict, finished, recording, accepted}
 use Rattle.trees.specs.Verdict.{Branches, judged_with}
-use Rattle.answers.specs.declared.Progress.{Progress}
 use Rattle.answers.specs.Answers.{progress_given}
 use Rattle.head.specs.Head.{numbers_at, opening_at}
 use Rattle.layout.specs.Store.{trees_held_at, held_at, held_in}
@@ -24,6 +23,8 @@ use Rattle.recording.specs.Recording.{Accepts}
 use Rattle.feeding.specs.Feeding.{is_accepted}
 use Rattle.feeding.specs.Texts.{verdict_on, Finished}
 use Rattle.feeding.specs.HoldLaws.{size-held, lane_below, lane-holds}
+use Rattle.answers.specs.declared.Refusal.{Refusal}
+use Rattle.answers.specs.declared.Tree.{Tree}
 
 -- ---- the verdict
 
@@ -64,13 +65,13 @@ module _ (s : List ℕ) (l : ℕ) (y : Lane) (u : List ℕ) (c : LaneIs s l y u)
 
 -- ---- the text is judged, and the lane empty
 
-pub accepts-size : (a : Answer Branches) (s : List ℕ) (r : Progress) (t : List ℕ) → Accepts a s r t → length t ≡ length s
+pub accepts-size : (a : Answer Branches) (s : List ℕ) (r : Result (Option Tree) Refusal) (t : List ℕ) → Accepts a s r t → length t ≡ length s
 unfolding Accepts
 accepts-size (refused k) s r t h = ap length h.1
 accepts-size (gives x) s r t h = h.1.size
 
 module _ (s : List ℕ) (l : ℕ) (h : l < (numbers_at s).lanes) (u : List ℕ) (c : LaneIs s l (holding []) u) where
-  pub finish-refused : (r : Progress) (k : ℕ) → verdict_on s l ≡ refused k → progress_given r ≡ refused k → Finished s l r u
+  pub finish-refused : (r : Result (Option Tree) Refusal) (k : ℕ) → verdict_on s l ≡ refused k → progress_given r ≡ refused k → Finished s l r u
   unfolding finished recording
   finish-refused r k v e = record {
     answer = rw v e;
@@ -89,7 +90,7 @@ module _ (s : List ℕ) (l : ℕ) (h : l < (numbers_at s).lanes) (u : List ℕ) 
         g.behind i (omega arith) ∙ c.outside i (inr (omega (arith, lane_below s l h)));
   }
 
-  pub finish-room : (x y : Branches) (t : List ℕ) (r : Progress) → y ≡ x → verdict_on s l ≡ room_for (held_at s) x → Accepts (room_for (held_at u) y) u r t → Finished s l r t
+  pub finish-room : (x y : Branches) (t : List ℕ) (r : Result (Option Tree) Refusal) → y ≡ x → verdict_on s l ≡ room_for (held_at s) x → Accepts (room_for (held_at u) y) u r t → Finished s l r t
   finish-room x y t r d v g =
       go (room_for (held_at s) x) refl (subst (λ (z : Answer Branches). Accepts z u r t) (ap (room_for (held_at u)) d ∙ room-kept s l (holding []) u c x) g)
     where

@@ -4,7 +4,7 @@
 --   judged-refused, judged-gives      what is known of either answer
 --   splits_of_lem, lengths-of     what accepting the tree asks
 --   tree-given         the tree that is accepted is the one of the verdict
-use Rattle.std.specs.Prelude.{ℕ, ◌+◌, ◌*◌, ◌≤◌, ◌<◌, ◌≡◌, refl, true, get_or, take, drop, if◌then◌else◌}
+use Rattle.std.specs.Prelude.{ℕ, ◌+◌, ◌*◌, ◌≤◌, ◌<◌, ◌≡◌, refl, true, get_or, take, drop, if◌then◌else◌, Result, Ok, Err}
 use Rattle.std.proofs.Common.{add-zero, arith, sym, ap₂, ◌∙◌, length-append, eqb-true, ne_eqb}
 use Rattle.std.proofs.Math.Path.{ap, subst}
 use mathlib.Core.List.{List, [], ◌∷◌, map}
@@ -46,33 +46,31 @@ use Rattle.layout.specs.WholeStore.{whole_at}
 use Rattle.store.specs.HeldWholeLaws.{opening-facts}
 use Rattle.newick.specs.Words.{word_of, with_words}
 use Rattle.newick.specs.Judge.{JudgedAs, JudgedWith}
-use Rattle.newick.specs.declared.Judged.{Judged}
-use Rattle.newick.specs.declared.Judged.TheVariants.{Refused, Splits}
 use Rattle.recording.specs.Recording.{SplitsOf, length_of_word, lengths_given, LengthsOf, tree_given}
 use Rattle.feeding.specs.Judging.{JudgedIn}
 
 -- ---- the reader's answer
 
 module _ (o : Opening) (s : List ℕ) (u v t : List ℕ) where
-  pub without-lengths : (r : Judged) → o.numbers.kept ≡ 0 → JudgedAs o s r u t → JudgedIn o s r u v t v
+  pub without-lengths : (r : Result ℕ Refusal) → o.numbers.kept ≡ 0 → JudgedAs o s r u t → JudgedIn o s r u v t v
   unfolding JudgedIn JudgedAs as_before
-  without-lengths (Refused r) z h = (rw z (judged-not-kept o.names s ∙ ap as_before h.0), h.1, refl)
-  without-lengths (Splits k) z h = (record { splits = h.0; lengths = [] }, rw z (judged-not-kept o.names s ∙ ap as_before h.1), h.2, h.3, refl)
+  without-lengths (Err r) z h = (rw z (judged-not-kept o.names s ∙ ap as_before h.0), h.1, refl)
+  without-lengths (Ok k) z h = (record { splits = h.0; lengths = [] }, rw z (judged-not-kept o.names s ∙ ap as_before h.1), h.2, h.3, refl)
 
-  pub with-lengths : (r : Judged) (w : List ℕ) → o.numbers.kept ≡ 1 → JudgedWith o s r u v t w → JudgedIn o s r u v t w
+  pub with-lengths : (r : Result ℕ Refusal) (w : List ℕ) → o.numbers.kept ≡ 1 → JudgedWith o s r u v t w → JudgedIn o s r u v t w
   unfolding JudgedIn JudgedWith
-  with-lengths (Refused r) w z h = (rw z h.0, h.1, h.2)
-  with-lengths (Splits k) w z h = (h.0, rw z h.1, h.2, h.3, h.4)
+  with-lengths (Err r) w z h = (rw z h.0, h.1, h.2)
+  with-lengths (Ok k) w z h = (h.0, rw z h.1, h.2, h.3, h.4)
 
-module _ (o : Opening) (s : List ℕ) (r : Judged) (u v t w : List ℕ) (h : JudgedIn o s r u v t w) where
-  pub judged-refused : (q : Refusal) → r ≡ Refused q → judged_with o.numbers.kept o.names s ≡ refused (refusal_number q)
+module _ (o : Opening) (s : List ℕ) (r : Result ℕ Refusal) (u v t w : List ℕ) (h : JudgedIn o s r u v t w) where
+  pub judged-refused : (q : Refusal) → r ≡ Err q → judged_with o.numbers.kept o.names s ≡ refused (refusal_number q)
   unfolding JudgedIn
-  judged-refused q e = (subst (λ (z : Judged). JudgedIn o s z u v t w) e h).0
+  judged-refused q e = (subst (λ (z : Result ℕ Refusal). JudgedIn o s z u v t w) e h).0
 
-  pub judged-gives : (k : ℕ) → r ≡ Splits k
+  pub judged-gives : (k : ℕ) → r ≡ Ok k
       → (b : Branches) × (judged_with o.numbers.kept o.names s ≡ gives b) × (k ≡ length b.splits) × (t ≡ with_records o b.splits u) × (w ≡ with_words b.lengths v)
   unfolding JudgedIn
-  judged-gives k e = subst (λ (z : Judged). JudgedIn o s z u v t w) e h
+  judged-gives k e = subst (λ (z : Result ℕ Refusal). JudgedIn o s z u v t w) e h
 
 -- ---- the lengths of a tree are doubles
 

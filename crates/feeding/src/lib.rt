@@ -7,7 +7,7 @@
 ghost use Rattle.feeding.specs.Feeding.{FedAs, ClosedAs, batch_of, BatchedAs};
 ghost use Rattle.std.specs.Prelude.{length};
 
-use answers::{Fed, Finish, Lane, Number, Progress, Refusal};
+use answers::{Fed, Lane, Refusal};
 use head::KEYS;
 
 mod texts;
@@ -22,13 +22,13 @@ pub fn feed(s: &mut [u8], l: Lane, piece: &[u8]) -> Fed
     if !store::is_whole(s) {
         return Fed {
             taken: 0,
-            progress: Progress::Refused(Refusal::NotWhole),
+            progress: Err(Refusal::NotWhole),
         };
     }
     if head::lanes(s) as usize <= l.0 {
         return Fed {
             taken: 0,
-            progress: Progress::Refused(Refusal::NoLane),
+            progress: Err(Refusal::NoLane),
         };
     }
     let mut starts = [0u8; KEYS];
@@ -38,14 +38,14 @@ pub fn feed(s: &mut [u8], l: Lane, piece: &[u8]) -> Fed
 }
 
 // Closes a lane: empties it, and answers 6 if it had run over, 7 if it held any byte but blanks.
-pub fn close(s: &mut [u8], l: Lane) -> Finish
+pub fn close(s: &mut [u8], l: Lane) -> Result<(), Refusal>
     ensures { ClosedAs s.old l.0 result s.new }
 {
     if !store::is_whole(s) {
-        return Finish::Refused(Refusal::NotWhole);
+        return Err(Refusal::NotWhole);
     }
     if head::lanes(s) as usize <= l.0 {
-        return Finish::Refused(Refusal::NoLane);
+        return Err(Refusal::NoLane);
     }
     let answer = lanes::closing_answer(s, l);
     lanes::empty_lane(s, l);
@@ -54,23 +54,23 @@ pub fn close(s: &mut [u8], l: Lane) -> Finish
 
 // Feeds a piece with any number of texts to a lane, tests the store once, and writes each verdict: a
 // refusal's number, or 256 more than the tree's. Takes the whole piece.
-pub fn batch(s: &mut [u8], l: Lane, piece: &[u8], verdicts: &mut [u32]) -> Number
+pub fn batch(s: &mut [u8], l: Lane, piece: &[u8], verdicts: &mut [u32]) -> Result<usize, Refusal>
     ensures { BatchedAs (batch_of s.old l.0 piece.now (length verdicts.old)) l.0 result s.old verdicts.old s.new verdicts.new }
 {
     if !store::is_whole(s) {
-        return Number::Refused(Refusal::NotWhole);
+        return Err(Refusal::NotWhole);
     }
     if head::lanes(s) as usize <= l.0 {
-        return Number::Refused(Refusal::NoLane);
+        return Err(Refusal::NoLane);
     }
     let quoted = lanes::quotes_open(s, l);
     let n = text::count_texts(piece, quoted);
     if verdicts.len() < n {
-        return Number::Refused(Refusal::TooShort);
+        return Err(Refusal::TooShort);
     }
     let mut starts = [0u8; KEYS];
     let mut links = [0u8; 64];
     head::build_index(s, &mut starts, &mut links);
-    texts::feed_texts(s, &starts, &links, l, piece, n, verdicts);
-    Number::Gives(n)
+    texts::feed_texts(s, &starts, &links, l, piece, &mut verdicts[..n]);
+    Ok(n)
 }

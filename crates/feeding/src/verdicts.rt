@@ -12,14 +12,18 @@ ghost use Rattle.newick.specs.Judge.{Prepared};
 ghost use Rattle.feeding.specs.Judging.{JudgedIn};
 ghost use Rattle.feeding.specs.Texts.{Finished};
 
-use answers::{Lane, Progress, Refusal};
+use answers::{Lane, Refusal, Tree};
 use head::KEYS;
 use layout::MOST_TEXT;
-use newick::Judged;
 use records::MOST_WORDS;
 
 // The verdict on the text of a lane, which is empty afterwards.
-pub(crate) fn finish_text(s: &mut [u8], starts: &[u8; KEYS], links: &[u8; 64], l: Lane) -> Progress
+pub(crate) fn finish_text(
+    s: &mut [u8],
+    starts: &[u8; KEYS],
+    links: &[u8; 64],
+    l: Lane,
+) -> Result<Option<Tree>, Refusal>
     requires s_value { whole_at s.old ≡ true }
     requires l_bound { l.0 < (numbers_at s.old).lanes }
     requires indexed { Indexed (names_at s.old) starts.now links.now }
@@ -28,16 +32,14 @@ pub(crate) fn finish_text(s: &mut [u8], starts: &[u8; KEYS], links: &[u8; 64], l
     let n = lanes::lane_length(s, l);
     if MOST_TEXT < n {
         lanes::empty_lane(s, l);
-        return Progress::Refused(Refusal::TooLong);
+        return Err(Refusal::TooLong);
     }
     let mut records = [0u64; MOST_WORDS];
     let mut lengths = [0u64; 64];
     let judged = judge_lane(s, starts, links, l, n, &mut records, &mut lengths);
     lanes::empty_lane(s, l);
-    match judged {
-        Judged::Refused(r) => Progress::Refused(r),
-        Judged::Splits(k) => recording::accept(s, k, &records, &lengths),
-    }
+    let k = judged?;
+    recording::accept(s, k, &records, &lengths)
 }
 
 // The verdict on the n bytes that a lane holds.
@@ -49,7 +51,7 @@ fn judge_lane(
     n: usize,
     records: &mut [u64],
     lengths: &mut [u64],
-) -> Judged
+) -> Result<usize, Refusal>
     requires s_value { whole_at s.now ≡ true }
     requires l_bound { l.0 < (numbers_at s.now).lanes }
     requires indexed { Indexed (names_at s.now) starts.now links.now }
@@ -68,7 +70,7 @@ pub fn judge_text(
     text: &[u8],
     records: &mut [u64],
     lengths: &mut [u64],
-) -> Judged
+) -> Result<usize, Refusal>
     requires prepared { Prepared s.now starts.now links.now }
     requires text_len_bound { length text.now ≤ most_text }
     requires most_words_in_bounds { (most_words ≤ length records.old) × (most_lengths ≤ length lengths.old) }

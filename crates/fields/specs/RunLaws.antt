@@ -1,12 +1,12 @@
 -- The laws of `copied` and `cleared`, and what a number is after them. Assumes nothing.
 use Rattle.std.specs.Prelude.{◌≡◌, refl, ◌⊎◌, List, [], ◌∷◌, ◌++◌, get_or, set, take, drop}
-use Rattle.std.proofs.Common.{ap, ◌∙◌, inl, inr, add-zero, length-set, length-take-le, get_or-set_same, get_or-set_other, get_or-take, get_or-drop}
+use Rattle.std.proofs.Common.{ap, zero-add, take_all, ◌∙◌, inl, inr, add-zero, length-set, length-take-le, get_or-set_same, get_or-set_other, get_or-take, get_or-drop}
 use Prim.Native.Nat.{ℕ, zero, suc, ◌+◌, ◌-◌, ◌≤◌, ◌<◌}
 use Rattle.std.proofs.Math.Numerals.{add-one}
 use native.Mathlib.Omega.{arith}
 use Rattle.std.proofs.Math.ListN.{length, replicate, length-take, length-drop, get_or-replicate, replicate-append-replicate}
 use Rattle.std.proofs.lemmas.List.{length-replicate, set_comm}
-use Rattle.std.proofs.lemmas.List.Edits.{sets}
+use Rattle.std.proofs.lemmas.List.Edits.{sets, sets-eq}
 use Rattle.std.proofs.Math.Seq.{length-sets, take-suc, drop-cons}
 use Rattle.fields.specs.Field.{number}
 use Rattle.fields.specs.FieldLaws.{number_same, number-zero}
@@ -50,7 +50,7 @@ sets-front (w ∷ vs) s at j v h =
 -- ---- a run that is copied
 
 -- the bytes that are copied number n
-run_length : (t : List ℕ) (from n : ℕ) → from + n ≤ length t → length (take n (drop from t)) ≡ n
+pub run_length : (t : List ℕ) (from n : ℕ) → from + n ≤ length t → length (take n (drop from t)) ≡ n
 run_length t from n h = let e = length-drop from t in length-take-le n (drop from t) (omega arith)
 
 module _ (s : List ℕ) (to : ℕ) (t : List ℕ) (from n : ℕ) where
@@ -154,3 +154,8 @@ module _ (s : List ℕ) (at n : ℕ) where
 pub cleared-none : (s : List ℕ) (at : ℕ) → cleared s at 0 ≡ s
 unfolding cleared
 cleared-none s at = refl
+
+-- a whole list that is copied to the front
+pub copied-whole : (out text after : List ℕ) → length text ≤ length out → after ≡ copied out 0 text 0 (length text) → after ≡ text ++ drop (length text) out
+unfolding copied
+copied-whole out text after h e = e ∙ rw (take_all (length text) text (omega arith)) (sets-eq text out 0 (omega arith) ∙ rw zero-add)

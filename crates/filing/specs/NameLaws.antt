@@ -4,7 +4,7 @@
 --   quote-turns, quote-stays                whether quotes are open behind it
 --   names-all, names_more, names-last       the names from byte i on: from the first byte, with one byte more, behind the last
 --   taxa-many, taxa-few                     how many taxa they are
-use Rattle.std.specs.Prelude.{◌≡◌, ℕ, ◌+◌, ◌<◌, ◌≤◌, Bool, true, false, not, ◌&&◌, List, [], ◌∷◌, length, drop, ◌==◌, ◌≢◌, slice_index, refl, if◌then◌else◌}
+use Rattle.std.specs.Prelude.{◌≡◌, ℕ, ◌+◌, ◌<◌, ◌≤◌, Bool, true, false, not, ◌&&◌, List, [], ◌∷◌, length, drop, Some, None, ◌==◌, ◌≢◌, slice_index, refl, if◌then◌else◌}
 use Rattle.std.proofs.Common.{add-one, arith, drop_of_length-le, drop-cons}
 use Rattle.std.proofs.Math.Path.{sym}
 use borrow.Author.Tests.{lt-ltb, le-ltb, eq-eqb, ne_eqb}
@@ -58,10 +58,10 @@ pub names-last : (q : Bool) (s : List ℕ) (i : ℕ) → length s ≤ i → leng
 unfolding parts
 names-last q s i h = rw (drop_of_length-le s h)
 
-pub taxa-many : (n : ℕ) → 64 < n → 0 ≡ taxa_of n
+pub taxa-many : (n : ℕ) → 64 < n → None ≡ taxa_of n
 unfolding taxa_of
 taxa-many n h = rw (lt-ltb 64 n h)
 
-pub taxa-few : (n r : ℕ) → n ≤ 64 → r ≡ n → r ≡ taxa_of n
+pub taxa-few : (n r : ℕ) → n ≤ 64 → r ≡ n → Some r ≡ taxa_of n
 unfolding taxa_of
-taxa-few n r h e = rw (le-ltb 64 n h) e
+taxa-few n r h e = rw (le-ltb 64 n h, e) refl

@@ -1,10 +1,9 @@
 -- Files that are written.
 --
 --   SavedAs a r     whether the bytes that the call a gives are saved: not where it refuses
-use Rattle.std.specs.Prelude.{◌≡◌, Bool, false}
-use Rattle.answers.specs.declared.Number.{Number}
-use Rattle.answers.specs.declared.Number.TheVariants as number
+use Rattle.std.specs.Prelude.{◌≡◌, Bool, false, Result, Ok, Err, ℕ}
+use Rattle.answers.specs.declared.Refusal.{Refusal}
 
-unfoldable pub SavedAs : Number → Bool → Type 0
-SavedAs (number.Refused k) r = r ≡ false
-SavedAs (number.Gives n) r = Unit {0}
+unfoldable pub SavedAs : Result ℕ Refusal → Bool → Type 0
+SavedAs (Err k) r = r ≡ false
+SavedAs (Ok n) r = Unit {0}

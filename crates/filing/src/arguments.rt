@@ -2,7 +2,6 @@
 ghost use Rattle.std.specs.Prelude.{◌≤◌};
 ghost use Rattle.io.specs.Counts.{IsPrefixLen};
 
-use crate::parts;
 use std::env::FillError;
 use std::rt::Env;
 
@@ -11,8 +10,7 @@ use std::rt::Env;
 pub fn argument(rt: &impl Env, i: usize, buf: &mut [u8]) -> usize
     ensures { IsPrefixLen result buf.new }
 {
-    let had = rt.arg(i, buf);
-    bytes_of(had, buf)
+    bytes_of(rt, i, buf)
 }
 
 // How many arguments there are; more than `most` are counted as `most`.
@@ -27,22 +25,15 @@ pub fn arguments_within(rt: &impl Env, most: usize) -> usize
     most
 }
 
-// How many bytes of buf are an argument's that was asked for.
-pub(crate) fn bytes_of(had: Result<usize, FillError>, buf: &[u8]) -> usize
-    ensures { IsPrefixLen result buf.now }
+// The same as `argument`, for the functions of this crate.
+pub(crate) fn bytes_of(rt: &impl Env, i: usize, buf: &mut [u8]) -> usize
+    ensures { IsPrefixLen result buf.new }
 {
-    match had {
-        Ok(n) => parts::front(n, buf),
-        Err(_) => parts::front(0, buf),
-    }
+    rt.arg(i, buf).unwrap_or(0)
 }
 
 // Whether there is an argument i.
 fn is_there(rt: &impl Env, i: usize) -> bool {
     let mut none = [0u8; 1];
-    match rt.arg(i, &mut none) {
-        Ok(_) => true,
-        Err(FillError::TooLong) => true,
-        Err(FillError::NotPresent) => false,
-    }
+    !matches!(rt.arg(i, &mut none), Err(FillError::NotPresent))
 }

@@ -1,12 +1,11 @@
 // The collection that a list of names opens. It has room for as many trees and splits as any may have, and keeps no lengths.
-ghost use Rattle.std.specs.Prelude.{◌≡◌, ◌+◌, ◌≤◌};
-ghost use Rattle.io.specs.Counts.{IsPrefixLen};
+ghost use Rattle.std.specs.Prelude.{◌≡◌, ◌+◌, ◌≤◌, IfSome, IfOk};
 ghost use Rattle.trees.specs.Text.{turned};
 ghost use Rattle.trees.specs.Names.{name_count};
 ghost use Rattle.filing.specs.Names.{taxa_of, spaces_at};
 
-use crate::{arguments, parts, reading, telling};
-use answers::Finish;
+use crate::{parts, reading, telling};
+use answers::Refusal;
 use std::rt::{Env, Files};
 
 // The rooms, and as many hash places as they allow.
@@ -17,7 +16,7 @@ const SPLIT_ROOM: u32 = 4096;
 const PLACES: u32 = 8192;
 
 // Opens a collection of so many lanes in the lent bytes over the names in the first line of the file that argument i names. The file is
-// read into `names`. Answers the number of taxa; 0, where that is told to be impossible.
+// read into `names`. Answers the number of taxa; none, where that is told to be impossible.
 pub fn open_names<R: Env + Files + Input>(
     rt: &R,
     program: &[u8],
@@ -25,15 +24,11 @@ pub fn open_names<R: Env + Files + Input>(
     lanes: u32,
     names: &mut [u8],
     lent: &mut [u8],
-) -> u32
-    ensures { result ≤ 64 }
+) -> Option<u32>
+    ensures { IfSome result (λ taxa. taxa ≤ 64) }
 {
     let mut path = io::buffer();
-    let had = rt.arg(i, &mut path);
-    if !reading::is_named(program, had) {
-        return 0;
-    }
-    let n = arguments::bytes_of(had, &path);
+    let n = reading::path_at(rt, program, i, &mut path)?;
     open_file(rt, &path[..n], lanes, names, lent)
 }
 
@@ -44,45 +39,44 @@ fn open_file<R: Files + Input>(
     lanes: u32,
     names: &mut [u8],
     lent: &mut [u8],
-) -> u32
-    ensures { result ≤ 64 }
+) -> Option<u32>
+    ensures { IfSome result (λ taxa. taxa ≤ 64) }
 {
-    let held = reading::read_named(rt, path, false, names);
-    if !held.is_good {
-        return 0;
-    }
-    let n = parts::front(held.bytes, names);
-    open_line(path, lanes, &names[..n], lent)
-}
-
-// The same over the first line of these bytes of the file.
-fn open_line(path: &[u8], lanes: u32, names: &[u8], lent: &mut [u8]) -> u32
-    ensures { result ≤ 64 }
-{
-    let end = parts::line_end(names);
-    let taxa = taxa_in(&names[..end]);
-    match open(&names[..end], taxa, lanes, lent) {
-        Finish::Done => taxa,
-        Finish::Refused(r) => {
+    let n = reading::read_named(rt, path, false, names)?;
+    let end = parts::line_end(&names[..n]);
+    match open(&names[..end], lanes, lent) {
+        Ok(taxa) => Some(taxa),
+        Err(r) => {
             telling::tell(path, answers::refusal_number(r));
-            0
+            None
         }
     }
 }
 
-// How many names the line has, one more than its spaces outside quotes; 0, where they are more than there can be taxa.
-fn taxa_in(line: &[u8]) -> u32
-    ensures upper_bound { result ≤ 64 }
+// Opens a collection of so many lanes over the names in this line, and answers how many they are.
+fn open(line: &[u8], lanes: u32, lent: &mut [u8]) -> Result<u32, Refusal>
+    ensures { IfOk result (λ taxa. taxa ≤ 64) }
+{
+    let taxa = taxa_in(line).ok_or(Refusal::OutOfRange)?;
+    let mut constants = [0u64; 64];
+    fill(&mut constants);
+    let own = &constants[..taxa as usize];
+    table::open(
+        lent, taxa, lanes, TREE_ROOM, SPLIT_ROOM, PLACES, false, line, own, own,
+    )?;
+    Ok(taxa)
+}
+
+// How many names the line has, one more than its spaces outside quotes; none, where they are more than there can be taxa.
+fn taxa_in(line: &[u8]) -> Option<u32>
+    ensures upper_bound { IfSome result (λ taxa. taxa ≤ 64) }
     ensures value { result ≡ taxa_of (name_count line.now) }
 {
     let mut spaces = 0;
     let mut quoted = false;
-    let mut i = 0;
-    while i < line.len() {
-        let b = line[i];
-        spaces += space_at(quoted, b);
-        quoted = turn_quotes(quoted, b);
-        i += 1;
+    for b in line {
+        spaces += space_at(quoted, *b);
+        quoted = turn_quotes(quoted, *b);
     }
     one_more(spaces)
 }
@@ -92,13 +86,7 @@ fn taxa_in(line: &[u8]) -> u32
 fn space_at(quoted: bool, b: u8) -> usize
     ensures { (result ≡ spaces_at quoted b) × (result ≤ 1) }
 {
-    if quoted {
-        return 0;
-    }
-    if b == 32 {
-        return 1;
-    }
-    0
+    usize::from(!quoted && b == b' ')
 }
 
 // Whether quotes are open behind b.
@@ -106,66 +94,26 @@ fn space_at(quoted: bool, b: u8) -> usize
 fn turn_quotes(quoted: bool, b: u8) -> bool
     ensures { result ≡ turned quoted b }
 {
-    if b == 39 {
-        return !quoted;
-    }
-    quoted
+    if b == b'\'' { !quoted } else { quoted }
 }
 
-// One more than so many spaces; 0, where that is more than there can be taxa.
+// One more than so many spaces; none, where that is more than there can be taxa.
 #[tactic(auto, unfolding(crate::specs::Names::taxa_of))]
-fn one_more(spaces: usize) -> u32
-    ensures upper_bound { result ≤ 64 }
+fn one_more(spaces: usize) -> Option<u32>
+    ensures upper_bound { IfSome result (λ taxa. taxa ≤ 64) }
     ensures value { result ≡ taxa_of (spaces + 1) }
 {
     if 63 < spaces {
-        return 0;
+        return None;
     }
-    spaces as u32 + 1
-}
-
-// Opens a collection of so many names.
-fn open(line: &[u8], taxa: u32, lanes: u32, lent: &mut [u8]) -> Finish {
-    let mut constants = [0u64; 64];
-    fill(&mut constants);
-    open_with(line, taxa, lanes, &constants, lent)
-}
-
-// The same with these constants, of which each taxon has one.
-fn open_with(line: &[u8], taxa: u32, lanes: u32, constants: &[u64], lent: &mut [u8]) -> Finish {
-    let n = constants_within(taxa as usize, constants);
-    table::open(
-        lent,
-        taxa,
-        lanes,
-        TREE_ROOM,
-        SPLIT_ROOM,
-        PLACES,
-        false,
-        line,
-        &constants[..n],
-        &constants[..n],
-    )
-}
-
-// So many of the constants as there are, at most n.
-fn constants_within(n: usize, constants: &[u64]) -> usize
-    ensures { IsPrefixLen result constants.now }
-{
-    if n < constants.len() {
-        n
-    } else {
-        constants.len()
-    }
+    Some(spaces as u32 + 1)
 }
 
 // Puts numbers below the hash places. They decide nothing that is written or told.
 fn fill(constants: &mut [u64]) {
-    let mut x = 1u64;
-    let mut i = 0;
-    while i < constants.len() {
+    let mut x = 1;
+    for constant in constants {
         x = x * 75 % 8191;
-        constants[i] = x;
-        i += 1;
+        *constant = x;
     }
 }

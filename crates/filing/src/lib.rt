@@ -16,10 +16,12 @@
 //     put_verdicts, put_closing     the texts of a file that are refused
 //     save_answer                   a file that is written
 //     open_names                    a collection
+//     exit_status                   how a program ends
 #![tactic(auto)]
 
 mod arguments;
 mod collection;
+mod ending;
 mod failing;
 mod parts;
 mod reading;
@@ -29,8 +31,9 @@ mod waiting;
 
 pub use arguments::{argument, arguments_within};
 pub use collection::open_names;
+pub use ending::{Done, exit_status};
 pub use parts::{begins, numbers_within, same, within};
-pub use reading::{Held, Named, Source, begin_file, name_at, next_piece, read_file, read_rest};
+pub use reading::{Held, Source, begin_file, name_at, next_piece, read_file, read_rest};
 pub use saving::save_answer;
-pub use telling::{Told, put_closing, put_verdicts, tell_refused, tell_refused_argument};
+pub use telling::{put_closing, put_verdicts, tell_refused, tell_refused_argument};
 pub use waiting::{STDERR_FILENO, STDOUT_FILENO, Waiting, flush, nothing_waits, put, put_counted};

@@ -5,38 +5,23 @@ ghost use Rattle.answers.specs.Answers.{finish_given};
 ghost use Rattle.trees.specs.Batch.{refused_in, refused_after};
 
 use crate::waiting::{STDERR_FILENO, Waiting};
-use crate::{arguments, parts, waiting};
-use answers::{Finish, Number};
+use crate::{arguments, waiting};
+use answers::Refusal;
 use std::rt::Env;
 
 // The least verdict that is no refusal: an accepted tree's number is given with 256 added.
 const TAKEN: u32 = 256;
 
-// Nothing waits to be told.
-const NOTHING_TOLD: Waiting = Waiting {
-    fd: STDERR_FILENO,
-    bytes: 0,
-    is_good: true,
-};
-
-// What waits behind verdicts, and how many of them are refusals.
-#[derive(Clone, Copy)]
-pub struct Told {
-    pub waiting: Waiting,
-    pub refused: usize,
-}
-
-// Tells that what argument i names is refused with the number k. Nothing waits behind it.
+// Tells that what argument i names is refused with number k, whatever it is. Nothing waits behind it.
 pub fn tell_refused_argument(rt: &impl Env, i: usize, k: u32) -> Waiting
     ensures { result.bytes ≡ 0 }
 {
     let mut path = io::buffer();
-    let had = rt.arg(i, &mut path);
-    let n = arguments::bytes_of(had, &path);
+    let n = arguments::bytes_of(rt, i, &mut path);
     tell(&path[..n], k)
 }
 
-// Tells that what has this name is refused with the number k. Nothing waits behind it.
+// Tells that what has this name is refused with number k, whatever it is. Nothing waits behind it.
 pub fn tell_refused(name: &[u8], k: u32) -> Waiting
     ensures { result.bytes ≡ 0 }
 {
@@ -47,109 +32,70 @@ pub fn tell_refused(name: &[u8], k: u32) -> Waiting
 pub(crate) fn tell(name: &[u8], k: u32) -> Waiting
     ensures { result.bytes ≡ 0 }
 {
-    let mut out = [0u8; 512];
-    let named = waiting::add(&mut out, name, NOTHING_TOLD);
-    let told = put_refusal(&mut out, k, named);
-    let mut next = NOTHING_TOLD;
-    next.is_good = waiting::write_waiting(&out, told);
-    next
+    let mut out = waiting::empty(STDERR_FILENO);
+    waiting::add(&mut out, name);
+    put_refusal(&mut out, k);
+    waiting::write_waiting(&mut out);
+    out.bytes = 0;
+    out
 }
 
-// Puts the lines of the verdicts that are refusals, of texts behind `first` others of their file. Texts are counted from 1.
+// Puts the lines of the verdicts that are refusals, of texts behind `first` others of their file, and answers how many they are. Texts are
+// counted from 1.
 #[tactic(auto, using(crate::specs::VerdictLaws::verdict_laws))]
-pub fn put_verdicts(
-    out: &mut [u8],
-    name: &[u8],
-    first: usize,
-    verdicts: &[u32],
-    before: Waiting,
-) -> Told
-    ensures { result.refused ≡ refused_in verdicts.now }
+pub fn put_verdicts(out: &mut Waiting, name: &[u8], first: usize, verdicts: &[u32]) -> usize
+    ensures { result ≡ refused_in verdicts.now }
 {
-    let mut waiting = before;
     let mut refused = 0;
-    let mut i = 0;
-    while i < verdicts.len() {
-        let texts = std::num::wrapping_add_usize(first, i);
-        waiting = put_verdict(out, name, texts, verdicts[i], waiting);
+    for i in 0..verdicts.len() {
         if verdicts[i] < TAKEN {
+            put_refused_tree(out, name, first.wrapping_add(i), verdicts[i]);
             refused += 1;
         }
-        i += 1;
     }
-    Told { waiting, refused }
+    refused
 }
 
-// Puts the line of the verdict on the text behind so many others, where it is a refusal.
-fn put_verdict(
-    out: &mut [u8],
-    name: &[u8],
-    texts: usize,
-    verdict: u32,
-    before: Waiting,
-) -> Waiting {
-    if TAKEN <= verdict {
-        return before;
-    }
-    put_refused_tree(out, name, texts, verdict, before)
-}
-
-// Puts the line of a text that was unfinished at the end of its file, behind `texts` others, where closing refused it.
+// Puts the line of a text that was unfinished at the end of its file, behind `texts` others, where closing refused it, and answers how many
+// that are.
+#[tactic(auto, unfolding(trees::specs::Batch::refused_after, answers::specs::Answers::finish_given))]
 pub fn put_closing(
-    out: &mut [u8],
+    out: &mut Waiting,
     name: &[u8],
     texts: usize,
-    answer: Finish,
-    before: Waiting,
-) -> Told
-    ensures { result.refused ≡ refused_after 0 (finish_given answer) }
+    answer: Result<(), Refusal>,
+) -> usize
+    ensures { result ≡ refused_after 0 (finish_given answer) }
 {
-    match answer {
-        Finish::Done => Told {
-            waiting: before,
-            refused: 0,
-        },
-        Finish::Refused(r) => {
-            let k = answers::refusal_number(r);
-            Told {
-                waiting: put_refused_tree(out, name, texts, k, before),
-                refused: 1,
-            }
-        }
+    if let Err(r) = answer {
+        put_refused_tree(out, name, texts, answers::refusal_number(r));
     }
+    usize::from(answer.is_err())
 }
 
 // Puts the line of the text behind so many others, which is refused with the number k.
-fn put_refused_tree(out: &mut [u8], name: &[u8], texts: usize, k: u32, before: Waiting) -> Waiting {
-    let named = waiting::add(out, name, before);
-    let begun = waiting::add(out, b", tree ", named);
-    let tree = std::num::wrapping_add_usize(texts, 1);
-    let counted = waiting::add_number(out, tree as u64, begun);
-    put_refusal(out, k, counted)
+fn put_refused_tree(out: &mut Waiting, name: &[u8], texts: usize, k: u32) {
+    waiting::add(out, name);
+    waiting::add(out, b", tree ");
+    waiting::add_number(out, texts.wrapping_add(1) as u64);
+    put_refusal(out, k);
 }
 
-// Puts the end of a line on what is refused with the number k.
-fn put_refusal(out: &mut [u8], k: u32, before: Waiting) -> Waiting {
-    let begun = waiting::add(out, b": refused ", before);
-    let counted = waiting::add_number(out, k as u64, begun);
-    put_reason(out, k, counted)
-}
-
-// Puts refusal number k in words, and ends the line.
-fn put_reason(out: &mut [u8], k: u32, before: Waiting) -> Waiting {
+// Puts the end of a line on what is refused with the number k: that and in words.
+fn put_refusal(out: &mut Waiting, k: u32) {
+    waiting::add(out, b": refused ");
+    waiting::add_number(out, u64::from(k));
     let mut text = [0u8; 64];
     let n = reason_in(k, &mut text);
-    let begun = waiting::add(out, b", ", before);
-    let told = waiting::add(out, &text[..n], begun);
-    waiting::add(out, b"\n", told)
+    waiting::add(out, b", ");
+    waiting::add(out, &text[..n]);
+    waiting::add(out, b"\n");
 }
 
 // Writes refusal number k in words to the front of the text, and answers how many bytes that are.
 fn reason_in(k: u32, text: &mut [u8]) -> usize
     ensures { IsPrefixLen result text.new }
 {
-    match reasons::reason(k, text) {
-        Number::Gives(n) => parts::front(n, text),
-        Number::Refused(_) => parts::front(0, text),
-    }
+    let n = reasons::reason(k, text).unwrap_or(0);
+    n.min(text.len())
 }

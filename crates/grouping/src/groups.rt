@@ -36,10 +36,8 @@ fn put_each(s: &[u8], list: &[u64], counts: &[u32], out: &mut [u8], at: usize) -
     ensures upper_bound { result ≤ at + 4300 * length list.now }
 {
     let mut e = at;
-    let mut k = 0;
-    while k < list.len() {
+    for k in 0..list.len() {
         e = put_line(s, list[k], counts[k], out, e);
-        k += 1;
     }
     e
 }

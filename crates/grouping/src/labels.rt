@@ -34,12 +34,10 @@ pub(crate) fn put_labels(s: &[u8], m: u64, out: &mut [u8], at: usize) -> usize
 {
     let n = head::taxa(s);
     let mut e = at;
-    let mut i = 0;
-    while i < n {
+    for i in 0..n {
         if masks::has_taxon(m, Taxon(i)) {
             e = put_label(s, Taxon(i), out, e);
         }
-        i += 1;
     }
     e
 }
@@ -52,7 +50,7 @@ pub(crate) fn put_group(s: &[u8], m: u64, count: u32, out: &mut [u8], at: usize)
     ensures put { Put out.old at (spaced (digits_of count ∷ labels (names_at s.now) (taxa_in (numbers_at s.now).taxa m)) ++ 10 ∷ []) out.new result }
     ensures upper_bound { result ≤ at + 4295 }
 {
-    let b = put_counted(out, at, b" ", count as u64);
+    let b = put_counted(out, at, b" ", u64::from(count));
     let e = put_labels(s, m, out, b);
     put_end(out, e)
 }

@@ -22,8 +22,7 @@ pub fn majority_groups(s: &[u8], masks: &mut [u64], counts: &mut [u32]) -> usize
     let least = layout::trees_held(s) / 2 + 1;
     let held = layout::splits_held(s);
     let mut n = 0;
-    let mut k = 0;
-    while k < held {
+    for k in 0..held {
         let row = rows::row_of(s, Split(k));
         let count = rows::count_at(s, row);
         if least <= count {
@@ -31,7 +30,6 @@ pub fn majority_groups(s: &[u8], masks: &mut [u64], counts: &mut [u32]) -> usize
             counts[n] = count as u32;
             n += 1;
         }
-        k += 1;
     }
     n
 }

@@ -17,14 +17,12 @@ pub(crate) fn nearest_place(list: &[u64], i: Taxon, j: Taxon) -> usize
     ensures value { result ≡ place_of i.0 j.0 list.now }
     ensures upper_bound { result ≤ length list.now }
 {
-    let mut k = 0;
-    while k < list.len() {
+    for k in 0..list.len() {
         if has_both(list[k], i, j) {
             return k;
         }
-        k += 1;
     }
-    k
+    list.len()
 }
 
 // Whether m has the taxa i and j.
@@ -33,10 +31,7 @@ fn has_both(m: u64, i: Taxon, j: Taxon) -> bool
     requires j_bound { j.0 < 64 }
     ensures { result ≡ has_both i.0 j.0 m }
 {
-    if masks::has_taxon(m, i) {
-        return masks::has_taxon(m, j);
-    }
-    false
+    masks::has_taxon(m, i) && masks::has_taxon(m, j)
 }
 
 // How many taxa the group of the taxa i and j has, of n; all, where they share none.

@@ -43,11 +43,10 @@ fn put_all(s: &[u8], list: &[u64], counts: &[u32], i: Taxon, out: &mut [u8], at:
     ensures put { Put out.old at (bytes_of (stand_in_lines (held_at s.now) i.0)) out.new result }
     ensures upper_bound { result ≤ at + 300000 }
 {
+    let n = head::taxa(s);
     let mut e = at;
-    let mut k = head::taxa(s);
-    while 0 < k {
-        e = put_sharing(s, list, counts, i, k, out, e);
-        k -= 1;
+    for less in 0..n {
+        e = put_sharing(s, list, counts, i, n - less, out, e);
     }
     e
 }
@@ -72,12 +71,10 @@ fn put_sharing(
 {
     let n = head::taxa(s);
     let mut e = at;
-    let mut j = 0;
-    while j < n {
+    for j in 0..n {
         if shares(list, n, i, Taxon(j), k) {
             e = put_line(s, list, counts, i, Taxon(j), out, e);
         }
-        j += 1;
     }
     e
 }

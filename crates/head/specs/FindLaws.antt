@@ -5,7 +5,7 @@
 --   found_at, found_nothing            what the answer says of the label
 --   run_more, run-not, run_end, run-unlike     two runs compared byte by byte
 --   label-found, longer-found          a label by the name that it reads as, which is none where it is longer than any can be
-use Rattle.std.specs.Prelude.{◌≡◌, ℕ, zero, suc, ◌+◌, ◌-◌, ◌*◌, ◌<◌, ◌≤◌, true, false, ◌&&◌, List, [], ◌∷◌, length, drop, ◌==◌, ◌≢◌, slice_index, slice_index_or, refl}
+use Rattle.std.specs.Prelude.{◌≡◌, ℕ, zero, suc, ◌+◌, ◌-◌, ◌*◌, ◌<◌, ◌≤◌, true, false, ◌&&◌, List, [], ◌∷◌, length, drop, ◌==◌, ◌≢◌, slice_index, slice_index_or, refl, None, Some, Option as CodeOption}
 use Rattle.std.proofs.Math.Numerals.{add-one}
 use native.Mathlib.Omega.{arith}
 use Rattle.std.proofs.Math.Path.{sym, ap}
@@ -20,8 +20,6 @@ use Rattle.theorems.specs.SplitLaws.{taxon_from-below}
 use Rattle.answers.specs.declared.Taxon.{Taxon}
 use Rattle.head.specs.Head.{numbers_at, names_at}
 use Rattle.head.specs.HeadLaws.{names-length, names-at, name-most}
-use Rattle.head.specs.declared.Found.{Found}
-use Rattle.head.specs.declared.Found.TheVariants.{At, Nothing}
 use Rattle.head.specs.Index.{key, next_with, Indexed, found_of, Below, after, Sought, left}
 use Rattle.head.specs.IndexLaws.{key_below, same_not, other_key, next-cases, next-left}
 
@@ -97,7 +95,7 @@ module _ (ns : List (List ℕ)) (w : List ℕ) where
         rw (d, link_at i p) (omega arith)
 
   pub sought-here : (n : ℕ) → Sought ns w n → (n ≢ 0) → same_bytes (slice_index_or ns (n - 1) []) w ≡ true
-      → At (record { 0 = n - 1 }) ≡ found_of (taxon_from 0 ns w)
+      → Some (record { 0 = n - 1 }) ≡ found_of (taxon_from 0 ns w)
   unfolding after found_of
   sought-here zero p z q = absurd (z refl)
   sought-here (suc i) p z q =
@@ -106,11 +104,11 @@ module _ (ns : List (List ℕ)) (w : List ℕ) where
       let r : same_bytes (slice_index_or ns i []) w ≡ true = rw d at q in
       rw d (ap found_of (sym (taxon-here ns w i (omega arith) r) ∙ p.rest))
 
-  pub sought-out : (n : ℕ) → Sought ns w n → n ≡ 0 → Nothing ≡ found_of (taxon_from 0 ns w)
+  pub sought-out : (n : ℕ) → Sought ns w n → n ≡ 0 → None ≡ found_of (taxon_from 0 ns w)
   unfolding after found_of
   sought-out n p z = ap found_of (rw z at p.rest)
 
-pub found_below : (ns : List (List ℕ)) (w : List ℕ) (n : ℕ) (f : Found) → length ns ≡ n → f ≡ found_of (taxon_from 0 ns w) → Below n f
+pub found_below : (ns : List (List ℕ)) (w : List ℕ) (n : ℕ) (f : CodeOption Taxon) → length ns ≡ n → f ≡ found_of (taxon_from 0 ns w) → Below n f
 unfolding Below found_of
 found_below ns w n f l e = rw (← l, e) (go (taxon_from 0 ns w) refl)
   where
@@ -118,16 +116,16 @@ found_below ns w n f l e = rw (← l, e) (go (taxon_from 0 ns w) refl)
     go none q = tt
     go (some i) q = omega (arith, taxon_from-below ns 0 w i q)
 
-pub below_at : (n : ℕ) (t : Taxon) → Below n (At t) → t.0 < n
+pub below_at : (n : ℕ) (t : Taxon) → Below n (Some t) → t.0 < n
 unfolding Below
 below_at n t h = h
 
-pub found_at : (o : Option ℕ) (t : Taxon) → At t ≡ found_of o → o ≡ some t.0
+pub found_at : (o : Option ℕ) (t : Taxon) → Some t ≡ found_of o → o ≡ some t.0
 unfolding found_of
 found_at none t e = let z : ◌≡◌ {A = ℕ} 0 1 = cc in absurd (omega arith)
 found_at (some i) t e = cc
 
-pub found_nothing : (o : Option ℕ) → Nothing ≡ found_of o → o ≡ none
+pub found_nothing : (o : Option ℕ) → None ≡ found_of o → o ≡ none
 unfolding found_of
 found_nothing none e = refl
 found_nothing (some i) e = let z : ◌≡◌ {A = ℕ} 0 1 = cc in absurd (omega arith)
@@ -158,7 +156,7 @@ run-unlike v w n = same_not v w (λ e. n (ap length e))
 
 -- ---- the label, and the name that it reads as
 
-pub label-found : (s w v : List ℕ) (f : Found) → read_as w ≡ v → f ≡ found_of (taxon_from 0 (names_at s) v)
+pub label-found : (s w v : List ℕ) (f : CodeOption Taxon) → read_as w ≡ v → f ≡ found_of (taxon_from 0 (names_at s) v)
     → (f ≡ found_of (taxon_of (names_at s) w)) × Below (numbers_at s).taxa f
 unfolding taxon_of
 label-found s w v f e q = (rw e q, found_below (names_at s) v (numbers_at s).taxa f (names-length s) q)
@@ -171,7 +169,7 @@ longer-none (v ∷ vs) w k h =
     if-false (some k) (taxon_from (suc k) vs w) (run-unlike v w (λ e. let l = h 0 (omega arith) in omega (arith, e)))
     ∙ longer-none vs w (suc k) (λ i l. h (suc i) (omega arith))
 
-pub longer-found : (s w : List ℕ) → ((i : ℕ) → slice_index s i < 256) → 255 < length w → Nothing ≡ found_of (taxon_from 0 (names_at s) w)
+pub longer-found : (s w : List ℕ) → ((i : ℕ) → slice_index s i < 256) → 255 < length w → None ≡ found_of (taxon_from 0 (names_at s) w)
 unfolding found_of
 longer-found s w b h =
     ap found_of (sym (longer-none (names_at s) w 0 (λ i l.

@@ -9,12 +9,11 @@
 --   Below n f                     the taxon, if one is found, is below n
 --   IndexedFrom ns i starts links     the index of the taxa from i on
 --   Sought ns w n                 the search for the name w has come to the entry n
-use Rattle.std.specs.Prelude.{◌≡◌, ℕ, zero, suc, ◌+◌, ◌-◌, ◌/◌, ◌%◌, ◌^◌, ◌<◌, ◌≤◌, List, [], ◌∷◌, length, drop, ◌==◌, ◌≢◌, slice_index, slice_index_or, if◌then◌else◌}
+use Rattle.std.specs.Prelude.{◌≡◌, ℕ, zero, suc, ◌+◌, ◌-◌, ◌/◌, ◌%◌, ◌^◌, ◌<◌, ◌≤◌, List, [], ◌∷◌, length, drop, ◌==◌, ◌≢◌, slice_index, slice_index_or, if◌then◌else◌, None, Some, Option as CodeOption}
 use Rattle.std.proofs.Math.Option.{Option, none, some}
 use Rattle.trees.specs.Names.{taxon_from}
 use Rattle.fields.specs.Field.{number}
-use Rattle.head.specs.declared.Found.{Found}
-use Rattle.head.specs.declared.Found.TheVariants.{At, Nothing}
+use Rattle.answers.specs.declared.Taxon.{Taxon}
 
 -- ---- the index
 
@@ -43,13 +42,13 @@ pub record Indexed (ns : List (List ℕ)) (starts links : List ℕ) : Type 0 whe
 
 -- ---- the answer
 
-unfoldable pub found_of : Option ℕ → Found
-found_of none = Nothing
-found_of (some i) = At (record { 0 = i })
+unfoldable pub found_of : Option ℕ → CodeOption Taxon
+found_of none = None
+found_of (some i) = Some (record { 0 = i })
 
-unfoldable pub Below : ℕ → Found → Type 0
-Below n Nothing = Unit
-Below n (At t) = t.0 < n
+unfoldable pub Below : ℕ → CodeOption Taxon → Type 0
+Below n None = Unit
+Below n (Some t) = t.0 < n
 
 -- ---- halfway
 

@@ -17,13 +17,6 @@ ghost use Rattle.head.specs.Index.{keys, key, Indexed, found_of, Below};
 
 use answers::Taxon;
 
-// The answer of a search for a name.
-#[derive(Clone, Copy)]
-pub enum Found {
-    At(Taxon),
-    Nothing,
-}
-
 // The number of taxa.
 pub fn taxa(s: &[u8]) -> u32
     requires { head_bytes ≤ length s.now }
@@ -84,14 +77,7 @@ fn number16(s: &[u8], at: usize) -> u32
     ensures value { result ≡ number 2 s.now at }
     ensures upper_bound { result < 65536 }
 {
-    wide16(fields::get16(s, at))
-}
-
-// x in 32 bits, of which it takes 16.
-fn wide16(x: u16) -> u32
-    ensures { (result ≡ x) × (result < 65536) }
-{
-    x as u32
+    u32::from(fields::get16(s, at))
 }
 
 // The first list's constant of taxon i.
@@ -101,7 +87,7 @@ pub fn first_constant(s: &[u8], i: Taxon) -> u64
     ensures value { result ≡ number 2 s.now (2128 + 2 * i.0) }
     ensures upper_bound { result < 65536 }
 {
-    number16(s, 2128 + 2 * i.0 as usize) as u64
+    u64::from(number16(s, 2128 + 2 * i.0 as usize))
 }
 
 // The second list's constant of taxon i.
@@ -124,9 +110,7 @@ pub fn build_index(s: &[u8], starts: &mut [u8; KEYS], links: &mut [u8; 64])
 {
     *starts = [0; KEYS];
     *links = [0; 64];
-    let mut i = taxa(s) as usize;
-    while 0 < i {
-        i -= 1;
+    for i in (0..taxa(s) as usize).rev() {
         let k = name_key(s, i);
         links[i] = starts[k];
         starts[k] = (i + 1) as u8;
@@ -144,7 +128,7 @@ pub fn find_taxon(
     text: &[u8],
     b: usize,
     e: usize,
-) -> Found
+) -> Option<Taxon>
     requires head_bytes_in_bounds { head_bytes ≤ length s.now }
     requires s_bound { (numbers_at s.now).taxa ≤ 64 }
     requires indexed { Indexed (names_at s.now) starts.now links.now }
@@ -159,12 +143,13 @@ pub fn find_taxon(
     let mut name = [0u8; MOST_HELD];
     let n = text::read_up_to(text, b, e, &mut name, 0, MOST_HELD);
     if MOST_HELD < n {
-        return Found::Nothing;
+        return None;
     }
     find_name(s, starts, links, &name, 0, n)
 }
 
-// The taxon whose name is the bytes of the text from b up to e: the names of their key, in list order.
+// The taxon whose name is the bytes of the text from b up to e: the names of their key, in list order. A link is a taxon and one
+// more, or 0 at the end, as `Indexed` of specs/Index.antt has it.
 fn find_name(
     s: &[u8],
     starts: &[u8; KEYS],
@@ -172,7 +157,7 @@ fn find_name(
     text: &[u8],
     b: usize,
     e: usize,
-) -> Found
+) -> Option<Taxon>
     requires head_bytes_in_bounds { head_bytes ≤ length s.now }
     requires s_bound { (numbers_at s.now).taxa ≤ 64 }
     requires indexed { Indexed (names_at s.now) starts.now links.now }
@@ -185,11 +170,11 @@ fn find_name(
     while number != 0 {
         let i = (number - 1) as usize;
         if name_is(s, i, text, b, e) {
-            return Found::At(Taxon(i as u32));
+            return Some(Taxon(i as u32));
         }
         number = links[i];
     }
-    Found::Nothing
+    None
 }
 
 // Whether taxon i has this name.
@@ -229,14 +214,11 @@ pub fn same_runs(s: &[u8], a: usize, z: usize, text: &[u8], b: usize, e: usize) 
     if z - a < 8 {
         return first_word(s, a, z) == first_word(text, b, e);
     }
-    let mut i = a;
-    let mut j = b;
-    while i + 8 < z {
-        if fields::get64(s, i) != fields::get64(text, j) {
+    let words = (z - a - 1) / 8;
+    for k in 0..words {
+        if fields::get64(s, a + 8 * k) != fields::get64(text, b + 8 * k) {
             return false;
         }
-        i += 8;
-        j += 8;
     }
     fields::get64(s, z - 8) == fields::get64(text, e - 8)
 }
@@ -257,7 +239,7 @@ fn name_length(s: &[u8], i: usize) -> usize
     requires i_bound { i < 64 }
     ensures { (result ≡ slice_index s.now (16 + 33 * i)) × (result < 256) }
 {
-    s[16 + 33 * i] as usize
+    usize::from(s[16 + 33 * i])
 }
 
 // The key of the bytes of s from b up to e.
@@ -282,11 +264,11 @@ pub fn key_of(s: &[u8], b: usize, e: usize) -> usize
 fn fold(first: u64, middle: u64, last: u64) -> usize
     ensures { (result ≡ (first + middle + last) % 2 ^ 64 % 113) × (result < keys) }
 {
-    let two = std::num::wrapping_add_u64(first, middle);
-    (std::num::wrapping_add_u64(two, last) % 113) as usize
+    (first.wrapping_add(middle).wrapping_add(last) % 113) as usize
 }
 
-// The first 8 of the bytes of s from b up to e, as a number; where they are fewer, all of them.
+// The first 8 of the bytes of s from b up to e, as a number; where they are fewer, all of them. A run is given by its places in all
+// of s and not as a slice, since a word is read past its end where s goes on.
 fn first_word(s: &[u8], b: usize, e: usize) -> u64
     requires b_le_e { b ≤ e }
     requires e_in_bounds { e ≤ length s.now }

@@ -17,7 +17,7 @@ ghost use Rattle.layout.specs.Store.{lane_from, held_at, ran_over_open};
 ghost use Rattle.layout.specs.WholeStore.{whole_at};
 ghost use Rattle.lanes.specs.Lanes.{LaneIs, over_length};
 
-use answers::{Finish, Lane, Refusal};
+use answers::{Lane, Refusal};
 use layout::{MOST_TEXT, RAN_OVER, RAN_OVER_OPEN, lane_from};
 
 // Puts the piece behind the bytes that lane l holds. Past 4,608 bytes the lane has run over, and one
@@ -113,33 +113,26 @@ pub fn quotes_open(s: &[u8], l: Lane) -> bool
 }
 
 // What closing lane l answers: 6 where it ran over, 7 where it holds any byte but blanks, else done.
-pub fn closing_answer(s: &[u8], l: Lane) -> Finish
+pub fn closing_answer(s: &[u8], l: Lane) -> Result<(), Refusal>
     requires s_value { whole_at s.now ≡ true }
     requires l_bound { l.0 < (numbers_at s.now).lanes }
     ensures { finish_given result ≡ (closing (held_at s.now) l.0).answer }
 {
     let n = lane_length(s, l);
     if MOST_TEXT < n {
-        return Finish::Refused(Refusal::TooLong);
+        return Err(Refusal::TooLong);
     }
     let b = lane_from(l) + 8;
     let e = b + n;
     if !all_blanks(&s[b..e]) {
-        return Finish::Refused(Refusal::BadForm);
+        return Err(Refusal::BadForm);
     }
-    Finish::Done
+    Ok(())
 }
 
 // Whether every byte is a blank.
 fn all_blanks(bytes: &[u8]) -> bool
     ensures { result ≡ every is_blank bytes.now }
 {
-    let mut i = 0;
-    while i < bytes.len() {
-        if !text::is_blank(bytes[i]) {
-            return false;
-        }
-        i += 1;
-    }
-    true
+    bytes.iter().all(|b| text::is_blank(*b))
 }

@@ -156,5 +156,5 @@ pub fn number16(s: &[u8], at: usize) -> usize
     ensures value { result ≡ number 2 s.now at }
     ensures upper_bound { result < 65536 }
 {
-    fields::get16(s, at) as usize
+    usize::from(fields::get16(s, at))
 }

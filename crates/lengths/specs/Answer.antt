@@ -2,10 +2,8 @@
 --
 --   value_given r   the value of a length; none outside the exact range
 use Rattle.std.proofs.Math.Option.{Option, none, some}
-use Rattle.std.specs.Prelude.{Float}
-use Rattle.lengths.specs.declared.Value.{Value}
-use Rattle.lengths.specs.declared.Value.TheVariants.{Outside, Inside}
+use Rattle.std.specs.Prelude.{Float, None, Some, Option as CodeOption}
 
-unfoldable pub value_given : Value → Option Float
-value_given Outside = none
-value_given (Inside x) = some x
+unfoldable pub value_given : CodeOption Float → Option Float
+value_given None = none
+value_given (Some x) = some x

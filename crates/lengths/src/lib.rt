@@ -10,13 +10,6 @@ ghost use Rattle.lengths.specs.Near.{Near};
 ghost use Rattle.lengths.specs.Answer.{value_given};
 ghost use Rattle.lengths.specs.Read.{has_e, MinusAt, SignPast, Digits, DecimalPast, ExponentPast, LengthStands, LengthTaken};
 
-// The value of a length, or that it is outside the exact range.
-#[derive(Clone, Copy)]
-pub enum Value {
-    Outside,
-    Inside(f64),
-}
-
 // A number, or any above 2^60 for a larger one, and the place behind its digits.
 #[derive(Clone, Copy)]
 pub struct Run {
@@ -43,7 +36,7 @@ pub struct Exponent {
 // A length that was read: its value, and the place behind it.
 #[derive(Clone, Copy)]
 pub struct Taken {
-    pub value: Value,
+    pub value: Option<f64>,
     pub at: usize,
 }
 
@@ -71,13 +64,13 @@ fn read_decimal(text: &[u8], from: usize) -> Decimal
     let at = whole.at;
     let n = whole.n;
     if at < text.len() {
-        if text[at] == 46 {
+        if text[at] == b'.' {
             let behind = at + 1;
             let part = read_digits(text, behind, n);
             let end = part.at;
             return Decimal {
                 n: part.n,
-                behind: wide_place(end - behind),
+                behind: (end - behind) as u64,
                 at: end,
             };
         }
@@ -113,10 +106,10 @@ fn has_e(text: &[u8], at: usize) -> bool
 {
     if at < text.len() {
         let b = text[at];
-        if b == 101 {
+        if b == b'e' {
             return true;
         }
-        return b == 69;
+        return b == b'E';
     }
     false
 }
@@ -126,7 +119,7 @@ fn is_minus(text: &[u8], from: usize) -> bool
     ensures { MinusAt text.now from result }
 {
     if from < text.len() {
-        return text[from] == 45;
+        return text[from] == b'-';
     }
     false
 }
@@ -138,10 +131,10 @@ fn past_sign(text: &[u8], from: usize) -> usize
 {
     if from < text.len() {
         let b = text[from];
-        if b == 45 {
+        if b == b'-' {
             return from + 1;
         }
-        if b == 43 {
+        if b == b'+' {
             return from + 1;
         }
     }
@@ -154,9 +147,8 @@ fn read_digits(text: &[u8], from: usize, n: u64) -> Run
     ensures { Digits text.now from (length text.now) n result }
 {
     let mut m = n;
-    let mut i = from;
-    while i < text.len() {
-        let b = wide(text[i]);
+    for i in from..text.len() {
+        let b = u64::from(text[i]);
         if b < 48 {
             return Run { n: m, at: i };
         }
@@ -164,9 +156,11 @@ fn read_digits(text: &[u8], from: usize, n: u64) -> Run
             return Run { n: m, at: i };
         }
         m = with_digit(m, b - 48);
-        i += 1;
     }
-    Run { n: m, at: i }
+    Run {
+        n: m,
+        at: text.len(),
+    }
 }
 
 // n with the digit d behind it; a number above 2^60 stays as it is.
@@ -180,28 +174,14 @@ fn with_digit(n: u64, d: u64) -> u64
     n
 }
 
-// x in 64 bits, of which it takes 8.
-fn wide(x: u8) -> u64
-    ensures { (result ≡ x) × (result < 256) }
-{
-    x as u64
-}
-
-// x, the same number.
-fn wide_place(x: usize) -> u64
-    ensures { result ≡ x }
-{
-    x as u64
-}
-
 // n at the power of ten that an exponent and d digits behind the point give.
-fn scaled_by(minus: bool, n: u64, down: bool, x: u64, d: u64) -> Value
+fn scaled_by(minus: bool, n: u64, down: bool, x: u64, d: u64) -> Option<f64>
     requires { d < 2 ^ 59 }
     ensures { value_given result ≡ measured minus n (with_sign down x -ℤ pos d) }
 {
     if down {
         if 22 < x {
-            return Value::Outside;
+            return None;
         }
         let k = x + d;
         if k == 0 {
@@ -260,26 +240,26 @@ fn with_sign(minus: bool, n: u64, x: f64) -> f64
 }
 
 // n times 10 to the power k.
-fn times(minus: bool, n: u64, k: u64) -> Value
+fn times(minus: bool, n: u64, k: u64) -> Option<f64>
     ensures { value_given result ≡ measured minus n (pos k) }
 {
     if n <= 9007199254740992 {
         if k <= 22 {
-            return Value::Inside(with_sign(minus, n, (n as f64) * ten(k)));
+            return Some(with_sign(minus, n, (n as f64) * ten(k)));
         }
     }
-    Value::Outside
+    None
 }
 
 // n divided by 10 to the power k.
-fn divided(minus: bool, n: u64, k: u64) -> Value
+fn divided(minus: bool, n: u64, k: u64) -> Option<f64>
     requires { 0 < k }
     ensures { value_given result ≡ measured minus n (negsuc (k - 1)) }
 {
     if n <= 9007199254740992 {
         if k <= 22 {
-            return Value::Inside(with_sign(minus, n, (n as f64) / ten(k)));
+            return Some(with_sign(minus, n, (n as f64) / ten(k)));
         }
     }
-    Value::Outside
+    None
 }

@@ -1,6 +1,6 @@
 // Masks in one word: sets of at most 64 taxa, bit i for taxon i. Callers hold masks as u64 too, but what a mask means is
 // said here alone, by contracts over masks of any size. Read crate trees, specs/Mask.antt, for what they cite; ones, bit_or,
-// eqb and ltb are the library's.
+// eqb and ltb are the library's. So equality and order of masks have names here too, for promises over masks of any size.
 #![tactic(auto)]
 
 ghost use Rattle.std.specs.Prelude.{◌≡◌, ◌≤◌, ◌<◌, ◌^◌, leb, ltb, eqb};

@@ -9,7 +9,7 @@ use Rattle.std.proofs.Common.{◌≡◌, ℕ, zero, suc, ◌+◌, ◌*◌, ◌^�
 use mathlib.Core.Option.{none, some}
 use lib.Count.{ones}
 use lib.Seq.{sets-eq, take-append_seam}
-use Rattle.std.specs.Prelude.{if◌then◌else◌}
+use Rattle.std.specs.Prelude.{if◌then◌else◌, Result, Ok, Err, ℕ}
 use Rattle.trees.specs.Plain.{refused, gives}
 use Rattle.trees.specs.Mask.{every_taxon}
 use Rattle.trees.specs.Tree.{Nodes, nil, leaf, leaves}
@@ -34,16 +34,11 @@ use Rattle.head.specs.Head.{numbers_at, opening_at}
 use Rattle.newick.specs.Judge.{JudgedAs}
 use Rattle.newick.specs.Splits.{inners}
 use Rattle.newick.specs.Sound.{SoundTree, span_room, TreeRead}
-use Rattle.newick.specs.declared.Tree.{Tree}
-use Rattle.newick.specs.declared.Tree.TheVariants.{Faulty, Sound}
 use Rattle.newick.specs.Shape.{spans, ShapeRead}
 use Rattle.newick.specs.Shaping.{Shaping}
 use Rattle.newick.specs.Running.{labels_at, label_taxa, span_masks}
 use Rattle.newick.specs.Leaves.{most_leaves, AllSummed, LeavesSummed}
-use Rattle.newick.specs.declared.Judged.TheVariants.{Refused, Splits}
 use Rattle.newick.specs.declared.shape.Mark.{Mark}
-use Rattle.newick.specs.declared.leaves.Summed.{Summed}
-use Rattle.newick.specs.declared.leaves.Summed.TheVariants.{Wrong, Distinct}
 use Rattle.newick.proofs.ClusterLaws.{inners-splits}
 use Rattle.newick.proofs.LabelLaws.{leaves-taxa}
 use Rattle.newick.proofs.SpanLaws.{inner_nodes, Lies, spans-length, spans-few, spans-within, spans-inners}
@@ -132,14 +127,14 @@ module _ (o : Opening) (g : GoodOpening o) (s w : List ℕ) (leaved : ℕ) (l : 
   leaves-are : leaves x.tree ≡ labels_at w l k ++ drop k (leaves x.tree)
   leaves-are = sym (ap (λ z. z ++ drop k (leaves x.tree)) (first k (omega arith)) ∙ take-append-drop k (leaves x.tree))
 
-  module _ (f : Summed) (p : LeavesSummed o w l k u f) where
-    pub read-wrong : (r : Refusal) → f ≡ Wrong r → TreeRead o s (Faulty r) u m m
+  module _ (f : Result (Unit {0}) Refusal) (p : LeavesSummed o w l k u f) where
+    pub read-wrong : (r : Refusal) → f ≡ Err r → TreeRead o s (Err r) u m m
     unfolding TreeRead LeavesSummed
     read-wrong r e =
         faulty o.names s x.tree (refusal_number r) (some_number r) x.reads
         (ap (leaf_fault o.names 0) leaves-are ∙ (rw e at p) (drop k (leaves x.tree)))
 
-    module _ (e : f ≡ Distinct) where
+    module _ (e : f ≡ Ok tt) where
       summed : AllSummed o w l k u
       unfolding LeavesSummed
       summed = rw e at p
@@ -162,7 +157,7 @@ module _ (o : Opening) (g : GoodOpening o) (s w : List ℕ) (leaved : ℕ) (l : 
           ∙ summed.judged []
           ∙ ap₂ (λ (y i : ℕ). if eqb y (every_taxon i) then 0 else 10) (sym (summed.masked k (omega arith))) g.named.count
 
-      pub read-missing : (get_or u (wide * k) 0 ≡ every_taxon o.numbers.taxa → ⊥) → TreeRead o s (Faulty why.MissingTaxon) u m m
+      pub read-missing : (get_or u (wide * k) 0 ≡ every_taxon o.numbers.taxa → ⊥) → TreeRead o s (Err why.MissingTaxon) u m m
       unfolding TreeRead refusal_number
       read-missing h =
           faulty o.names s x.tree 10 (omega arith) x.reads (leaf-fault ∙ if-false 0 10 (ne_eqb (get_or u (wide * k) 0) (every_taxon o.numbers.taxa) h))
@@ -196,7 +191,7 @@ module _ (o : Opening) (g : GoodOpening o) (s w : List ℕ) (leaved : ℕ) (l : 
             ∙ spans-inners o.names x.tree u m (drop (0 + length (spans 0 x.tree)) x.before) lie masked
             (λ xs vs zs q. parts-apart o.names xs vs zs (ap (leaf_fault o.names 0) (sym q) ∙ no-fault))
 
-        pub read-sound : TreeRead o s (Sound k n) u m m
+        pub read-sound : TreeRead o s (Ok (k, n)) u m m
         unfolding TreeRead
         read-sound _ = record {
           tree = x.tree;
@@ -210,18 +205,18 @@ module _ (o : Opening) (g : GoodOpening o) (s w : List ℕ) (leaved : ℕ) (l : 
 -- ---- a text, by what was read of its shape
 
 pub read_none : (o : Opening) (s : List ℕ) (c : Mark) (tokens nodes tokens' nodes' : List ℕ) → ShapeRead s c tokens nodes tokens' nodes' → length s < c.at
-    → (u l l' : List ℕ) → TreeRead o s (Faulty why.BadForm) u l l'
+    → (u l l' : List ℕ) → TreeRead o s (Err why.BadForm) u l l'
 unfolding TreeRead refusal_number
 read_none o s c tokens nodes tokens' nodes' h b u l l' = unread o.names s (h.fault b)
 
 -- ---- from there to the verdict
 
-module _ (o : Opening) (s u l₀ l : List ℕ) (t : Tree) (p : TreeRead o s t u l₀ l) where
-  pub judged-faulty : (r : Refusal) → t ≡ Faulty r → (v : List ℕ) → JudgedAs o s (Refused r) v v
+module _ (o : Opening) (s u l₀ l : List ℕ) (t : Result (ℕ × ℕ) Refusal) (p : TreeRead o s t u l₀ l) where
+  pub judged-faulty : (r : Refusal) → t ≡ Err r → (v : List ℕ) → JudgedAs o s (Err r) v v
   unfolding TreeRead JudgedAs
   judged-faulty r e v = (subst (λ z. TreeRead o s z u l₀ l) e p, refl)
 
-  pub sound-read : (k n : ℕ) → t ≡ Sound k n → length l₀ ≡ span_room → SoundTree o s k n u l
+  pub sound-read : (k n : ℕ) → t ≡ Ok (k, n) → length l₀ ≡ span_room → SoundTree o s k n u l
   unfolding TreeRead
   sound-read k n e = subst (λ z. TreeRead o s z u l₀ l) e p
 
@@ -237,7 +232,7 @@ module _ (o : Opening) (s u l : List ℕ) where
 
     pub judged-splits : (i : ℕ) (v t : List ℕ)
         → (i ≡ length (counted o.numbers.taxa (span_masks u l n))) × (t ≡ with_records o (counted o.numbers.taxa (span_masks u l n)) v)
-        → JudgedAs o s (Splits i) v t
+        → JudgedAs o s (Ok i) v t
     unfolding JudgedAs
     judged-splits i v t p = (counted o.numbers.taxa (span_masks u l n), sound-judged ∙ ap gives (sym sound-splits), p.0, p.1)
 

@@ -11,7 +11,7 @@ use mathlib.Core.Option.{Option}
 use lib.ListN.{length-map}
 use lib.Seq.{sets-eq, take-append_seam}
 use borrow.Author.Tests.{not-true, not-false}
-use Rattle.std.specs.Prelude.{if◌then◌else◌}
+use Rattle.std.specs.Prelude.{if◌then◌else◌, Result, Ok, Err}
 use Rattle.trees.specs.Plain.{every, keep, gives}
 use Rattle.trees.specs.Mask.{side, without}
 use Rattle.trees.specs.Text.{Symbol, symbols}
@@ -43,9 +43,6 @@ use Rattle.newick.specs.Noting.{Fine, lengths_in, is_exact, LengthsNoted}
 use Rattle.newick.specs.Placing.{ReadWord, words_at, slot_word, placed_words, Placeable}
 use Rattle.newick.specs.Sound.{SoundTree, TreeRead}
 use Rattle.newick.specs.Judge.{JudgedWith}
-use Rattle.newick.specs.declared.Judged.TheVariants.{Refused, Splits}
-use Rattle.newick.specs.declared.Tree.{Tree}
-use Rattle.newick.specs.declared.Tree.TheVariants.{Faulty}
 use Rattle.newick.proofs.CountedLaws.{counted-most}
 use Rattle.newick.proofs.OrderLaws.{span-length, span-mem, mem-span}
 use Rattle.newick.proofs.SymbolLaws.{inner_lengths, words_of, tree-fine, tree-lengths, tree-noted}
@@ -55,7 +52,7 @@ use Rattle.newick.proofs.JudgeLaws.{sound-splits, sound-judged}
 
 -- ---- a text that is refused whatever its lengths
 
-pub lengths-faulty : (o : Opening) (s u l₀ l : List ℕ) (t : Tree) → TreeRead o s t u l₀ l → (r : Refusal) → t ≡ Faulty r → (v w : List ℕ) → JudgedWith o s (Refused r) v w v w
+pub lengths-faulty : (o : Opening) (s u l₀ l : List ℕ) (t : Result (ℕ × ℕ) Refusal) → TreeRead o s t u l₀ l → (r : Refusal) → t ≡ Err r → (v w : List ℕ) → JudgedWith o s (Err r) v w v w
 unfolding TreeRead JudgedWith
 lengths-faulty o s u l₀ l t p r e v w = (with-refused 1 o.names s (refusal_number r) (subst (λ z. TreeRead o s z u l₀ l) e p), refl, refl)
 
@@ -119,7 +116,7 @@ module _ (o : Opening) (g : GoodOpening o) (s u l : List ℕ) (k n : ℕ) (w : S
   given : judged_with 1 o.names s ≡ with_lengths 1 o.names w.tree (gives (splits_of o.names w.tree))
   given = with-given 1 o.names s w.tree is-tree (splits_of o.names w.tree) (sound-judged o s u l g k n w)
 
-  pub lengths-inexact : (v v' : List ℕ) (r : Bool) → LengthsNoted s v r v' → not r ≡ true → (x y : List ℕ) → JudgedWith o s (Refused why.InexactLength) x y x y
+  pub lengths-inexact : (v v' : List ℕ) (r : Bool) → LengthsNoted s v r v' → not r ≡ true → (x y : List ℕ) → JudgedWith o s (Err why.InexactLength) x y x y
   unfolding JudgedWith refusal_number with_lengths
   lengths-inexact v v' r p e x y = (given ∙ if-false _ _ (sym exact-is ∙ sym p.exact ∙ not-true r e), refl, refl)
 
@@ -225,7 +222,7 @@ module _ (o : Opening) (g : GoodOpening o) (s u l : List ℕ) (k n : ℕ) (w : S
             ((omega arith, omega arith), rw f placeable),
           )
 
-      pub lengths-placed : (a : ℕ) → a ≡ o.numbers.taxa → (y z : List ℕ) → z ≡ placed_words a u l v' (masks_of i t) (n - 1) ++ drop i y → JudgedWith o s (Splits i) x y t z
+      pub lengths-placed : (a : ℕ) → a ≡ o.numbers.taxa → (y z : List ℕ) → z ≡ placed_words a u l v' (masks_of i t) (n - 1) ++ drop i y → JudgedWith o s (Ok i) x y t z
       unfolding JudgedWith with_lengths
       lengths-placed a f y z e = (
         record { splits = splits_of o.names w.tree; lengths = lengths_of o.names w.tree },

@@ -15,7 +15,7 @@ use Rattle.std.proofs.Common.{◌≡◌, ℕ, zero, suc, ◌+◌, ◌-◌, ◌<�
 use mathlib.Core.Option.{none, some}
 use lib.Ieee.{Float, binary64, to_bits}
 use lib.Seq.{slice, slice-cons, length-slice}
-use Rattle.std.specs.Prelude.{if◌then◌else◌}
+use Rattle.std.specs.Prelude.{if◌then◌else◌, None, Some, ℕ}
 use Rattle.trees.specs.Plain.{every}
 use Rattle.trees.specs.Text.{Symbol, Kind, blank, label, mark, kind, kind_in, apostrophe, is_label_byte, open_after, is_label, open_bracket, close_bracket, comma, colon, stray, token, symbols, symbols_after, ended}
 use Rattle.trees.specs.Length.{is_digit, is_sign, is_point, is_e, is_digits, unsigned, without_point, before_e, is_decimal, is_length}
@@ -33,7 +33,6 @@ use Rattle.doubles.specs.Stored.{all_ones}
 use Rattle.lengths.specs.Read.{LengthStands}
 use Rattle.newick.specs.Words.{word_of}
 use Rattle.newick.specs.Noting.{Fine, lengths_in, is_exact, noted, is_stop, Passed, NextStop, MeasuredBehind, LengthsNoted}
-use Rattle.newick.specs.declared.noting.Measured.TheVariants.{Outside, Inside}
 use Rattle.newick.proofs.ShapeLaws.{symbols-none}
 
 -- ---- a length behind a colon
@@ -174,11 +173,11 @@ module _ (s : List ℕ) (i b : ℕ) (f : Fine true (symbols_at s i)) (p : Skippe
     given : (x : Length) → length_of (slice b e s) ≡ x → is_exact (slice b e s) ≡ is_given x
     given x q = ap is_given q
 
-    pub measured-outside : length_of (slice b e s) ≡ none → MeasuredBehind s i Outside
+    pub measured-outside : length_of (slice b e s) ≡ none → MeasuredBehind s i None
     unfolding MeasuredBehind
     measured-outside q = (slice b e s, symbols_at s e, measured-there.2, given none q)
 
-    pub measured-inside : (x : ℕ) (v : Float) → length_of (slice b e s) ≡ some v → x ≡ to_bits binary64 v → MeasuredBehind s i (Inside e x)
+    pub measured-inside : (x : ℕ) (v : Float) → length_of (slice b e s) ≡ some v → x ≡ to_bits binary64 v → MeasuredBehind s i (Some (e, x))
     unfolding MeasuredBehind word_of
     measured-inside x v q z =
         let t = measured-there in
@@ -426,14 +425,14 @@ module _ (s l₀ : List ℕ) (i : Bool) (n at : ℕ) (l : List ℕ) (w : Noting 
   }
 
   module _ (e : get_or s at 0 ≡ 58) where
-    pub noting-outside : MeasuredBehind s (at + 1) Outside → LengthsNoted s l₀ false l
+    pub noting-outside : MeasuredBehind s (at + 1) None → LengthsNoted s l₀ false l
     unfolding MeasuredBehind lengths_in every
     noting-outside m = record {
       exact = sym (ap (λ (b : Bool). b && every is_exact (lengths_in false m.1)) m.3) ∙ ap (λ x. every is_exact (lengths_in false x)) (sym (colon-here e ∙ ap (λ x. colon ∷ x) m.2)) ∙ w.exact;
       words = λ q. absurd (let z : ◌≡◌ {A = ℕ} 0 1 = cc in omega arith);
     }
 
-    module _ (j x : ℕ) (m : MeasuredBehind s (at + 1) (Inside j x)) where
+    module _ (j x : ℕ) (m : MeasuredBehind s (at + 1) (Some (j, x))) where
       pub length-past : (at < j) × (j ≤ length s)
       unfolding MeasuredBehind
       length-past = (omega (arith, m.past), m.within)

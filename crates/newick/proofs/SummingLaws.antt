@@ -4,6 +4,7 @@
 --   summing-none, summing-more   no leaf, and one more
 --   summing-wrong                a leaf with a fault
 --   summing-done                 all leaves
+use Rattle.std.specs.Prelude.{Result, Ok, Err}
 use Rattle.std.proofs.Common.{◌≡◌, ℕ, suc, ◌+◌, ◌*◌, ◌%◌, ◌^◌, ◌<◌, ◌≤◌, Bool, true, false, leb, List, [], ◌∷◌, ◌++◌, length, get_or, set, sym, refl, ap, ◌∙◌, append_assoc, add-one, arith, length-set, get_or-set_other, get_or-set_same, pow_pos, leb-false, leb-true}
 use native.Mathlib.Numerals.{add-two}
 use native.Mathlib.Nat.{zero-mod}
@@ -22,9 +23,6 @@ use Rattle.newick.specs.Splits.{Hashed}
 use Rattle.newick.specs.Running.{labels_at, label_taxa}
 use Rattle.newick.specs.Leaves.{LeafNew, LeafAdded, LeavesSummed}
 use Rattle.newick.specs.declared.splits.Sums.{Sums}
-use Rattle.newick.specs.declared.leaves.Leaf.{Leaf}
-use Rattle.newick.specs.declared.leaves.Leaf.TheVariants.{Faulty, New}
-use Rattle.newick.specs.declared.leaves.Summed.TheVariants.{Wrong, Distinct}
 use Rattle.newick.proofs.TaxonLaws.{hashed-as}
 use Rattle.newick.proofs.LabelLaws.{taxa-append, taxa-one, label_at, labels_next, labels-sub}
 
@@ -109,7 +107,7 @@ module _ (o : Opening) (s l : List ℕ) (k : ℕ) where
   }
 
   module _ (u₀ u : List ℕ) (x : Sums) (j : ℕ) (g : Summing o s l k u₀ u x j) (below : j < k) where
-    pub summing-more : (f : Leaf) (y : Sums) (v : List ℕ) → LeafAdded o (label_at s l j) x.mask f → f ≡ New y → wide * k + wide ≤ length u₀
+    pub summing-more : (f : Result Sums Refusal) (y : Sums) (v : List ℕ) → LeafAdded o (label_at s l j) x.mask f → f ≡ Ok y → wide * k + wide ≤ length u₀
         → v ≡ sets u (wide * (j + 1)) (y.mask ∷ y.place ∷ y.identifier ∷ [])
         → Summing o s l k u₀ v y (j + 1)
     unfolding LeafAdded labels_at
@@ -143,7 +141,7 @@ module _ (o : Opening) (s l : List ℕ) (k : ℕ) where
               each = λ i h. records n i h (leb i j) refl;
             })
 
-    pub summing-wrong : (f : Leaf) (r : Refusal) → LeafAdded o (label_at s l j) x.mask f → f ≡ Faulty r → LeavesSummed o s l k u (Wrong r)
+    pub summing-wrong : (f : Result Sums Refusal) (r : Refusal) → LeafAdded o (label_at s l j) x.mask f → f ≡ Err r → LeavesSummed o s l k u (Err r)
     unfolding LeafAdded LeavesSummed
     summing-wrong f r a q ws =
         let n = labels_next s l j k below in
@@ -152,7 +150,7 @@ module _ (o : Opening) (s l : List ℕ) (k : ℕ) where
         ∙ g.judged (label_at s l j ∷ (n.0 ++ ws))
         ∙ (rw q at a) (n.0 ++ ws)
 
-  pub summing-done : (u₀ u : List ℕ) (x : Sums) (j : ℕ) → Summing o s l k u₀ u x j → k ≤ j → LeavesSummed o s l k u Distinct
+  pub summing-done : (u₀ u : List ℕ) (x : Sums) (j : ℕ) → Summing o s l k u₀ u x j → k ≤ j → LeavesSummed o s l k u (Ok tt)
   unfolding LeavesSummed
   summing-done u₀ u x j g h =
       let e : j ≡ k = omega (arith, g.within) in

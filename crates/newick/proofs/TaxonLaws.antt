@@ -6,6 +6,7 @@
 --   added-below, added-over      the sums with one more taxon, by the two ways through `add_taxon`
 --   leaf-none, leaf-before       a leaf that names no taxon, or one that came before
 --   leaf-below, leaf-more        a leaf with a taxon of its own
+use Rattle.std.specs.Prelude.{Option, None, Some, Ok, Err}
 use Rattle.std.proofs.Common.{◌≡◌, ℕ, suc, ◌+◌, ◌-◌, ◌*◌, ◌%◌, ◌^◌, ◌<◌, ◌≤◌, true, false, List, get_or, sym, ap, ◌∙◌, subst, ap₂, ⊎_elim, mod-lt, mod-eq_of_lt, arith}
 use native.Mathlib.Nat.{add-mod, add-mod_right}
 use mathlib.Core.Option.{some}
@@ -32,13 +33,10 @@ use Rattle.head.specs.Head.{numbers_at, opening_at, names_at}
 use Rattle.head.specs.HeadLaws.{first-at, second_at_lem}
 use Rattle.head.specs.Index.{found_of, Below}
 use Rattle.head.specs.FindLaws.{found_at, found_nothing, below_at}
-use Rattle.head.specs.declared.Found.{Found}
-use Rattle.head.specs.declared.Found.TheVariants.{At, Nothing}
 use Rattle.newick.specs.Judge.{Prepared}
 use Rattle.newick.specs.Splits.{Hashed}
 use Rattle.newick.specs.Leaves.{LeafAdded}
 use Rattle.newick.specs.declared.splits.Sums.{Sums}
-use Rattle.newick.specs.declared.leaves.Leaf.TheVariants.{Faulty, New}
 
 pub hashed-as : (o : Opening) {m p i m' p' i' : ℕ} → m ≡ m' → p ≡ p' → i ≡ i' → Hashed o m' p' i' → Hashed o m p i
 hashed-as o a b c h = rw (a, b, c) h
@@ -144,12 +142,12 @@ module _ (h : List ℕ) (good : good_opening (opening_at h) ≡ true) where
 
 -- ---- one more leaf
 
-module _ (h w : List ℕ) (m : ℕ) (f : Found) (e : f ≡ found_of (taxon_of (names_at h) w)) where
-  pub leaf-none : f ≡ Nothing → LeafAdded (opening_at h) w m (Faulty UnknownLeaf)
+module _ (h w : List ℕ) (m : ℕ) (f : Option Taxon) (e : f ≡ found_of (taxon_of (names_at h) w)) where
+  pub leaf-none : f ≡ None → LeafAdded (opening_at h) w m (Err UnknownLeaf)
   unfolding LeafAdded opening_at refusal_number
   leaf-none n ws = leaf-unknown (names_at h) m w ws (found_nothing (taxon_of (names_at h) w) (sym n ∙ e))
 
-  module _ (t : Taxon) (n : f ≡ At t) where
+  module _ (t : Taxon) (n : f ≡ Some t) where
     known : taxon_of (names_at h) w ≡ some t.0
     known = found_at (taxon_of (names_at h) w) t (sym n ∙ e)
 
@@ -157,12 +155,12 @@ module _ (h w : List ℕ) (m : ℕ) (f : Found) (e : f ≡ found_of (taxon_of (n
     unfolding opening_at
     leaf-below b = below_at (numbers_at h).taxa t (subst (Below (numbers_at h).taxa) n b)
 
-    pub leaf-before : has m t.0 ≡ true → LeafAdded (opening_at h) w m (Faulty RepeatedLeaf)
+    pub leaf-before : has m t.0 ≡ true → LeafAdded (opening_at h) w m (Err RepeatedLeaf)
     unfolding LeafAdded opening_at refusal_number
     leaf-before b ws = leaf-again (names_at h) m w ws t.0 known (has_on m t.0 b)
 
     pub leaf-more : has m t.0 ≡ false → (y : Sums) → y.mask ≡ m + 2 ^ t.0 → Hashed (opening_at h) y.mask y.place y.identifier
-        → LeafAdded (opening_at h) w m (New y)
+        → LeafAdded (opening_at h) w m (Ok y)
     unfolding LeafAdded opening_at taxon
     leaf-more b y q s = record {
       masked = q ∙ sym (joined m t.0 b) ∙ ap (λ z. bit_or m (bit_of z)) (sym known);

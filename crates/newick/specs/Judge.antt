@@ -5,7 +5,7 @@
 --                        where not, the records of the splits stand at their front: they are now t
 --   JudgedWith o s r u v t w    the same where lengths are kept: then the words v are as before, or the lengths of the splits stand at
 --                        their front, each as a word: they are now w
-use Rattle.std.specs.Prelude.{◌≡◌, ℕ, ◌≤◌, true, List, length}
+use Rattle.std.specs.Prelude.{◌≡◌, ℕ, ◌≤◌, true, List, length, Result, Ok, Err}
 use Rattle.trees.specs.Plain.{refused, gives}
 use Rattle.trees.specs.Opening.{Opening, head_bytes}
 use Rattle.trees.specs.Verdict.{judged, Branches, judged_with}
@@ -15,21 +15,20 @@ use Rattle.records.specs.Records.{with_records}
 use Rattle.head.specs.Head.{opening_at, names_at}
 use Rattle.head.specs.Index.{Indexed}
 use Rattle.newick.specs.Words.{with_words}
-use Rattle.newick.specs.declared.Judged.{Judged}
-use Rattle.newick.specs.declared.Judged.TheVariants.{Refused, Splits}
+use Rattle.answers.specs.declared.Refusal.{Refusal}
 
 pub record Prepared (h starts links : List ℕ) : Type 0 where
   pub reach : head_bytes ≤ length h
   pub good : good_opening (opening_at h) ≡ true
   pub indexed : Indexed (names_at h) starts links
 
-unfoldable pub JudgedAs : Opening → List ℕ → Judged → List ℕ → List ℕ → Type 0
+unfoldable pub JudgedAs : Opening → List ℕ → Result ℕ Refusal → List ℕ → List ℕ → Type 0
 unfolding refusal_number
-JudgedAs o s (Refused r) u t = (judged o.names s ≡ refused (refusal_number r)) × (t ≡ u)
-JudgedAs o s (Splits k) u t = (l : List ℕ) × (judged o.names s ≡ gives l) × (k ≡ length l) × (t ≡ with_records o l u)
+JudgedAs o s (Err r) u t = (judged o.names s ≡ refused (refusal_number r)) × (t ≡ u)
+JudgedAs o s (Ok k) u t = (l : List ℕ) × (judged o.names s ≡ gives l) × (k ≡ length l) × (t ≡ with_records o l u)
 
-unfoldable pub JudgedWith : Opening → List ℕ → Judged → List ℕ → List ℕ → List ℕ → List ℕ → Type 0
+unfoldable pub JudgedWith : Opening → List ℕ → Result ℕ Refusal → List ℕ → List ℕ → List ℕ → List ℕ → Type 0
 unfolding refusal_number
-JudgedWith o s (Refused r) u v t w = (judged_with 1 o.names s ≡ refused (refusal_number r)) × (t ≡ u) × (w ≡ v)
-JudgedWith o s (Splits k) u v t w =
+JudgedWith o s (Err r) u v t w = (judged_with 1 o.names s ≡ refused (refusal_number r)) × (t ≡ u) × (w ≡ v)
+JudgedWith o s (Ok k) u v t w =
     (b : Branches) × (judged_with 1 o.names s ≡ gives b) × (k ≡ length b.splits) × (t ≡ with_records o b.splits u) × (w ≡ with_words b.lengths v)

@@ -5,7 +5,7 @@
 --   LeafNew, LeafAdded       one more leaf, with the label w, behind leaves with the taxa m
 --   AllSummed                the first k leaves name different taxa, and their running sums stand in u
 --   LeavesSummed             what they come to: 8 or 9, whatever leaves stand behind them, or all this
-use Rattle.std.specs.Prelude.{◌≡◌, ℕ, suc, ◌+◌, ◌*◌, ◌<◌, ◌≤◌, List, ◌∷◌, ◌++◌, length, bit_or, count_ones, slice_index}
+use Rattle.std.specs.Prelude.{◌≡◌, ℕ, suc, ◌+◌, ◌*◌, ◌<◌, ◌≤◌, List, ◌∷◌, ◌++◌, length, bit_or, count_ones, slice_index, Result, Ok, Err}
 use Rattle.trees.specs.Splits.{taxon}
 use Rattle.trees.specs.Opening.{Opening}
 use Rattle.trees.specs.Verdict.{leaf_fault}
@@ -14,10 +14,7 @@ use Rattle.records.specs.Records.{wide}
 use Rattle.newick.specs.Splits.{Hashed}
 use Rattle.newick.specs.Running.{labels_at, label_taxa, Running}
 use Rattle.newick.specs.declared.splits.Sums.{Sums}
-use Rattle.newick.specs.declared.leaves.Leaf.{Leaf}
-use Rattle.newick.specs.declared.leaves.Leaf.TheVariants.{Faulty, New}
-use Rattle.newick.specs.declared.leaves.Summed.{Summed}
-use Rattle.newick.specs.declared.leaves.Summed.TheVariants.{Wrong, Distinct}
+use Rattle.answers.specs.declared.Refusal.{Refusal}
 
 abbrev pub most_leaves : ℕ
 most_leaves = 65
@@ -33,9 +30,9 @@ pub record LeafNew (o : Opening) (w : List ℕ) (m : ℕ) (y : Sums) : Type 0 wh
   pub judged : (ws : List (List ℕ)) → leaf_fault o.names m (w ∷ ws) ≡ leaf_fault o.names y.mask ws
   pub hashed : Hashed o y.mask y.place y.identifier
 
-unfoldable pub LeafAdded : Opening → List ℕ → ℕ → Leaf → Type 0
-LeafAdded o w m (Faulty r) = (ws : List (List ℕ)) → leaf_fault o.names m (w ∷ ws) ≡ refusal_number r
-LeafAdded o w m (New y) = LeafNew o w m y
+unfoldable pub LeafAdded : Opening → List ℕ → ℕ → Result Sums Refusal → Type 0
+LeafAdded o w m (Err r) = (ws : List (List ℕ)) → leaf_fault o.names m (w ∷ ws) ≡ refusal_number r
+LeafAdded o w m (Ok y) = LeafNew o w m y
 
 pub record AllSummed (o : Opening) (s l : List ℕ) (k : ℕ) (u : List ℕ) : Type 0 where
   pub masked : (j : ℕ) → j ≤ k → slice_index u (wide * j) ≡ label_taxa o.names (labels_at s l j)
@@ -43,6 +40,6 @@ pub record AllSummed (o : Opening) (s l : List ℕ) (k : ℕ) (u : List ℕ) : T
   pub count : count_ones (label_taxa o.names (labels_at s l k)) ≡ k
   pub judged : (ws : List (List ℕ)) → leaf_fault o.names 0 (labels_at s l k ++ ws) ≡ leaf_fault o.names (label_taxa o.names (labels_at s l k)) ws
 
-unfoldable pub LeavesSummed : Opening → List ℕ → List ℕ → ℕ → List ℕ → Summed → Type 0
-LeavesSummed o s l k u (Wrong r) = (ws : List (List ℕ)) → leaf_fault o.names 0 (labels_at s l k ++ ws) ≡ refusal_number r
-LeavesSummed o s l k u Distinct = AllSummed o s l k u
+unfoldable pub LeavesSummed : Opening → List ℕ → List ℕ → ℕ → List ℕ → Result (Unit {0}) Refusal → Type 0
+LeavesSummed o s l k u (Err r) = (ws : List (List ℕ)) → leaf_fault o.names 0 (labels_at s l k ++ ws) ≡ refusal_number r
+LeavesSummed o s l k u (Ok tt) = AllSummed o s l k u

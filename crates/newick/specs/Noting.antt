@@ -10,7 +10,7 @@
 --   NextStop s i j      j is the first place from i on where such a byte stands
 --   MeasuredBehind      the length behind a colon
 --   LengthsNoted        all of them
-use Rattle.std.specs.Prelude.{◌≡◌, ℕ, suc, ◌-◌, ◌<◌, ◌≤◌, Bool, true, false, ◌||◌, List, [], ◌∷◌, length, ◌==◌, slice_index, slice_set, if◌then◌else◌}
+use Rattle.std.specs.Prelude.{◌≡◌, ℕ, suc, ◌-◌, ◌<◌, ◌≤◌, Bool, true, false, ◌||◌, List, [], ◌∷◌, length, ◌==◌, slice_index, slice_set, if◌then◌else◌, Option, None, Some}
 use Rattle.trees.specs.Plain.{every, byte}
 use Rattle.trees.specs.Text.{apostrophe, Symbol, open_bracket, close_bracket, comma, colon, stray, token, symbols}
 use Rattle.trees.specs.Length.{is_length}
@@ -19,8 +19,6 @@ use Rattle.trees.specs.Lengths.{is_given}
 use Rattle.text.specs.Read.{symbols_at}
 use Rattle.doubles.specs.Stored.{all_ones}
 use Rattle.newick.specs.Words.{word_of}
-use Rattle.newick.specs.declared.noting.Measured.{Measured}
-use Rattle.newick.specs.declared.noting.Measured.TheVariants.{Outside, Inside}
 
 unfoldable pub Fine : Bool → List Symbol → Type 0
 unfolding is_length
@@ -88,9 +86,9 @@ pub record MeasuredAt (s : List ℕ) (i j x : ℕ) : Type 0 where
   pub past : i < j
   pub within : j ≤ length s
 
-unfoldable pub MeasuredBehind : List ℕ → ℕ → Measured → Type 0
-MeasuredBehind s i Outside = (w : List ℕ) × (r : List Symbol) × (symbols_at s i ≡ token w ∷ r) × (is_exact w ≡ false)
-MeasuredBehind s i (Inside j x) = MeasuredAt s i j x
+unfoldable pub MeasuredBehind : List ℕ → ℕ → Option (ℕ × ℕ) → Type 0
+MeasuredBehind s i None = (w : List ℕ) × (r : List Symbol) × (symbols_at s i ≡ token w ∷ r) × (is_exact w ≡ false)
+MeasuredBehind s i (Some (j, x)) = MeasuredAt s i j x
 
 -- "any length in the text outside the exact range", or the words of all inner nodes
 pub record LengthsNoted (s l : List ℕ) (r : Bool) (l' : List ℕ) : Type 0 where

@@ -4,7 +4,7 @@
 --   shape-tokens       of a text, the tokens of the first leaves lie in itself
 --   shape-itself       so do their labels
 --   shape-read         so it is read by its own labels
-use Rattle.std.specs.Prelude.{◌≡◌, ℕ, ◌*◌, ◌≤◌, min, List, length, replicate, refl}
+use Rattle.std.specs.Prelude.{◌≡◌, ℕ, ◌*◌, ◌≤◌, min, List, length, replicate, refl, Result, Ok, Err}
 use Rattle.std.proofs.Common.{arith, ap, ◌∙◌}
 use Rattle.std.proofs.lemmas.List.{length-replicate}
 use Rattle.std.proofs.lemmas.List.Edits.{sets}
@@ -15,10 +15,9 @@ use Rattle.newick.specs.Shape.{spans, Shaped, ShapeRead}
 use Rattle.newick.specs.Leaves.{most_leaves, Tokens}
 use Rattle.newick.specs.Sound.{span_room, TreeRead}
 use Rattle.newick.specs.Shaping.{Shaping}
-use Rattle.newick.specs.declared.Tree.{Tree}
-use Rattle.newick.specs.declared.Tree.TheVariants.{Faulty, Sound}
 use Rattle.newick.specs.declared.shape.Mark.{Mark}
 use Rattle.newick.specs.TokenLaws.{tokens-lie, labels-first}
+use Rattle.answers.specs.declared.Refusal.{Refusal}
 
 pub shaping-room : (s w : List ℕ) (leaved : ℕ) (l : List ℕ) (n : ℕ) (m : List ℕ) → Shaping s w leaved l n m → length m ≡ span_room
 shaping-room s w leaved l n m x = ap length x.spanned ∙ length-sets x.before 0 (spans 0 x.tree) ∙ x.room
@@ -51,7 +50,7 @@ module _ (s : List ℕ) (c : Mark) (tokens nodes tokens' nodes' : List ℕ) (h :
   shape-itself e = shape-over nodes nodes' e shaped.spanned
 
   -- a fault of its leaves is one whatever list its spans stand in
-  pub shape-read : (o : Opening) (r : Tree) (u : List ℕ) → ((m : List ℕ) → Shaping s s c.leaves tokens' c.inner m → TreeRead o s r u m m) → TreeRead o s r u nodes nodes'
+  pub shape-read : (o : Opening) (r : Result (ℕ × ℕ) Refusal) (u : List ℕ) → ((m : List ℕ) → Shaping s s c.leaves tokens' c.inner m → TreeRead o s r u m m) → TreeRead o s r u nodes nodes'
   unfolding TreeRead
-  shape-read o (Faulty r) u p = p _ (shape-over (replicate span_room 0) _ (length-replicate {A = ℕ} span_room 0) refl)
-  shape-read o (Sound k n) u p = λ e. let x = shape-itself e in p nodes' x (shaping-room s s c.leaves tokens' c.inner nodes' x)
+  shape-read o (Err r) u p = p _ (shape-over (replicate span_room 0) _ (length-replicate {A = ℕ} span_room 0) refl)
+  shape-read o (Ok (k, n)) u p = λ e. let x = shape-itself e in p nodes' x (shaping-room s s c.leaves tokens' c.inner nodes' x)

@@ -13,27 +13,13 @@ ghost use Rattle.newick.specs.Leaves.{most_leaves, Tokens, LeafAdded, LeavesSumm
 use crate::shape::TOKENS;
 use crate::splits::Sums;
 use answers::{Refusal, Taxon};
-use head::{Found, KEYS};
+use head::KEYS;
 
 // How many leaves are judged at most: `most_leaves` of specs/Leaves.antt.
 pub(crate) const MOST_LEAVES: usize = 65;
 
 // The words of the running sums: of no leaf, and of each that is judged.
 pub(crate) const SUMS: usize = 198;
-
-// One more leaf: its fault, or the sums with it.
-#[derive(Clone, Copy)]
-pub enum Leaf {
-    Faulty(Refusal),
-    New(Sums),
-}
-
-// All leaves: the first fault, or different taxa.
-#[derive(Clone, Copy)]
-pub enum Summed {
-    Wrong(Refusal),
-    Distinct,
-}
 
 // Judges the first k leaves, whose labels the tokens mark, and writes running sums: record j is of the first j leaves.
 pub(crate) fn sum_leaves(
@@ -44,7 +30,7 @@ pub(crate) fn sum_leaves(
     k: usize,
     tokens: &[u16; TOKENS],
     sums: &mut [u64],
-) -> Summed
+) -> Result<(), Refusal>
     requires prepared { Prepared head.now starts.now links.now }
     requires k_le_most_leaves { (k ≤ most_leaves) × Tokens text.now tokens.now k }
     requires wide_in_bounds { wide * k + wide ≤ length sums.old }
@@ -56,19 +42,13 @@ pub(crate) fn sum_leaves(
         identifier: 0,
     };
     records::put_record(sums, 0, 0, 0, 0);
-    let mut j = 0;
-    while j < k {
+    for j in 0..k {
         let b = tokens[2 * j] as usize;
         let e = tokens[2 * j + 1] as usize;
-        let l = add_leaf(head, starts, links, text, b, e, x);
-        match l {
-            Leaf::Faulty(r) => return Summed::Wrong(r),
-            Leaf::New(y) => x = y,
-        }
-        j += 1;
-        records::put_record(sums, j, x.mask, x.place, x.identifier);
+        x = add_leaf(head, starts, links, text, b, e, x)?;
+        records::put_record(sums, j + 1, x.mask, x.place, x.identifier);
     }
-    Summed::Distinct
+    Ok(())
 }
 
 // The leaf whose label stands from b up to e, behind leaves with the sums x.
@@ -80,20 +60,20 @@ fn add_leaf(
     b: usize,
     e: usize,
     x: Sums,
-) -> Leaf
+) -> Result<Sums, Refusal>
     requires prepared { Prepared head.now starts.now links.now }
     requires b_le_e { (b ≤ e) × (e ≤ length text.now) }
     requires hashed { Hashed (opening_at head.now) x.mask x.place x.identifier }
     ensures { LeafAdded (opening_at head.now) (slice b e text.now) x.mask result }
 {
     let f = head::find_taxon(head, starts, links, text, b, e);
-    let Found::At(t) = f else {
-        return Leaf::Faulty(Refusal::UnknownLeaf);
+    let Some(t) = f else {
+        return Err(Refusal::UnknownLeaf);
     };
     if masks::has_taxon(x.mask, t) {
-        return Leaf::Faulty(Refusal::RepeatedLeaf);
+        return Err(Refusal::RepeatedLeaf);
     }
-    Leaf::New(add_taxon(head, x, t))
+    Ok(add_taxon(head, x, t))
 }
 
 // The sums x with the taxon t, which they lack.

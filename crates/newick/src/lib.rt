@@ -19,7 +19,7 @@ ghost use Rattle.newick.specs.Judge.{Prepared, JudgedAs, JudgedWith};
 
 use answers::Refusal;
 use head::KEYS;
-use leaves::{MOST_LEAVES, SUMS, Summed};
+use leaves::{MOST_LEAVES, SUMS};
 use noting::MOST_LENGTHS;
 pub use shape::{Mark, NODES, TOKENS, read_shape};
 
@@ -30,20 +30,6 @@ mod placing;
 mod shape;
 mod splits;
 
-// The verdict on a text: its refusal, or how many splits it has.
-#[derive(Clone, Copy)]
-pub enum Judged {
-    Refused(Refusal),
-    Splits(usize),
-}
-
-// What a text is: a fault of its form or of its leaves, or a tree with so many leaves and inner nodes.
-#[derive(Clone, Copy)]
-pub enum Tree {
-    Faulty(Refusal),
-    Sound(usize, usize),
-}
-
 // The verdict on a text, by the index of the names; the records of its splits stand at the front of a list.
 pub fn judge(
     head: &[u8],
@@ -51,7 +37,7 @@ pub fn judge(
     links: &[u8; 64],
     text: &[u8],
     records: &mut [u64],
-) -> Judged
+) -> Result<usize, Refusal>
     requires prepared { Prepared head.now starts.now links.now }
     requires text_len_bound { length text.now ≤ most_text }
     requires most_words_in_bounds { most_words ≤ length records.old }
@@ -59,13 +45,8 @@ pub fn judge(
 {
     let mut sums = [0u64; SUMS];
     let mut nodes = [0u16; NODES];
-    let t = read_tree(head, starts, links, text, &mut sums, &mut nodes);
-    match t {
-        Tree::Faulty(r) => Judged::Refused(r),
-        Tree::Sound(k, n) => {
-            Judged::Splits(ordered::gather_splits(head, k, &sums, n, &nodes, records))
-        }
-    }
+    let (k, n) = read_tree(head, starts, links, text, &mut sums, &mut nodes)?;
+    Ok(ordered::gather_splits(head, k, &sums, n, &nodes, records))
 }
 
 // The verdict where lengths are kept; the lengths of the splits stand at the front of another list, in the order of the records.
@@ -76,7 +57,7 @@ pub fn judge_lengths(
     text: &[u8],
     records: &mut [u64],
     lengths: &mut [u64],
-) -> Judged
+) -> Result<usize, Refusal>
     requires prepared { Prepared head.now starts.now links.now }
     requires text_len_bound { length text.now ≤ most_text }
     requires most_words_in_bounds { (most_words ≤ length records.old) × (most_lengths ≤ length lengths.old) }
@@ -84,28 +65,23 @@ pub fn judge_lengths(
 {
     let mut sums = [0u64; SUMS];
     let mut nodes = [0u16; NODES];
-    let t = read_tree(head, starts, links, text, &mut sums, &mut nodes);
-    match t {
-        Tree::Faulty(r) => Judged::Refused(r),
-        Tree::Sound(k, n) => {
-            let mut words = [0u64; MOST_LENGTHS];
-            if !noting::note_lengths(text, &mut words) {
-                return Judged::Refused(Refusal::InexactLength);
-            }
-            let s = ordered::gather_splits(head, k, &sums, n, &nodes, records);
-            placing::place_lengths(
-                head::taxa(head),
-                &sums,
-                n - 1,
-                &nodes,
-                &words,
-                s,
-                records,
-                lengths,
-            );
-            Judged::Splits(s)
-        }
+    let (k, n) = read_tree(head, starts, links, text, &mut sums, &mut nodes)?;
+    let mut words = [0u64; MOST_LENGTHS];
+    if !noting::note_lengths(text, &mut words) {
+        return Err(Refusal::InexactLength);
     }
+    let s = ordered::gather_splits(head, k, &sums, n, &nodes, records);
+    placing::place_lengths(
+        head::taxa(head),
+        &sums,
+        n - 1,
+        &nodes,
+        &words,
+        s,
+        records,
+        lengths,
+    );
+    Ok(s)
 }
 
 // The verdict on a tree whose shape was read, by the labels that the tokens mark in other bytes than its text; the records of its splits
@@ -120,7 +96,7 @@ pub fn judge_shape(
     tokens: &[u16; TOKENS],
     nodes: &[u16; NODES],
     records: &mut [u64],
-) -> Judged
+) -> Result<usize, Refusal>
     requires prepared { Prepared head.now starts.now links.now }
     requires tokens { Tokens labels.now tokens.now (min leaves most_leaves) }
     requires by_index { (s : List ℕ) × Shaping s labels.now leaves tokens.now inner nodes.now }
@@ -128,15 +104,10 @@ pub fn judge_shape(
     ensures { (s : List ℕ) → Shaping s labels.now leaves tokens.now inner nodes.now → JudgedAs (opening_at head.now) s result records.old records.new }
 {
     let mut sums = [0u64; SUMS];
-    let t = read_leaves(
+    let (k, n) = read_leaves(
         head, starts, links, labels, leaves, inner, tokens, &mut sums,
-    );
-    match t {
-        Tree::Faulty(r) => Judged::Refused(r),
-        Tree::Sound(k, n) => {
-            Judged::Splits(ordered::gather_splits(head, k, &sums, n, nodes, records))
-        }
-    }
+    )?;
+    Ok(ordered::gather_splits(head, k, &sums, n, nodes, records))
 }
 
 // Reads a text up to its leaves: their running sums, and the spans of its inner nodes.
@@ -147,7 +118,7 @@ fn read_tree(
     text: &[u8],
     sums: &mut [u64; SUMS],
     nodes: &mut [u16; NODES],
-) -> Tree
+) -> Result<(usize, usize), Refusal>
     requires prepared { Prepared head.now starts.now links.now }
     requires text_len_bound { length text.now ≤ most_text }
     ensures { TreeRead (opening_at head.now) text.now result sums.new nodes.old nodes.new }
@@ -155,7 +126,7 @@ fn read_tree(
     let mut tokens = [0u16; TOKENS];
     let c = shape::read_shape(text, &mut tokens, nodes);
     if text.len() < c.at {
-        return Tree::Faulty(Refusal::BadForm);
+        return Err(Refusal::BadForm);
     }
     read_leaves(head, starts, links, text, c.leaves, c.inner, &tokens, sums)
 }
@@ -170,33 +141,18 @@ fn read_leaves(
     inner: usize,
     tokens: &[u16; TOKENS],
     sums: &mut [u64; SUMS],
-) -> Tree
+) -> Result<(usize, usize), Refusal>
     requires prepared { Prepared head.now starts.now links.now }
     requires tokens { Tokens labels.now tokens.now (min leaves most_leaves) }
     ensures { (s m : List ℕ) → Shaping s labels.now leaves tokens.now inner m → TreeRead (opening_at head.now) s result sums.new m m }
 {
-    let k = fewer(leaves, MOST_LEAVES);
-    let l = leaves::sum_leaves(head, starts, links, labels, k, tokens, sums);
-    match l {
-        Summed::Wrong(r) => Tree::Faulty(r),
-        Summed::Distinct => {
-            if !masks::is_same(
-                records::mask_of(sums, k),
-                masks::every_taxon(head::taxa(head)),
-            ) {
-                return Tree::Faulty(Refusal::MissingTaxon);
-            }
-            Tree::Sound(k, inner)
-        }
+    let k = leaves.min(MOST_LEAVES);
+    leaves::sum_leaves(head, starts, links, labels, k, tokens, sums)?;
+    if !masks::is_same(
+        records::mask_of(sums, k),
+        masks::every_taxon(head::taxa(head)),
+    ) {
+        return Err(Refusal::MissingTaxon);
     }
-}
-
-// n, but no more than most.
-fn fewer(n: usize, most: usize) -> usize
-    ensures { result ≡ min n most }
-{
-    if n < most {
-        return n;
-    }
-    most
+    Ok((k, inner))
 }

@@ -6,20 +6,13 @@ ghost use Rattle.trees.specs.Held.{most_text};
 ghost use Rattle.text.specs.Read.{symbols_at};
 ghost use Rattle.newick.specs.Noting.{Fine, is_stop as stopsAt, NextStop, MeasuredBehind, LengthsNoted};
 
-use lengths::Value;
+use crate::shape::put;
 
 // The words of 64 lengths: `most_lengths` of specs/Words.antt.
 pub(crate) const MOST_LENGTHS: usize = 64;
 
 // The word of no length.
 const NO_LENGTH: u64 = 0xffff_ffff_ffff_ffff;
-
-// A length: outside the exact range, or the place behind it and its word.
-#[derive(Clone, Copy)]
-pub enum Measured {
-    Outside,
-    Inside(usize, u64),
-}
 
 // Notes the lengths of all inner nodes; answers whether all lengths of the text, those of leaves too, are in the exact range.
 pub(crate) fn note_lengths(text: &[u8], words: &mut [u64; MOST_LENGTHS]) -> bool
@@ -30,11 +23,12 @@ pub(crate) fn note_lengths(text: &[u8], words: &mut [u64; MOST_LENGTHS]) -> bool
     let mut inner = false;
     let mut n = 0;
     let mut at = next_stop(text, 0);
+    // No range counts these places: each is the next stop behind a length, a byte or a label.
     while at < text.len() {
         let b = text[at];
         if b == b':' {
             let m = length_behind(text, at + 1);
-            let Measured::Inside(e, x) = m else {
+            let Some((e, x)) = m else {
                 return false;
             };
             note_last(words, inner, n, x);
@@ -65,14 +59,12 @@ fn next_stop(text: &[u8], from: usize) -> usize
     requires fine { Fine false (symbols_at text.now from) }
     ensures { NextStop text.now from result }
 {
-    let mut at = from;
-    while at < text.len() {
+    for at in from..text.len() {
         if is_stop(text[at]) {
             return at;
         }
-        at += 1;
     }
-    at
+    text.len()
 }
 
 // Whether b is a colon, a closing bracket, a comma or a quote.
@@ -92,19 +84,15 @@ fn is_stop(b: u8) -> bool
 }
 
 // The length behind a colon.
-fn length_behind(text: &[u8], at: usize) -> Measured
+fn length_behind(text: &[u8], at: usize) -> Option<(usize, u64)>
     requires at_in_bounds { (at ≤ length text.now) × (length text.now ≤ most_text) }
     requires fine { Fine true (symbols_at text.now at) }
     ensures { MeasuredBehind text.now at result }
 {
     let b = text::skip_blanks(text, at);
     let t = lengths::length_at(text, b);
-    let e = t.at;
-    let v = t.value;
-    match v {
-        Value::Outside => Measured::Outside,
-        Value::Inside(x) => Measured::Inside(e, f64::to_bits(x)),
-    }
+    let x = t.value?;
+    Some((t.at, f64::to_bits(x)))
 }
 
 // Notes x as the last of n words, if the node that ended is an inner one.
@@ -116,13 +104,4 @@ fn note_last(words: &mut [u64], inner: bool, n: usize, x: u64)
         return;
     }
     put(words, n - 1, x);
-}
-
-// Writes x at i, where the list has such a place.
-fn put(words: &mut [u64], i: usize, x: u64)
-    ensures { words.new ≡ slice_set words.old i x }
-{
-    if i < words.len() {
-        words[i] = x;
-    }
 }

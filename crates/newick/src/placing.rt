@@ -34,16 +34,13 @@ pub(crate) fn place_lengths(
     ensures { out.new ≡ placed_words taxa sums.now nodes.now words.now (masks_of k records.now) n ++ drop k out.old }
 {
     clear(out, k);
-    let mut j = 0;
-    while j < n {
+    for j in 0..n {
         let m = side_of(taxa, sums, nodes, j);
-        let x = words[j];
-        j += 1;
         if !masks::is_proper(m, taxa) {
             continue;
         }
         let i = find_record(records, k, m);
-        out[i] = with_length(out[i], x);
+        out[i] = with_length(out[i], words[j]);
     }
 }
 
@@ -52,11 +49,7 @@ fn clear(out: &mut [u64], k: usize)
     requires { k ≤ length out.old }
     ensures { out.new ≡ replicate k noneYet ++ drop k out.old }
 {
-    let mut i = 0;
-    while i < k {
-        out[i] = UNSET;
-        i += 1;
-    }
+    out[..k].fill(UNSET);
 }
 
 // The side without taxon 0 of node j.

@@ -109,6 +109,7 @@ pub(crate) fn read_nodes(
 {
     let mut d = c;
     let mut k = 0;
+    // How many children there are, the closing bracket alone tells.
     loop {
         d = read_node(text, d, depth, tokens, nodes);
         k += 1;
@@ -147,7 +148,7 @@ fn note(list: &mut [u16], k: usize, a: usize, b: usize)
 }
 
 // Writes v at i, where the list has such a place.
-fn put(list: &mut [u16], i: usize, v: u16)
+pub(crate) fn put<T: Copy>(list: &mut [T], i: usize, v: T)
     ensures { list.new ≡ slice_set list.old i v }
 {
     if i < list.len() {

@@ -6,19 +6,20 @@
 --   begun-reads        a command that begins a block, or is wrong
 --   Outside            the loop of `next_block` has passed other blocks
 --   outside-none, outside-more, outside-less     none, one more, with less left
---   outside-trees, outside-last, outside-wrong, outside-never     behind them: the TREES block, no command, a wrong one, or one of them never ends
+--   outside-trees, outside-last, outside-wrong, outside-never     behind them: the TREES block, no command, a wrong one, or a block that never ends
 --   ends-trees, ends-wrong, ends-blank, ends-else     what stands behind the TREES block
-use Rattle.std.specs.Prelude.{ℕ, ◌+◌, ◌-◌, ◌≤◌, ◌<◌, ◌≡◌, ◌⊎◌, Bool, List, [], if◌then◌else◌}
+use Rattle.std.specs.Prelude.{ℕ, ◌+◌, ◌-◌, ◌≤◌, ◌<◌, ◌≡◌, Bool, List, [], if◌then◌else◌}
 use native.Mathlib.Omega.{arith}
 use Rattle.std.proofs.Math.Path.{refl}
-use Rattle.std.proofs.Common.{◌∙◌, inl, inr}
+use Rattle.std.proofs.Common.{◌∙◌}
 use Rattle.std.proofs.Math.Bool.{true, false}
+use Rattle.std.specs.Prelude.{None, Some}
 use Rattle.std.proofs.Math.Option.{none, some}
 use Rattle.std.proofs.Math.ListN.{length}
 use borrow.Author.Tests.{eq-eqb, ne_eqb}
 use Rattle.trees.specs.Nexus.{uncommented, File}
 use Rattle.trees.specs.NexusReading.{ends_other, outside, in_other, in_trees, wrong, to, moved, closes, reads_on, reads}
-use Rattle.theorems.specs.ListLaws.{less-or-not, if-true, if-false}
+use Rattle.theorems.specs.ListLaws.{if-true, if-false}
 use Rattle.nexus.specs.declared.lines.Begun.{Begun}
 use Rattle.nexus.specs.declared.lines.Begun.TheVariants as begun
 use Rattle.nexus.specs.declared.blocks.Next.TheVariants.{Trees, Last, Wrong}
@@ -65,21 +66,16 @@ module _ (f : List ℕ) (i k e : ℕ) (b : Beyond f i k) (c : CommandEnd f k e) 
         same = λ came. b.same came ∙ other-goes-on f k e c (omega (arith, n)) h came;
       }
 
-  pub beyond-good : (e ≡ length f → ⊥) → ends_other (uncommented false (part k e f)) ≡ true → OtherEnd f i (e + 1)
+  pub beyond-good : (e ≡ length f → ⊥) → ends_other (uncommented false (part k e f)) ≡ true → OtherEnd f i (Some (e + 1))
+  unfolding OtherEnd
   beyond-good n h =
       let p = c.past in
       let q = c.within in
-      record {
-        good = λ l. (omega (arith, b.past), λ came. b.same came ∙ other-ends f k e c (omega (arith, n)) h came);
-        fault = λ l. absurd (omega (arith, n));
-      }
+      (omega (arith, b.past), omega (arith, n), λ came. b.same came ∙ other-ends f k e c (omega (arith, n)) h came)
 
-  pub beyond-fault : e ≡ length f → (r : ℕ) → r ≡ length f + 1 → OtherEnd f i r
-  beyond-fault h r g =
-      record {
-        good = λ l. absurd (omega arith);
-        fault = λ l. (g, λ came. b.same came ∙ other-never f k e c h came);
-      }
+  pub beyond-fault : e ≡ length f → OtherEnd f i None
+  unfolding OtherEnd
+  beyond-fault h came = b.same came ∙ other-never f k e c h came
 
 -- ---- other blocks
 
@@ -88,25 +84,25 @@ module _ (f : List ℕ) (k e : ℕ) (c : CommandEnd f k e) (l : e < length f) (r
   unfolding moved
   begun-reads came = reads-moved f k e c l (outside came) (begun_move came r) (b came)
 
--- the loop has passed other blocks from i up to k; past the file where one of them never ends
+-- the loop has passed other blocks from i up to k
 pub record Outside (f : List ℕ) (i k : ℕ) : Type 0 where
-  pub there : k ≤ length f → (came : Bool) → reads (outside came) (commands_at f i) ≡ reads (outside came) (commands_at f k)
-  pub never : length f < k → (came : Bool) → reads (outside came) (commands_at f i) ≡ none
+  pub within : k ≤ length f
+  pub same : (came : Bool) → reads (outside came) (commands_at f i) ≡ reads (outside came) (commands_at f k)
 
 pub outside-none : (f : List ℕ) (i : ℕ) → i ≤ length f → Outside f i i
-outside-none f i h = record { there = λ l came. refl; never = λ l. absurd (omega arith) }
+outside-none f i h = record { within = h; same = λ came. refl }
 
-module _ (f : List ℕ) (i k e : ℕ) (o : Outside f i k) (h : k ≤ length f) (c : CommandEnd f k e) where
+module _ (f : List ℕ) (i k e : ℕ) (o : Outside f i k) (c : CommandEnd f k e) where
   pub outside-last : e ≡ length f → NextAs f i (Last k)
   unfolding NextAs
-  outside-last l = (h, λ came. o.there h came ∙ reads-last f k e c l (outside came))
+  outside-last l = (o.within, λ came. o.same came ∙ reads-last f k e c l (outside came))
 
   module _ (n : e ≡ length f → ⊥) where
     pub outside-trees : BegunAs (part k e f) begun.Trees → NextAs f i (Trees (e + 1))
     unfolding NextAs
     outside-trees b =
         let l : e < length f = omega (arith, n, c.within) in
-        (omega arith, λ came. o.there h came ∙ begun-reads f k e c l begun.Trees b came ∙ go came)
+        (omega arith, λ came. o.same came ∙ begun-reads f k e c l begun.Trees b came ∙ go came)
       where
         go : (came : Bool) → reads_on (if came then wrong else to (in_trees true)) (λ p. reads p (commands_at f (e + 1)))
             ≡ (if came then none else reads (in_trees true) (commands_at f (e + 1)))
@@ -115,27 +111,24 @@ module _ (f : List ℕ) (i k e : ℕ) (o : Outside f i k) (h : k ≤ length f) (
 
     pub outside-wrong : BegunAs (part k e f) begun.Wrong → NextAs f i Wrong
     unfolding NextAs reads_on
-    outside-wrong b came = o.there h came ∙ begun-reads f k e c (omega (arith, n, c.within)) begun.Wrong b came
+    outside-wrong b came = o.same came ∙ begun-reads f k e c (omega (arith, n, c.within)) begun.Wrong b came
 
-    pub outside-more : BegunAs (part k e f) begun.Other → (r : ℕ) → OtherEnd f (e + 1) r → Outside f i r
-    unfolding reads_on
+    pub outside-more : BegunAs (part k e f) begun.Other → (r : ℕ) → OtherEnd f (e + 1) (Some r) → Outside f i r
+    unfolding OtherEnd reads_on
     outside-more b r p =
         record {
-          there = λ l came. o.there h came ∙ begun-reads f k e c (omega (arith, n, c.within)) begun.Other b came ∙ (p.good l).1 came;
-          never = λ l came. o.there h came ∙ begun-reads f k e c (omega (arith, n, c.within)) begun.Other b came ∙ (p.fault l).1 came;
+          within = p.1;
+          same = λ came. o.same came ∙ begun-reads f k e c (omega (arith, n, c.within)) begun.Other b came ∙ p.2 came;
         }
 
--- the loop ends: it passes another block, or the file
-pub outside-less : (f : List ℕ) (k e r : ℕ) → k ≤ e → k ≤ length f → OtherEnd f (e + 1) r → length f + 1 - r < length f + 1 - k
-outside-less f k e r p h o = go (less-or-not (length f) r)
-  where
-    go : (length f < r) ⊎ (r ≤ length f) → length f + 1 - r < length f + 1 - k
-    go (inl l) = omega arith
-    go (inr l) = omega (arith, (o.good l).0)
+    pub outside-never : BegunAs (part k e f) begun.Other → OtherEnd f (e + 1) None → NextAs f i Wrong
+    unfolding NextAs OtherEnd reads_on
+    outside-never b p came = o.same came ∙ begun-reads f k e c (omega (arith, n, c.within)) begun.Other b came ∙ p came
 
-pub outside-never : (f : List ℕ) (i k : ℕ) → Outside f i k → length f < k → NextAs f i Wrong
-unfolding NextAs
-outside-never f i k o l = o.never l
+-- the loop ends: it passes another block
+pub outside-less : (f : List ℕ) (k e r : ℕ) → k ≤ e → OtherEnd f (e + 1) (Some r) → length f - r < length f - k
+unfolding OtherEnd
+outside-less f k e r h p = omega (arith, p.0, p.1)
 
 -- ---- behind the TREES block
 

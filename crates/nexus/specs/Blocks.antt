@@ -1,14 +1,15 @@
 -- What a file is, as the code answers it, from a place on.
 --
---   OtherEnd f i r       another block goes on from i and ends before r; r is past f where it never ends
+--   OtherEnd f i r       another block goes on from i and ends before r; r is none where it never ends
 --   NextAs f i r         what stands behind the other blocks from i on
---   ListedAs f i r ps    the TRANSLATE list that may stand at i; the places of its pairs are ps
+--   Listed, ListedAs f i ps r     the TRANSLATE list that may stand at i, or none; the places of its pairs are ps
 --   with_texts ts x       the file x with the texts ts before its own
---   CountedAs f i r      the lines of the TREES block from i on
+--   Counted, CountedAs f i r      the lines of the TREES block from i on, or none
 --   EndsAs f i r         r says whether other blocks and blanks alone stand from i on
---   TreesAs f i r ps     the TREES block from its first command, at i, on, and what stands behind it
---   FileAs f r ps        the whole file
-use Rattle.std.specs.Prelude.{ℕ, ◌+◌, ◌≤◌, ◌<◌, ◌≡◌, Bool, true, false, List, [], ◌∷◌, length, if◌then◌else◌}
+--   TreesAs f i ps r     the TREES block from its first command, at i, on, and what stands behind it
+--   FileAs f ps r        the whole file; r is none where it is malformed
+use Rattle.std.specs.Prelude.{ℕ, ◌≤◌, ◌<◌, ◌≡◌, Bool, true, false, List, [], ◌∷◌, length, if◌then◌else◌}
+use Rattle.std.specs.Prelude.{Option as CodeOption, None, Some}
 use Rattle.std.proofs.Math.Option.{Option, none, some}
 use Rattle.trees.specs.Nexus.{File}
 use Rattle.trees.specs.NexusReading.{outside, in_other, in_trees, with_pairs, with_text, closes, reads, read_file}
@@ -20,9 +21,9 @@ use Rattle.nexus.specs.declared.blocks.Blocks.{Blocks}
 use Rattle.nexus.specs.Places.{part, plain_at, commands_at}
 use Rattle.nexus.specs.Commands.{pairs_in, Placed}
 
-pub record OtherEnd (f : List ℕ) (i r : ℕ) : Type 0 where
-  pub good : r ≤ length f → (i < r) × ((came : Bool) → reads (in_other came) (commands_at f i) ≡ reads (outside came) (commands_at f r))
-  pub fault : length f < r → (r ≡ length f + 1) × ((came : Bool) → reads (in_other came) (commands_at f i) ≡ none)
+unfoldable pub OtherEnd : List ℕ → ℕ → CodeOption ℕ → Type 0
+OtherEnd f i (Some r) = (i < r) × (r ≤ length f) × ((came : Bool) → reads (in_other came) (commands_at f i) ≡ reads (outside came) (commands_at f r))
+OtherEnd f i None = (came : Bool) → reads (in_other came) (commands_at f i) ≡ none
 
 unfoldable pub NextAs : List ℕ → ℕ → Next → Type 0
 NextAs f i (Trees r) =
@@ -30,23 +31,31 @@ NextAs f i (Trees r) =
 NextAs f i (Last r) = (r ≤ length f) × ((came : Bool) → reads (outside came) (commands_at f i) ≡ closes (outside came) (plain_at f r))
 NextAs f i Wrong = (came : Bool) → reads (outside came) (commands_at f i) ≡ none
 
-pub record ListedAs (f : List ℕ) (i : ℕ) (r : Listing) (ps : List ℕ) : Type 0 where
-  pub good : r.at ≤ length f →
-      (r.from ≤ r.end) × (r.end ≤ length f)
-      × Placed (part r.from r.end f) r.pairs ps
-      × (reads (in_trees true) (commands_at f i) ≡ with_pairs (pairs_in (part r.from r.end f) r.pairs ps) (reads (in_trees false) (commands_at f r.at)))
-  pub fault : length f < r.at → reads (in_trees true) (commands_at f i) ≡ none
+pub record Listed (f : List ℕ) (i : ℕ) (ps : List ℕ) (r : Listing) : Type 0 where
+  pub order : r.from ≤ r.end
+  pub within : r.end ≤ length f
+  pub there : r.at ≤ length f
+  pub placed : Placed (part r.from r.end f) r.pairs ps
+  pub lists : reads (in_trees true) (commands_at f i) ≡ with_pairs (pairs_in (part r.from r.end f) r.pairs ps) (reads (in_trees false) (commands_at f r.at))
+
+unfoldable pub ListedAs : List ℕ → ℕ → List ℕ → CodeOption Listing → Type 0
+ListedAs f i ps (Some r) = Listed f i ps r
+ListedAs f i ps None = reads (in_trees true) (commands_at f i) ≡ none
 
 unfoldable pub with_texts : List (List ℕ) → Option File → Option File
 unfolding with_text
 with_texts [] x = x
 with_texts (t ∷ ts) x = with_text t (with_texts ts x)
 
-pub record CountedAs (f : List ℕ) (i : ℕ) (r : Lines) : Type 0 where
-  pub good : r.at ≤ length f →
-      (ts : List (List ℕ)) × (length ts ≡ r.trees)
-      × (reads (in_trees false) (commands_at f i) ≡ with_texts ts (reads (outside true) (commands_at f r.at)))
-  pub fault : length f < r.at → reads (in_trees false) (commands_at f i) ≡ none
+pub record Counted (f : List ℕ) (i : ℕ) (r : Lines) : Type 0 where
+  pub there : r.at ≤ length f
+  pub texts : List (List ℕ)
+  pub count : length texts ≡ r.trees
+  pub brings : reads (in_trees false) (commands_at f i) ≡ with_texts texts (reads (outside true) (commands_at f r.at))
+
+unfoldable pub CountedAs : List ℕ → ℕ → CodeOption Lines → Type 0
+CountedAs f i (Some r) = Counted f i r
+CountedAs f i None = reads (in_trees false) (commands_at f i) ≡ none
 
 pub record EndsAs (f : List ℕ) (i : ℕ) (r : Bool) : Type 0 where
   pub well : r ≡ true → reads (outside true) (commands_at f i) ≡ some (record { pairs = []; texts = [] })
@@ -62,10 +71,10 @@ pub record Found (f : List ℕ) (r : Blocks) (ps : List ℕ) (x : File) : Type 0
   pub trees : length x.texts ≡ r.trees
   pub lines : reads (in_trees false) (commands_at f r.lines) ≡ some (record { pairs = []; texts = x.texts })
 
-pub record TreesAs (f : List ℕ) (i : ℕ) (r : Blocks) (ps : List ℕ) : Type 0 where
-  pub good : r.good ≡ true → (x : File) × (reads (in_trees true) (commands_at f i) ≡ some x) × Found f r ps x
-  pub bad : r.good ≡ false → reads (in_trees true) (commands_at f i) ≡ none
+unfoldable pub TreesAs : List ℕ → ℕ → List ℕ → CodeOption Blocks → Type 0
+TreesAs f i ps (Some r) = (x : File) × (reads (in_trees true) (commands_at f i) ≡ some x) × Found f r ps x
+TreesAs f i ps None = reads (in_trees true) (commands_at f i) ≡ none
 
-pub record FileAs (f : List ℕ) (r : Blocks) (ps : List ℕ) : Type 0 where
-  pub good : r.good ≡ true → (x : File) × (read_file f ≡ some x) × Found f r ps x
-  pub bad : r.good ≡ false → read_file f ≡ none
+unfoldable pub FileAs : List ℕ → List ℕ → CodeOption Blocks → Type 0
+FileAs f ps (Some r) = (x : File) × (read_file f ≡ some x) × Found f r ps x
+FileAs f ps None = read_file f ≡ none

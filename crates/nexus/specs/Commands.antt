@@ -2,7 +2,7 @@
 --
 --   BegunAs c r           the command c begins another block, or the TREES block, or is wrong outside the blocks
 --   WordAt, WordEnd       a token, a run in quotes or a byte of another block's command, and what stands behind it
---   LineAs c r            the text of the tree that c gives begins at r; r is past c where it gives none
+--   LineAs c r            the text of the tree that c gives begins at r; r is none where it gives none
 --   LineMoves c r         what the command c of the TREES block does, behind its list
 --   pairs_in s n ps        the n pairs of a token and a label of s whose places are ps: four for each, where its key and its name begin and end
 --   Placed s n ps         these places lie in s
@@ -10,8 +10,9 @@
 --   LabelAt s i t         the label from i on, behind blanks and comments; none, where what stands there is no label
 --   placed_pair ps n k v   the places ps with those of the key k and the name v for pair n
 --   NoneOf k v r          r says whether the key k or the name v is none
---   PairsAs s i r ps      from i on, s lists r pairs whose places are ps; r is 0 where it lists none, or too many
+--   PairsAs s i ps r      from i on, s lists r pairs whose places are ps; r is none where it lists none, or too many
 use Rattle.std.specs.Prelude.{ℕ, zero, suc, ◌+◌, ◌*◌, ◌≤◌, ◌<◌, ◌≡◌, Bool, true, false, ◌⊎◌, List, [], ◌∷◌, length, get_or, set, if◌then◌else◌}
+use Rattle.std.specs.Prelude.{Option as CodeOption, None, Some}
 use Rattle.std.proofs.Math.Option.{none, some}
 use Rattle.trees.specs.Plain.{byte}
 use Rattle.trees.specs.Nexus.{behind_run, begins, uncommented, Pair, most_keys}
@@ -51,9 +52,9 @@ pub record WordEnd (c : List ℕ) (i r : ℕ) : Type 0 where
   pub paired : open_after false (plain_at c r) ≡ false
   pub same : last_end (plain_at c i) ≡ false → ends_after true (plain_at c i) ≡ ends_after true (plain_at c r)
 
-pub record LineAs (c : List ℕ) (r : ℕ) : Type 0 where
-  pub good : r ≤ length c → read_line (uncommented false c) ≡ some (plain_at c r)
-  pub fault : length c < r → read_line (uncommented false c) ≡ none
+unfoldable pub LineAs : List ℕ → CodeOption ℕ → Type 0
+LineAs c (Some r) = (r ≤ length c) × (read_line (uncommented false c) ≡ some (plain_at c r))
+LineAs c None = read_line (uncommented false c) ≡ none
 
 abbrev pub line_move : List ℕ → Line → Move
 line_move c End = to (outside true)
@@ -104,6 +105,6 @@ pub record NoneOf (k v : Token) (r : Bool) : Type 0 where
   pub none : r ≡ true → (k.from ≡ k.end) ⊎ (v.from ≡ v.end)
   pub both : r ≡ false → (k.from ≡ k.end → ⊥) × (v.from ≡ v.end → ⊥)
 
-pub record PairsAs (s : List ℕ) (i r : ℕ) (ps : List ℕ) : Type 0 where
-  pub good : 0 < r → (read_pairs (parts (byte ",") false (plain_at s i)) ≡ some (pairs_in s r ps)) × Placed s r ps
-  pub fault : r ≡ 0 → listed (read_pairs (parts (byte ",") false (plain_at s i))) ≡ wrong
+unfoldable pub PairsAs : List ℕ → ℕ → List ℕ → CodeOption ℕ → Type 0
+PairsAs s i ps (Some r) = (0 < r) × (read_pairs (parts (byte ",") false (plain_at s i)) ≡ some (pairs_in s r ps)) × Placed s r ps
+PairsAs s i ps None = listed (read_pairs (parts (byte ",") false (plain_at s i))) ≡ wrong

@@ -8,6 +8,7 @@ use Rattle.std.specs.Prelude.{ℕ, ◌+◌, ◌≤◌, ◌<◌, ◌≡◌, refl,
 use Rattle.std.proofs.Common.{arith, ◌∙◌}
 use Rattle.std.proofs.Math.Path.{ap}
 use mathlib.Core.List.{List, [], ◌∷◌, ◌++◌}
+use Rattle.std.specs.Prelude.{None, Some}
 use Rattle.std.proofs.Math.Option.{Option, none, some}
 use Rattle.std.proofs.Math.ListN.{length-append}
 use Rattle.trees.specs.Nexus.{File}
@@ -15,7 +16,7 @@ use Rattle.trees.specs.NexusReading.{outside, in_trees, wrong, to, brings, with_
 use Rattle.nexus.specs.declared.lines.Line.TheVariants as line
 use Rattle.nexus.specs.Places.{part, plain_at, commands_at, CommandEnd}
 use Rattle.nexus.specs.Commands.{LineMoves}
-use Rattle.nexus.specs.Blocks.{with_texts}
+use Rattle.nexus.specs.Blocks.{with_texts, CountedAs}
 use Rattle.nexus.specs.ReadsLaws.{reads-last, reads-moved}
 
 -- ---- texts before those of a file
@@ -52,23 +53,27 @@ module _ (f : List ℕ) (i k n e : ℕ) (o : Counting f i k n) (c : CommandEnd f
   counted : (x : Option File) → reads (in_trees false) (commands_at f k) ≡ x → reads (in_trees false) (commands_at f i) ≡ with_texts o.so_far.0 x
   counted x h = o.so_far.2 ∙ ap (with_texts o.so_far.0) h
 
-  pub counting-out : e ≡ length f → reads (in_trees false) (commands_at f i) ≡ none
-  unfolding closes
+  pub counting-out : e ≡ length f → CountedAs f i None
+  unfolding CountedAs closes
   counting-out h = counted none (reads-last f k e c h (in_trees false)) ∙ texts-none o.so_far.0
 
   module _ (m : e ≡ length f → ⊥) where
     inside : e < length f
     inside = omega (arith, m, c.within)
 
-    pub counting-wrong : LineMoves (part k e f) line.Wrong → reads (in_trees false) (commands_at f i) ≡ none
-    unfolding reads_on
+    pub counting-wrong : LineMoves (part k e f) line.Wrong → CountedAs f i None
+    unfolding CountedAs reads_on
     counting-wrong l = counted none (reads-moved f k e c inside (in_trees false) wrong l.moves) ∙ texts-none o.so_far.0
 
-    pub counting-end : LineMoves (part k e f) line.End
-        → (ts : List (List ℕ)) × (length ts ≡ n) × (reads (in_trees false) (commands_at f i) ≡ with_texts ts (reads (outside true) (commands_at f (e + 1))))
-    unfolding reads_on
+    pub counting-end : LineMoves (part k e f) line.End → CountedAs f i (Some (record { trees = n; at = e + 1 }))
+    unfolding CountedAs reads_on
     counting-end l =
-        (o.so_far.0, o.so_far.1, counted _ (reads-moved f k e c inside (in_trees false) (to (outside true)) l.moves))
+        record {
+          there = omega (arith, inside);
+          texts = o.so_far.0;
+          count = o.so_far.1;
+          brings = counted _ (reads-moved f k e c inside (in_trees false) (to (outside true)) l.moves);
+        }
 
     pub counting_more : (j : ℕ) → LineMoves (part k e f) (line.Text j) → Counting f i (e + 1) (n + 1)
     unfolding reads_on

@@ -4,7 +4,7 @@
 --   nexus-malformed, nexus-repeats, nexus-short     15, 16, 4
 --   nexus-done        else the verdicts
 --   handing-length    a verdict for each text
-use Rattle.std.specs.Prelude.{ℕ, suc, ◌≤◌, ◌<◌, ◌≡◌, refl, true, false, List, [], ◌∷◌, map}
+use Rattle.std.specs.Prelude.{ℕ, suc, ◌≤◌, ◌<◌, ◌≡◌, refl, true, false, List, [], ◌∷◌, map, Ok, Err}
 use Rattle.std.proofs.Common.{sym, ap, subst, ◌∙◌, lt-ltb, le-ltb}
 use Rattle.std.proofs.Math.Option.{none, some}
 use Rattle.std.proofs.Math.ListN.{length}
@@ -19,7 +19,6 @@ use Rattle.trees.specs.NexusCall.{keys_of, replaced, on_text, plain_texts, handi
 use Rattle.theorems.specs.ListLaws.{if-true, if-false}
 use Rattle.answers.specs.declared.Refusal.{Refusal}
 use Rattle.answers.specs.declared.Refusal.TheVariants as why
-use Rattle.answers.specs.declared.Number.TheVariants as number
 use Rattle.answers.specs.Answers.{refusal_number, refusing, number_given}
 use Rattle.layout.specs.Store.{held_at}
 use Rattle.layout.specs.WholeStore.{whole_at}
@@ -27,7 +26,7 @@ use Rattle.store.specs.LentLaws.{when_whole}
 use Rattle.nexus.specs.Verdicts.{Feeds}
 use Rattle.nexus.specs.Fed.{nexus_of, NexusAs}
 
-pub nexus-refused : (x : Answer Batched) (s v : List ℕ) (r : Refusal) → x ≡ refusing r → NexusAs x (number.Refused r) s v s v
+pub nexus-refused : (x : Answer Batched) (s v : List ℕ) (r : Refusal) → x ≡ refusing r → NexusAs x (Err r) s v s v
 unfolding NexusAs number_given
 nexus-refused x s v r e = rw e (refl, refl, refl)
 
@@ -60,8 +59,8 @@ module _ (s f v : List ℕ) (w : whole_at s ≡ true) where
 
       pub nexus-done : (n : ℕ) → n ≡ length x.texts → n ≤ length v → (t u : List ℕ)
           → Feeds (handing (held_at s) (map (replaced x.pairs) x.texts)) s v t u
-          → NexusAs (nexus_of s f (length v)) (number.Gives n) s v t u
-      nexus-done n q h t u g = subst (λ (b : Answer Batched). NexusAs b (number.Gives n) s v t u) (sym given) done
+          → NexusAs (nexus_of s f (length v)) (Ok n) s v t u
+      nexus-done n q h t u g = subst (λ (b : Answer Batched). NexusAs b (Ok n) s v t u) (sym given) done
         where
           given : nexus_of s f (length v) ≡ gives (handing (held_at s) (map (replaced x.pairs) x.texts))
           given = unfold handed_in plain_texts in nexus-read ∙ if-true _ _ d ∙ if-false _ _ (le-ltb _ _ (subst (λ (m : ℕ). m ≤ length v) q h))
@@ -69,5 +68,5 @@ module _ (s f v : List ℕ) (w : whole_at s ≡ true) where
           count : n ≡ length (handing (held_at s) (map (replaced x.pairs) x.texts)).verdicts
           count = q ∙ sym (length-map x.texts (replaced x.pairs)) ∙ sym (handing-length (held_at s) (map (replaced x.pairs) x.texts))
 
-          done : NexusAs (gives (handing (held_at s) (map (replaced x.pairs) x.texts))) (number.Gives n) s v t u
+          done : NexusAs (gives (handing (held_at s) (map (replaced x.pairs) x.texts))) (Ok n) s v t u
           done = unfold NexusAs number_given in (ap gives count, g.holds, g.verdicts, g.found)

@@ -10,7 +10,7 @@
 use Prim.Native.Nat.{ℕ, suc, ◌+◌, ◌≤◌, ◌<◌}
 use Rattle.std.proofs.Math.Numerals.{add-one}
 use Rattle.std.proofs.Common.{arith, ◌∙◌, inl, inr, take-append-drop, length-take-le, drop-drop, drop-set-lt, lt-ltb, le-ltb, ltb-true}
-use Rattle.std.specs.Prelude.{◌≡◌, refl, ◌⊎◌, true, false, get_or, set}
+use Rattle.std.specs.Prelude.{◌≡◌, refl, ◌⊎◌, true, false, get_or, set, Result, Option}
 use Rattle.std.proofs.Math.Path.{sym, ap, subst}
 use mathlib.Core.List.{List, [], ◌∷◌, ◌++◌, map, append_assoc, append-nil}
 use Rattle.std.proofs.Math.Option.{some}
@@ -26,7 +26,6 @@ use Rattle.trees.specs.NexusReading.{in_trees, reads}
 use Rattle.trees.specs.NexusCall.{replaced, on_text, handing}
 use Rattle.theorems.specs.OwnLaneLaws.{recording-opening}
 use Rattle.theorems.specs.ListLaws.{less-or-not, if-true, if-false, and_left}
-use Rattle.answers.specs.declared.Progress.{Progress}
 use Rattle.answers.specs.Answers.{progress_given, Small}
 use Rattle.head.specs.Head.{names_at, opening_at}
 use Rattle.head.specs.Index.{Indexed}
@@ -42,6 +41,8 @@ use Rattle.nexus.specs.declared.tokens.Token.{Token}
 use Rattle.nexus.specs.Places.{part, commands_at}
 use Rattle.nexus.specs.Texts.{TextAs}
 use Rattle.nexus.specs.Verdicts.{lane_with, Judges, Hands, LineAt, LinesAt, Feeds, FeedsLines}
+use Rattle.answers.specs.declared.Refusal.{Refusal}
+use Rattle.answers.specs.declared.Tree.{Tree}
 pub use Rattle.nexus.specs.LineTextLaws.{line-fits, line-text, line-end, line-wrong}
 use Rattle.nexus.specs.LineTextLaws.{only, texts_of}
 
@@ -62,7 +63,7 @@ verdict-is s t n p x = go (less-or-not most_text (length t))
         ∙ sym (if-false _ _ (le-ltb most_text (length t) h)))
 
 -- the text that stands at the front of the buffer
-pub judges-hands : (s x : List ℕ) (n : ℕ) (p : List ℕ) (r : Progress) (t : List ℕ) → TextAs x n p → Judges s p n r t → Hands s x r t
+pub judges-hands : (s x : List ℕ) (n : ℕ) (p : List ℕ) (r : Result (Option Tree) Refusal) (t : List ℕ) → TextAs x n p → Judges s p n r t → Hands s x r t
 judges-hands s x n p r t h j =
     let e = verdict-is s x n p h in
     record {
@@ -149,7 +150,7 @@ module _ (ps : List Pair) (f : List ℕ) (from n : ℕ) (s v t w : List ℕ) (at
     unfolding next later_ones
     next-read = g.read ∙ ap (λ (us : List (List ℕ)). some (only us)) some-text.2
 
-    module _ (k : Token) (l : LineAt f at k) (room : n ≤ length v) (r : Progress) (u : List ℕ)
+    module _ (k : Token) (l : LineAt f at k) (room : n ≤ length v) (r : Result (Option Tree) Refusal) (u : List ℕ)
         (j : Hands t (replaced ps (uncommented false (part k.from k.end f))) r u) (y : ℕ) (e : y ≡ verdict_number (progress_given r)) where
       line-is : uncommented false (part k.from k.end f) ≡ next
       line-is = (l.gives next later_ones next-read).1

@@ -7,13 +7,14 @@
 --   differ-not, differ-next, differ-end  no key comes twice, a pair at a time
 --   again-here, again-next, again-end    a key sought among others
 --   found_here, found-out                what a search that ends says of a token
---   name-stays, name-found               the name of a token that is no key, and of one that is
+--   name-stays, found-below, name-found  the name of a token that is no key, and the pair and the name of one that is
 use Prim.Native.Nat.{ℕ, zero, suc, ◌+◌, ◌-◌, ◌*◌, ◌≤◌, ◌<◌}
 use Rattle.std.proofs.Common.{add-one, arith, sym, ◌∙◌, drop_of_length-le, drop-cons}
 use Rattle.std.specs.Prelude.{◌≡◌, Bool, ◌&&◌, ◌||◌, length, get_or, drop, if◌then◌else◌}
 use Rattle.std.proofs.Math.Path.{refl, ap}
 use Rattle.std.proofs.Math.Bool.{true, false, not}
 use mathlib.Core.List.{List, [], ◌∷◌}
+use Rattle.std.specs.Prelude.{Some, None}
 use Rattle.std.proofs.Math.Option.{none, some}
 use Rattle.std.proofs.Math.Seq.{slice}
 use Rattle.trees.specs.Plain.{same_bytes, in_names}
@@ -120,16 +121,13 @@ module _ (s ps : List ℕ) where
 -- ---- a token sought
 
 module _ (ks : List (List ℕ)) (w : List ℕ) (n : ℕ) (p : Sought ks w n) where
-  pub found_here : (n ≡ 0 → ⊥) → same_bytes (get_or ks (n - 1) []) w ≡ true → FoundAs ks w (n - 1 + 1)
-  found_here z q =
-      let d : n - 1 + 1 - 1 ≡ n - 1 = omega arith in
-      record {
-        none = λ e. absurd (omega arith);
-        some = λ h. rw d (found_at _ _ (sought-here ks w n p z q));
-      }
+  pub found_here : (n ≡ 0 → ⊥) → same_bytes (get_or ks (n - 1) []) w ≡ true → FoundAs ks w (Some (n - 1))
+  unfolding FoundAs
+  found_here z q = (omega (arith, z, p.within), found_at _ _ (sought-here ks w n p z q))
 
-  pub found-out : n ≡ 0 → FoundAs ks w 0
-  found-out z = record { none = λ e. found_nothing _ (sought-out ks w n p z); some = λ h. absurd (omega arith) }
+  pub found-out : n ≡ 0 → FoundAs ks w None
+  unfolding FoundAs
+  found-out z = found_nothing _ (sought-out ks w n p z)
 
 -- ---- its name
 
@@ -155,11 +153,15 @@ module _ (s ps : List ℕ) (w : List ℕ) where
       go true q f = let h : j ≡ i = cc in rw h
       go false q f = f q
 
-  module _ (n r : ℕ) (p : FoundAs (keys_of (pairs_in s n ps)) w r) where
-    pub name-stays : r ≡ 0 → name_of (pairs_in s n ps) w ≡ w
-    name-stays z = name-none (pairs_in s n ps) 0 w (p.none z)
+  pub name-stays : (n : ℕ) → FoundAs (keys_of (pairs_in s n ps)) w None → name_of (pairs_in s n ps) w ≡ w
+  unfolding FoundAs
+  name-stays n p = name-none (pairs_in s n ps) 0 w p
 
-    pub name-found : (b e : ℕ) → (r ≡ 0 → ⊥) → b ≡ get_or ps (4 * (r - 1) + 2) 0 → e ≡ get_or ps (4 * (r - 1) + 3) 0
-        → name_of (pairs_in s n ps) w ≡ part b e s
-    unfolding pairs_in
-    name-found b e z f g = name-from 0 n (r - 1) (p.some (omega (arith, z))) ∙ rw (← f, ← g)
+  module _ (n i : ℕ) (p : FoundAs (keys_of (pairs_in s n ps)) w (Some i)) where
+    pub found-below : i < n
+    unfolding FoundAs
+    found-below = omega (arith, p.0, keys_length s ps n)
+
+    pub name-found : (b e : ℕ) → b ≡ get_or ps (4 * i + 2) 0 → e ≡ get_or ps (4 * i + 3) 0 → name_of (pairs_in s n ps) w ≡ part b e s
+    unfolding FoundAs pairs_in
+    name-found b e f g = name-from 0 n i p.1 ∙ rw (← f, ← g)

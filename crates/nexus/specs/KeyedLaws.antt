@@ -13,7 +13,7 @@
 --   hands-refused, hands-room     the verdict on a plain text that is not written: it is refused, or gives splits
 use Prim.Native.Nat.{ℕ, zero, suc, ◌+◌, ◌-◌, ◌*◌, ◌≤◌, ◌<◌, min}
 use Rattle.std.proofs.Common.{arith, ap, ◌∙◌, true≢false, take_all, ne_eqb}
-use Rattle.std.specs.Prelude.{◌≡◌, Bool, true, false, ◌||◌, not, ◌&&◌, eqb, length, get_or, take, if◌then◌else◌}
+use Rattle.std.specs.Prelude.{◌≡◌, Bool, true, false, ◌||◌, not, ◌&&◌, eqb, length, get_or, take, if◌then◌else◌, Result, Option}
 use Rattle.std.proofs.Math.Path.{refl, sym, ap₂}
 use mathlib.Core.List.{List, [], ◌∷◌, ◌++◌, map, map-append}
 use Rattle.std.proofs.Math.Option.{some}
@@ -34,7 +34,6 @@ use Rattle.theorems.specs.ListLaws.{if-true, and-true, by-test, by-elim}
 use Rattle.theorems.specs.TextLaws.{by_kind, symbols-cons}
 use Rattle.theorems.specs.GrammarLaws.{reading-sound, reading-complete}
 use Rattle.theorems.specs.NexusLaws.{read-exactly}
-use Rattle.answers.specs.declared.Progress.{Progress}
 use Rattle.answers.specs.Answers.{progress_given}
 use Rattle.head.specs.Head.{opening_at}
 use Rattle.layout.specs.Store.{held_at}
@@ -52,7 +51,9 @@ use Rattle.nexus.specs.Texts.{TextAs}
 use Rattle.nexus.specs.Verdicts.{Hands}
 use Rattle.nexus.specs.VerdictLaws.{text-refused, text-room, judges-refused, judges-room}
 use Rattle.nexus.specs.FeedLaws.{judges-hands}
-use Rattle.nexus.specs.Keyed.{most_keyed, Bare, NameAt, NamesAs, Standing}
+use Rattle.nexus.specs.Keyed.{most_keyed, Bare, NameAt, NamesThere, Standing}
+use Rattle.answers.specs.declared.Refusal.{Refusal}
+use Rattle.answers.specs.declared.Tree.{Tree}
 
 -- ---- the names of a file
 
@@ -144,9 +145,9 @@ map-take f (suc j) (x ∷ l) = ap (λ r. f x ∷ r) (map-take f j l)
 -- ---- the shape of the plain text
 
 module _ (ps : List Pair) (good : labelled ps ≡ true) (list text tokens names nodes : List ℕ) (k inner n : ℕ)
-    (x : Shaping text text k tokens inner nodes) (few : k ≤ most_keyed) (named : NamesAs ps list text tokens k n names) (fits : n ≤ most_text) where
+    (x : Shaping text text k tokens inner nodes) (few : k ≤ most_keyed) (named : NamesThere ps list text tokens k names n) where
   pub keyed-tokens : Tokens list names (min k most_leaves)
-  keyed-tokens = let e : min k most_leaves ≡ k = omega arith in rw e (names-lie ps list text tokens names k (named.each fits))
+  keyed-tokens = let e : min k most_leaves ≡ k = omega arith in rw e (names-lie ps list text tokens names k (named.each))
 
   all-leaves : labels_at text tokens k ≡ leaves x.tree
   all-leaves = x.first k (omega arith) ∙ take_all k (leaves x.tree) (omega (arith, x.count))
@@ -158,7 +159,7 @@ module _ (ps : List Pair) (good : labelled ps ≡ true) (list text tokens names 
       reads = keyed-reads ps good text u stands.same stands.quoteless x.tree x.reads;
       count = x.count ∙ sym (ap length (leaves-renamed ps x.tree) ∙ length-map (leaves x.tree) (name_of ps));
       first = λ j h.
-          names-first ps list text tokens names k (named.each fits) j (omega arith)
+          names-first ps list text tokens names k (named.each) j (omega arith)
           ∙ ap (map (name_of ps)) (x.first j h)
           ∙ map-take (name_of ps) j (leaves x.tree)
           ∙ ap (take j) (sym (leaves-renamed ps x.tree));
@@ -173,7 +174,7 @@ module _ (ps : List Pair) (good : labelled ps ≡ true) (list text tokens names 
         omega (
           arith,
           stands.few,
-          named.bytes fits,
+          named.bytes,
           ap (λ ws. bytes_of (map (name_of ps) ws)) all-leaves,
           keyed-bytes ps good text u stands.same stands.quoteless x.tree x.reads,
         )
@@ -195,12 +196,12 @@ module _ (s x : List ℕ) (short : length x ≤ most_text) (whole : whole_at s �
   as-text : TextAs x (length x) x
   as-text = record { fits = λ h. (refl, take_all (length x) x (omega arith)); over = λ h. absurd (omega arith) }
 
-  pub hands-refused : (r : Progress) (k : ℕ) → judged_with (opening_at s).numbers.kept (opening_at s).names x ≡ refused k → progress_given r ≡ refused k → Hands s x r s
+  pub hands-refused : (r : Result (Option Tree) Refusal) (k : ℕ) → judged_with (opening_at s).numbers.kept (opening_at s).names x ≡ refused k → progress_given r ≡ refused k → Hands s x r s
   hands-refused r k v e =
       let y = text-refused s x (length x) short k (ap (judged_with (opening_at s).numbers.kept (opening_at s).names) (take_all (length x) x (omega arith)) ∙ v) in
       judges-hands s x (length x) x r s as-text (judges-refused s x (length x) whole r k y e)
 
-  pub hands-room : (b c : Branches) (t : List ℕ) (r : Progress) → c ≡ b → judged_with (opening_at s).numbers.kept (opening_at s).names x ≡ gives b
+  pub hands-room : (b c : Branches) (t : List ℕ) (r : Result (Option Tree) Refusal) → c ≡ b → judged_with (opening_at s).numbers.kept (opening_at s).names x ≡ gives b
       → Accepts (room_for (held_at s) c) s r t
       → Hands s x r t
   hands-room b c t r d v a =

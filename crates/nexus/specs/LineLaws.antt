@@ -28,6 +28,7 @@ use Rattle.nexus.specs.declared.tokens.Token.{Token}
 use Rattle.nexus.specs.Places.{part, plain_at, Skipped, TokenAt, NameEnd}
 use Rattle.nexus.specs.PartLaws.{part_length}
 use Rattle.nexus.specs.PlaceLaws.{plain-none, plain_byte, plain-as, blanks-only}
+use Rattle.std.specs.Prelude.{Some, None}
 use Rattle.nexus.specs.Commands.{BegunAs, LineAs, LineMoves}
 
 -- ---- a command's first token
@@ -127,11 +128,12 @@ text-there c i e =
     let q : get_or c i 0 ≡ 61 = eqb-true (get_or c i 0) 61 (sym (has-at c i 61 h) ∙ e) in
     ap text_behind (plain_byte c i h (λ b. omega arith) (λ b. omega arith)) ∙ if-true _ _ (eq-eqb _ 61 q)
 
-line-none : (c : List ℕ) → read_line (uncommented false c) ≡ none → LineAs c (length c + 1)
-line-none c e = record { good = λ h. absurd (omega arith); fault = λ h. e }
+line-none : (c : List ℕ) → read_line (uncommented false c) ≡ none → LineAs c None
+unfolding LineAs
+line-none c e = e
 
 module _ (c : List ℕ) (t : Token) (u : TokenAt c 0 t) where
-  pub not-tree : is_key c t (bytes "TREE") ≡ false → LineAs c (length c + 1)
+  pub not-tree : is_key c t (bytes "TREE") ≡ false → LineAs c None
   unfolding read_line is_word
   not-tree e = line-none c (rw (u.token, e))
 
@@ -140,7 +142,7 @@ module _ (c : List ℕ) (t : Token) (u : TokenAt c 0 t) where
     unfolding read_line is_word
     line-named = rw (u.token, k, u.behind, v.plain)
 
-    pub name-lacks : e ≡ i → LineAs c (length c + 1)
+    pub name-lacks : e ≡ i → LineAs c None
     unfolding name_and_text
     name-lacks q = line-none c (line-named ∙ rw (w.begun, le-ltb i e (omega arith)))
 
@@ -149,11 +151,12 @@ module _ (c : List ℕ) (t : Token) (u : TokenAt c 0 t) where
       unfolding name_and_text
       line-behind = let l = w.past in line-named ∙ rw (w.begun, lt-ltb i e (omega arith), w.behind, x.plain)
 
-      pub equals-lacks : has_byte c q 61 ≡ false → LineAs c (length c + 1)
+      pub equals-lacks : has_byte c q 61 ≡ false → LineAs c None
       equals-lacks b = line-none c (line-behind ∙ text-lacks c q b)
 
-      pub line-text : has_byte c q 61 ≡ true → LineAs c (q + 1)
-      line-text b = record { good = λ h. line-behind ∙ text-there c q b; fault = λ h. absurd (omega (arith, has_there c q 61 b)) }
+      pub line-text : has_byte c q 61 ≡ true → LineAs c (Some (q + 1))
+      unfolding LineAs
+      line-text b = (omega (arith, has_there c q 61 b), line-behind ∙ text-there c q b)
 
 -- ---- a command of the TREES block
 
@@ -162,11 +165,11 @@ module _ (c : List ℕ) where
   unfolding moved
   ends-trees e = record { moves = if-true _ _ e; within = λ i q. let z : ◌≡◌ {A = ℕ} 0 1 = cc in absurd (omega arith) }
 
-  module _ (r : ℕ) (e : is_end (uncommented false c) ≡ false) (l : LineAs c r) where
-    pub line-wrong : length c < r → LineMoves c line.Wrong
-    unfolding moved line_given
-    line-wrong h = record { moves = rw (e, l.fault h); within = λ i q. let z : ◌≡◌ {A = ℕ} 0 1 = cc in absurd (omega arith) }
+  module _ (e : is_end (uncommented false c) ≡ false) where
+    pub line-wrong : LineAs c None → LineMoves c line.Wrong
+    unfolding LineAs moved line_given
+    line-wrong l = record { moves = rw (e, l); within = λ i q. let z : ◌≡◌ {A = ℕ} 0 1 = cc in absurd (omega arith) }
 
-    pub line-brings : r ≤ length c → LineMoves c (Text r)
-    unfolding moved line_given
-    line-brings h = record { moves = rw (e, l.good h); within = λ i q. let z : r ≡ i = cc in omega arith }
+    pub line-brings : (r : ℕ) → LineAs c (Some r) → LineMoves c (Text r)
+    unfolding LineAs moved line_given
+    line-brings r l = record { moves = rw (e, l.1); within = λ i q. let z : r ≡ i = cc in omega (arith, l.0) }

@@ -1,10 +1,12 @@
 -- Where a text is bare, and the names of its tokens, noted one by one. Assumes nothing.
 --
 --   bare-here            behind blanks and comments stand plain bytes alone
+--   bare_none, bare_some     what an answer says of a text
 --   Naming               the names of the first j tokens are noted, and have n bytes
 --   naming-none, naming-more, naming-done     none, one more, and all of them
---   naming-over          a length that no text has
-use Rattle.std.specs.Prelude.{ℕ, ◌+◌, ◌-◌, ◌*◌, ◌≤◌, ◌<◌, ◌≡◌, refl, Bool, false, ◌||◌, ◌&&◌, List, [], ◌∷◌, ◌++◌, map, eqb, get_or, set, drop}
+--   naming-over          a token is no key, or the names are too long
+--   named-there          what an answer says of the names
+use Rattle.std.specs.Prelude.{ℕ, ◌+◌, ◌-◌, ◌*◌, ◌≤◌, ◌<◌, ◌≡◌, refl, Bool, false, ◌||◌, ◌&&◌, List, [], ◌∷◌, ◌++◌, map, eqb, get_or, set, drop, Some, None}
 use Rattle.std.proofs.Common.{add-one, ◌∙◌, append-nil, drop_of_length-le, ne_eqb}
 use native.Mathlib.Omega.{arith}
 use Rattle.std.proofs.Math.Path.{sym, ap, ap₂, subst}
@@ -28,7 +30,7 @@ use Rattle.nexus.specs.Commands.{pairs_in}
 use Rattle.nexus.specs.Keys.{FoundAs}
 use Rattle.nexus.specs.KeyLaws.{part_slice, name-found}
 use Rattle.nexus.specs.Named.{bytes_of}
-use Rattle.nexus.specs.Keyed.{Bare, NameAt, NamesAs}
+use Rattle.nexus.specs.Keyed.{Bare, BareFrom, NameAt, NamesThere, NamesAs}
 
 -- ---- a bare text
 
@@ -43,13 +45,16 @@ no-quote (b ∷ w) e =
     ap (λ (t : Bool). t || member apostrophe w) n ∙ no-quote w (and_right (plain b) (every plain w) e)
 
 module _ (s : List ℕ) (i : ℕ) (k : Skipped s 0 i) (r : ℕ) (p : PlainEnd s i r) where
-  pub bare-here : length s ≤ r → length s - i ≤ most_text → Bare s i
-  unfolding uncommented
-  bare-here h m = record {
-    short = omega (arith, part_length s i (length s) k.within (omega arith));
-    quoteless = no-quote (part i (length s) s) all_plain;
-    behind = k.plain ∙ ap (uncommented false) whole ∙ as-it-is;
-  }
+  pub bare-here : length s ≤ r → length s - i ≤ most_text → BareFrom s (Some i)
+  unfolding uncommented BareFrom
+  bare-here h m = (
+    k.within,
+    record {
+      short = omega (arith, part_length s i (length s) k.within (omega arith));
+      quoteless = no-quote (part i (length s) s) all_plain;
+      behind = k.plain ∙ ap (uncommented false) whole ∙ as-it-is;
+    },
+  )
     where
       all_plain : every plain (part i (length s) s) ≡ true
       all_plain = let e : r ≡ length s = omega (arith, p.within) in rw e at (run-every s i r p)
@@ -60,6 +65,14 @@ module _ (s : List ℕ) (i : ℕ) (k : Skipped s 0 i) (r : ℕ) (p : PlainEnd s 
       as-it-is : uncommented false (part i (length s) s) ≡ part i (length s) s
       as-it-is =
           ap (uncommented false) (sym (append-nil (part i (length s) s))) ∙ plain-append plain refl refl (part i (length s) s) [] all_plain ∙ append-nil (part i (length s) s)
+
+pub bare_none : (s : List ℕ) → BareFrom s None
+unfolding BareFrom
+bare_none s = tt
+
+pub bare_some : (s : List ℕ) (r : ℕ) → BareFrom s (Some r) → (r ≤ length s) × Bare s r
+unfolding BareFrom
+bare_some s r b = b
 
 -- ---- names
 
@@ -81,19 +94,25 @@ pub naming-none : (ps : List Pair) (list text tokens names : List ℕ) → Namin
 unfolding labels_at bytes_of
 naming-none ps list text tokens names = record { few = omega arith; each = λ i h. absurd (omega arith); bytes = refl }
 
-pub naming-done : (ps : List Pair) (list text tokens names : List ℕ) (j k n : ℕ) → Naming ps list text tokens j n names → j ≡ k → NamesAs ps list text tokens k n names
+pub naming-done : (ps : List Pair) (list text tokens names : List ℕ) (j k n : ℕ) → Naming ps list text tokens j n names → j ≡ k → NamesAs ps list text tokens k names (Some n)
+unfolding NamesAs
 naming-done ps list text tokens names j k n g e =
-    subst (λ (m : ℕ). NamesAs ps list text tokens m n names) e (record { each = λ f. g.each; bytes = λ f. g.bytes })
+    subst (λ (m : ℕ). NamesThere ps list text tokens m names n) e (record { few = g.few; each = g.each; bytes = g.bytes })
 
--- no length of a text
-pub naming-over : (ps : List Pair) (list text tokens names : List ℕ) (k n : ℕ) → most_text < n → NamesAs ps list text tokens k n names
-naming-over ps list text tokens names k n h = record { each = λ f. absurd (omega arith); bytes = λ f. absurd (omega arith) }
+pub naming-over : (ps : List Pair) (list text tokens names : List ℕ) (k : ℕ) → NamesAs ps list text tokens k names None
+unfolding NamesAs
+naming-over ps list text tokens names k = tt
 
--- token j, from b up to e, is the key of pair r - 1, whose name stands from a up to z
+pub named-there : (ps : List Pair) (list text tokens names : List ℕ) (k n : ℕ) → NamesAs ps list text tokens k names (Some n)
+    → NamesThere ps list text tokens k names n
+unfolding NamesAs
+named-there ps list text tokens names k n g = g
+
+-- token j, from b up to e, is the key of pair r, whose name stands from a up to z
 module _ (list places text tokens : List ℕ) (m j n : ℕ) (names : List ℕ) (g : Naming (pairs_in list m places) list text tokens j n names) (room : 2 * j + 2 ≤ length names)
     (b e : ℕ) (p : b ≡ get_or tokens (2 * j) 0) (q : e ≡ get_or tokens (2 * j + 1) 0) (order : b ≤ e)
-    (r : ℕ) (found : FoundAs (keys_of (pairs_in list m places)) (part b e text) r) (some : r ≡ 0 → ⊥)
-    (a z : ℕ) (f : a ≡ get_or places (4 * (r - 1) + 2) 0) (h : z ≡ get_or places (4 * (r - 1) + 3) 0) (rising : a ≤ z) (within : z ≤ length list)
+    (r : ℕ) (found : FoundAs (keys_of (pairs_in list m places)) (part b e text) (Some r))
+    (a z : ℕ) (f : a ≡ get_or places (4 * r + 2) 0) (h : z ≡ get_or places (4 * r + 3) 0) (rising : a ≤ z) (within : z ≤ length list)
     (fits : z - a ≤ most_text - n) where
   abbrev ps : List Pair
   ps = pairs_in list m places
@@ -102,7 +121,7 @@ module _ (list places text tokens : List ℕ) (m j n : ℕ) (names : List ℕ) (
   after = set (set names (2 * j) a) (2 * j + 1) z
 
   name-is : name_of ps (slice (get_or tokens (2 * j) 0) (get_or tokens (2 * j + 1) 0) text) ≡ part a z list
-  name-is = rw (← p, ← q, ← (part_slice text b e order)) (name-found list places (part b e text) m r found a z some f h)
+  name-is = rw (← p, ← q, ← (part_slice text b e order)) (name-found list places (part b e text) m r found a z f h)
 
   first-at : get_or after (2 * j) 0 ≡ a
   unfolding after

@@ -9,6 +9,7 @@
 use Rattle.std.specs.Prelude.{ℕ, ◌+◌, ◌*◌, ◌≤◌, ◌<◌, ◌≡◌, refl, false, List, [], ◌∷◌, ◌++◌, length, get_or}
 use Rattle.std.proofs.Common.{arith, sym, ◌∙◌, append-nil, length-append}
 use Rattle.std.proofs.Math.Path.{ap}
+use Rattle.std.specs.Prelude.{None, Some}
 use Rattle.std.proofs.Math.Option.{Option, none, some}
 use Rattle.std.proofs.lemmas.Bool.{lt-leb}
 use Rattle.trees.specs.Text.{parts}
@@ -63,19 +64,16 @@ unfolding pairs_in prepended
 read_none c i ps h = record { here = h; placed = placed-none c ps; rest = refl }
 
 module _ (c : List ℕ) (i at n : ℕ) (ps : List ℕ) (r : ReadTo c i at n ps) where
-  pub read-fault : (qs : List ℕ) → read_pairs (parts 44 false (plain_at c at)) ≡ none → PairsAs c i 0 qs
-  unfolding listed
+  pub read-fault : (qs : List ℕ) → read_pairs (parts 44 false (plain_at c at)) ≡ none → PairsAs c i qs None
+  unfolding PairsAs listed
   read-fault qs e =
-      record { good = λ h. absurd (omega arith); fault = λ z. ap listed (r.rest ∙ ap (prepended (pairs_in c n ps)) e ∙ prepended-none (pairs_in c n ps)) }
+      ap listed (r.rest ∙ ap (prepended (pairs_in c n ps)) e ∙ prepended-none (pairs_in c n ps))
 
-  pub read-many : (qs : List ℕ) → most_keys ≤ n → PairsAs c i 0 qs
+  pub read-many : (qs : List ℕ) → most_keys ≤ n → PairsAs c i qs None
+  unfolding PairsAs
   read-many qs h =
-      record {
-        good = λ l. absurd (omega arith);
-        fault = λ z.
-            ap listed (r.rest ∙ ap (prepended (pairs_in c n ps)) (pairs-step (plain_at c at)))
-            ∙ too_many (pairs_in c n ps) _ _ (omega (arith, pairs-length c ps n));
-      }
+      ap listed (r.rest ∙ ap (prepended (pairs_in c n ps)) (pairs-step (plain_at c at)))
+      ∙ too_many (pairs_in c n ps) _ _ (omega (arith, pairs-length c ps n))
 
   module _
       (k v : Token)
@@ -98,10 +96,11 @@ module _ (c : List ℕ) (i at n : ℕ) (ps : List ℕ) (r : ReadTo c i at n ps) 
         ∙ sym (prepended-more (pairs_in c n ps) _ x)
         ∙ ap (λ (l : List Pair). prepended l x) (sym (ap (pairs_in c (n + 1)) put ∙ pairs-more ps n k v room c))
 
-    pub read-last : e ≡ length c → PairsAs c i (n + 1) qs
+    pub read-last : e ≡ length c → PairsAs c i qs (Some (n + 1))
+    unfolding PairsAs
     read-last q =
         let all = rest-next (some []) (list-last c at k v tk tv two e sk q) ∙ prepended-some (pairs_in c (n + 1) qs) [] ∙ ap some (append-nil (pairs_in c (n + 1) qs)) in
-        record { good = λ h. (all, placed-next); fault = λ z. absurd (omega arith) }
+        (omega arith, all, placed-next)
 
     pub read_more : e < length c → get_or c e 0 ≡ 44 → ReadTo c i (e + 1) (n + 1) qs
     read_more h q = record { here = omega arith; placed = placed-next; rest = rest-next _ (list-more c at k v tk tv two e sk h q) }

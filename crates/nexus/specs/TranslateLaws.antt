@@ -6,14 +6,15 @@
 --   is-translate       the first token is TRANSLATE, told by places
 --   same_read          another command reads the same, whether the block has just begun or not
 --   list-moves, listed-pairs     what a TRANSLATE command does, and where it lists pairs
---   no-list, bad-list, good-list     the paths of `read_list`
-use Rattle.std.specs.Prelude.{ℕ, ◌+◌, ◌≤◌, ◌≡◌, refl, Bool, true, ◌&&◌, if◌then◌else◌}
+--   open-list, no-list, bad-list, good-list     the paths of `read_list`
+use Rattle.std.specs.Prelude.{ℕ, ◌+◌, ◌≤◌, ◌<◌, ◌≡◌, refl, Bool, true, ◌&&◌, if◌then◌else◌}
 use native.Mathlib.Omega.{arith}
 use Rattle.std.proofs.Math.Path.{sym, ap}
 use Rattle.std.proofs.Common.{◌∙◌, le-leb}
 use Rattle.std.proofs.Math.Logic.{⊎_elim}
 use Rattle.std.proofs.Math.Bool.{false}
 use mathlib.Core.List.{List, [], ◌∷◌, map}
+use Rattle.std.specs.Prelude.{None, Some}
 use Rattle.std.proofs.Math.Option.{Option, none, some}
 use Rattle.std.proofs.Math.ListN.{length}
 use Rattle.trees.specs.Plain.{every, same_bytes, bytes}
@@ -63,6 +64,10 @@ with_none (some x) = refl
 abbrev translate_bytes : List ℕ
 translate_bytes = 84 ∷ 82 ∷ 65 ∷ 78 ∷ 83 ∷ 76 ∷ 65 ∷ 84 ∷ 69 ∷ []
 
+pub open-list : (f : List ℕ) (i e : ℕ) → CommandEnd f i e → e ≡ length f → (ps : List ℕ) → ListedAs f i ps None
+unfolding ListedAs closes
+open-list f i e end z ps = reads-last f i e end z (in_trees true)
+
 module _
     (f : List ℕ)
     (i e : ℕ)
@@ -87,47 +92,44 @@ module _
       (λ h. let z = in_end h in reads-last f i e end z (in_trees true) ∙ sym (reads-last f i e end z (in_trees false)))
       (less-or-not e (length f))
 
-  pub no-list : i ≤ length f → t ≡ false → (ps : List ℕ) → ListedAs f i (record { from = i; end = i; pairs = 0; at = i }) ps
-  unfolding pairs_in
+  pub no-list : i ≤ length f → t ≡ false → (ps : List ℕ) → ListedAs f i ps (Some (record { from = i; end = i; pairs = 0; at = i }))
+  unfolding ListedAs pairs_in
   no-list h q ps =
       record {
-        good = λ l. (omega arith, h, placed-none (part i i f) ps, same_read q ∙ with_none (reads (in_trees false) (commands_at f i)));
-        fault = λ l. absurd (omega arith);
+        order = omega arith;
+        within = h;
+        there = h;
+        placed = placed-none (part i i f) ps;
+        lists = same_read q ∙ with_none (reads (in_trees false) (commands_at f i));
       }
 
   module _ (is : t ≡ true) where
     list-moves : moved (in_trees true) (uncommented false (part i e f)) ≡ listed (read_pairs (parts 44 false (plain_at (part i e f) w.end)))
     list-moves = moved-list (uncommented false (part i e f)) (is-translate ∙ is) ∙ ap (λ (l : List ℕ). listed (read_pairs (parts 44 false l))) tw.behind
 
-    pub bad-list : (n : ℕ) (ps : List ℕ) → PairsAs (part i e f) w.end n ps → n ≡ 0 → ListedAs f i (record { from = i; end = e; pairs = 0; at = length f + 1 }) ps
-    unfolding reads_on closes
-    bad-list n ps p z =
-        record {
-          good = λ l. absurd (omega arith);
-          fault = λ l.
-              ⊎_elim
-              (λ h. reads-moved f i e end h (in_trees true) wrong (list-moves ∙ p.fault z))
-              (λ h. reads-last f i e end (in_end h) (in_trees true))
-              (less-or-not e (length f));
-        }
+    module _ (inside : e ≡ length f → ⊥) where
+      before : e < length f
+      before = omega (arith, inside, end.within)
 
-    module _ (n : ℕ) (ps : List ℕ) (p : PairsAs (part i e f) w.end n ps) (some-there : n ≡ 0 → ⊥) where
-      listed-pairs : listed (read_pairs (parts 44 false (plain_at (part i e f) w.end))) ≡ lists (pairs_in (part i e f) n ps)
-      unfolding listed
-      listed-pairs =
-          let g = p.good (omega arith) in
-          let h : length (pairs_in (part i e f) n ps) ≤ most_keys = omega (arith, pairs-length (part i e f) ps n, g.1.few) in
-          ap listed g.0 ∙ if-true _ _ (le-leb _ most_keys h)
+      pub bad-list : (ps : List ℕ) → PairsAs (part i e f) w.end ps None → ListedAs f i ps None
+      unfolding PairsAs ListedAs reads_on
+      bad-list ps p = reads-moved f i e end before (in_trees true) wrong (list-moves ∙ p)
 
-      pub good-list : ListedAs f i (record { from = i; end = e; pairs = n; at = e + 1 }) ps
-      unfolding reads_on closes
-      good-list =
-          record {
-            good = λ l. (
-              end.past,
-              end.within,
-              (p.good (omega arith)).1,
-              reads-moved f i e end (omega arith) (in_trees true) (lists (pairs_in (part i e f) n ps)) (list-moves ∙ listed-pairs),
-            );
-            fault = λ l. reads-last f i e end (in_end (omega arith)) (in_trees true);
-          }
+      module _ (n : ℕ) (ps : List ℕ) (p : PairsAs (part i e f) w.end ps (Some n)) where
+        listed-pairs : listed (read_pairs (parts 44 false (plain_at (part i e f) w.end))) ≡ lists (pairs_in (part i e f) n ps)
+        unfolding PairsAs listed
+        listed-pairs =
+            let few = p.2.few in
+            let h : length (pairs_in (part i e f) n ps) ≤ most_keys = omega (arith, pairs-length (part i e f) ps n, few) in
+            ap listed p.1 ∙ if-true _ _ (le-leb _ most_keys h)
+
+        pub good-list : ListedAs f i ps (Some (record { from = i; end = e; pairs = n; at = e + 1 }))
+        unfolding PairsAs ListedAs reads_on
+        good-list =
+            record {
+              order = end.past;
+              within = end.within;
+              there = omega (arith, before);
+              placed = p.2;
+              lists = reads-moved f i e end before (in_trees true) (lists (pairs_in (part i e f) n ps)) (list-moves ∙ listed-pairs);
+            }

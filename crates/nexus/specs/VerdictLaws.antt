@@ -2,14 +2,13 @@
 --
 --   text-over, text-refused, text-room     the verdict on a text that is too long; that is refused; that gives splits
 --   judges-refused, judges-room     a refused text, with nothing changed; a text that gives splits: refused for want of room, or recorded
-use Rattle.std.specs.Prelude.{ℕ, ◌≤◌, ◌<◌, ◌≡◌, true, false, List, take}
+use Rattle.std.specs.Prelude.{ℕ, ◌≤◌, ◌<◌, ◌≡◌, true, false, List, take, Result, Option}
 use Rattle.std.proofs.Math.Path.{refl, ap, subst}
 use Rattle.std.proofs.Common.{sym, ◌∙◌, lt-ltb, le-ltb}
 use Rattle.trees.specs.Plain.{Answer, refused, gives}
 use Rattle.trees.specs.Verdict.{Branches, judged_with}
 use Rattle.trees.specs.Held.{overrun, holding, most_text, room_for, with_room, verdict, finished, recording, accepted}
 use Rattle.theorems.specs.ListLaws.{if-true, if-false}
-use Rattle.answers.specs.declared.Progress.{Progress}
 use Rattle.answers.specs.Answers.{progress_given}
 use Rattle.answers.specs.AnswerLaws.{gives≢refused}
 use Rattle.head.specs.Head.{opening_at}
@@ -18,6 +17,8 @@ use Rattle.layout.specs.WholeStore.{whole_at}
 use Rattle.store.specs.RecordedAtLaws.{trees-length}
 use Rattle.recording.specs.Recording.{Accepts}
 use Rattle.nexus.specs.Verdicts.{lane_with, Judges}
+use Rattle.answers.specs.declared.Refusal.{Refusal}
+use Rattle.answers.specs.declared.Tree.{Tree}
 
 module _ (s text : List ℕ) (n : ℕ) where
   abbrev verdict_there : Answer Branches
@@ -43,7 +44,7 @@ module _ (s text : List ℕ) (n : ℕ) where
   text-room h x e = text-fits h ∙ ap (with_room (held_at s)) e
 
   module _ (w : whole_at s ≡ true) where
-    pub judges-refused : (r : Progress) (k : ℕ) → verdict_there ≡ refused k → progress_given r ≡ refused k → Judges s text n r s
+    pub judges-refused : (r : Result (Option Tree) Refusal) (k : ℕ) → verdict_there ≡ refused k → progress_given r ≡ refused k → Judges s text n r s
     unfolding finished recording
     judges-refused r k v e = record {
       answer = rw v e;
@@ -51,7 +52,7 @@ module _ (s text : List ℕ) (n : ℕ) where
       found = λ j q. refl;
     }
 
-    pub judges-room : (x y : Branches) (t : List ℕ) (r : Progress) → y ≡ x → verdict_there ≡ room_for (held_at s) x → Accepts (room_for (held_at s) y) s r t → Judges s text n r t
+    pub judges-room : (x y : Branches) (t : List ℕ) (r : Result (Option Tree) Refusal) → y ≡ x → verdict_there ≡ room_for (held_at s) x → Accepts (room_for (held_at s) y) s r t → Judges s text n r t
     judges-room x y t r d v g = go (room_for (held_at s) x) refl (subst (λ (z : Branches). Accepts (room_for (held_at s) z) s r t) d g)
       where
         go : (z : Answer Branches) → room_for (held_at s) x ≡ z → Accepts (room_for (held_at s) x) s r t → Judges s text n r t

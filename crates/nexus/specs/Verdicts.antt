@@ -7,7 +7,7 @@
 --   LinesAt f i n        the lines of n trees begin at i
 --   Feeds b s v t w      the verdicts of b stand at the front of w, which was v, and the lent bytes t, which were s, hold what b leaves
 --   FeedsLines ps f i n s v t w     the trees whose lines begin at i are fed, n in all
-use Rattle.std.specs.Prelude.{ℕ, ◌+◌, ◌≤◌, ◌<◌, ◌≡◌, true, false, List, [], ◌∷◌, ◌++◌, map, ltb, length, take, drop, if◌then◌else◌}
+use Rattle.std.specs.Prelude.{ℕ, ◌+◌, ◌≤◌, ◌<◌, ◌≡◌, true, false, List, [], ◌∷◌, ◌++◌, map, ltb, length, take, drop, if◌then◌else◌, Result, Option}
 use Rattle.std.proofs.Math.Option.{some}
 use Rattle.trees.specs.Plain.{refused}
 use Rattle.trees.specs.Held.{Lane, holding, overrun, most_text, verdict, finished, recording}
@@ -16,23 +16,25 @@ use Rattle.trees.specs.Nexus.{uncommented, Pair}
 use Rattle.trees.specs.NexusReading.{in_trees, reads}
 use Rattle.trees.specs.NexusCall.{replaced, on_text, handing}
 use Rattle.answers.specs.Answers.{progress_given}
-use Rattle.answers.specs.declared.Progress.{Progress}
 use Rattle.layout.specs.Store.{held_at}
 use Rattle.store.specs.Lent.{Holds}
 use Rattle.nexus.specs.declared.tokens.Token.{Token}
 use Rattle.nexus.specs.Places.{part, commands_at}
+use Rattle.answers.specs.declared.Refusal.{Refusal}
+use Rattle.answers.specs.declared.Tree.{Tree}
 
 -- no verdict asks whether quotes are open in a lane that ran over
+
 abbrev pub lane_with : ℕ → List ℕ → Lane
 lane_with n text = if ltb most_text n then overrun false else holding (take n text)
 
-pub record Judges (s text : List ℕ) (n : ℕ) (r : Progress) (t : List ℕ) : Type 0 where
+pub record Judges (s text : List ℕ) (n : ℕ) (r : Result (Option Tree) Refusal) (t : List ℕ) : Type 0 where
   pub answer : progress_given r ≡ finished (held_at s) (verdict (held_at s) (lane_with n text))
   pub holds : Holds (recording (held_at s) (verdict (held_at s) (lane_with n text))) s t
   pub found : (k : ℕ) → verdict (held_at s) (lane_with n text) ≡ refused k → t ≡ s
 
 -- "judged as its plain text handed whole to an empty lane"
-pub record Hands (s x : List ℕ) (r : Progress) (t : List ℕ) : Type 0 where
+pub record Hands (s x : List ℕ) (r : Result (Option Tree) Refusal) (t : List ℕ) : Type 0 where
   pub answer : progress_given r ≡ finished (held_at s) (on_text (held_at s) x)
   pub holds : Holds (recording (held_at s) (on_text (held_at s) x)) s t
   pub found : (k : ℕ) → on_text (held_at s) x ≡ refused k → t ≡ s

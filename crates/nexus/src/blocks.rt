@@ -1,5 +1,5 @@
 // The blocks of a file. It is judged whole, and nothing of it is held but places.
-ghost use Rattle.std.specs.Prelude.{◌≡◌, false, ◌+◌, ◌*◌, ◌≤◌, length};
+ghost use Rattle.std.specs.Prelude.{◌≡◌, ◌+◌, ◌*◌, ◌≤◌, length};
 ghost use Rattle.trees.specs.Nexus.{most_keys};
 ghost use Rattle.nexus.specs.Blocks.{OtherEnd, NextAs, ListedAs, CountedAs, EndsAs, TreesAs, FileAs};
 
@@ -20,7 +20,8 @@ fn next_block(f: &[u8], from: usize) -> Next
     ensures { NextAs f.now from result }
 {
     let mut at = from;
-    while at <= f.len() {
+    // No range counts these places, nor those in the loops below: each is behind a command or a block.
+    loop {
         let end = commands::command_end(f, at);
         if end == f.len() {
             return Next::Last(at);
@@ -31,13 +32,15 @@ fn next_block(f: &[u8], from: usize) -> Next
             Begun::Wrong => return Next::Wrong,
             Begun::Other => {}
         }
-        at = past_other(f, end + 1);
+        let Some(next) = past_other(f, end + 1) else {
+            return Next::Wrong;
+        };
+        at = next;
     }
-    Next::Wrong
 }
 
-// Past the end of another block, from its first command on; 1 more than the length where it never ends.
-fn past_other(f: &[u8], from: usize) -> usize
+// Past the end of another block, from its first command on; none where it never ends.
+fn past_other(f: &[u8], from: usize) -> Option<usize>
     requires { from ≤ length f.now }
     ensures { OtherEnd f.now from result }
 {
@@ -45,16 +48,16 @@ fn past_other(f: &[u8], from: usize) -> usize
     loop {
         let end = commands::command_end(f, at);
         if end == f.len() {
-            return f.len() + 1;
+            return None;
         }
         if lines::ends_other(&f[at..end]) {
-            return end + 1;
+            return Some(end + 1);
         }
         at = end + 1;
     }
 }
 
-// A TRANSLATE list: the command from `from` up to `end` lists so many pairs; `at` is the place behind it, past the file where it is wrong.
+// A TRANSLATE list: the command from `from` up to `end` lists so many pairs; `at` is the place behind it.
 #[derive(Clone, Copy)]
 pub(crate) struct Listing {
     pub from: usize,
@@ -63,49 +66,44 @@ pub(crate) struct Listing {
     pub at: usize,
 }
 
-// Reads the TRANSLATE list that may stand at the beginning of the TREES block.
-fn read_list(f: &[u8], from: usize, places: &mut [usize]) -> Listing
+// Reads the TRANSLATE list that may stand at the beginning of the TREES block; none where it is wrong, or no command ends there.
+fn read_list(f: &[u8], from: usize, places: &mut [usize]) -> Option<Listing>
     requires from_in_bounds { from ≤ length f.now }
     requires most_keys_in_bounds { 4 * most_keys ≤ length places.old }
-    ensures listed_as { ListedAs f.now from result places.new }
+    ensures listed_as { ListedAs f.now from places.new result }
     ensures places_len_unchanged { length places.new ≡ length places.old }
 {
     let end = commands::command_end(f, from);
+    if end == f.len() {
+        return None;
+    }
     let w = tokens::first_token(&f[from..end], 0);
     if !tokens::is_word(&f[from..end], w.from, w.end, b"TRANSLATE") {
-        return Listing {
+        return Some(Listing {
             from,
             end: from,
             pairs: 0,
             at: from,
-        };
+        });
     }
-    let n = pairs::read_pairs(&f[from..end], w.end, places);
-    if n == 0 {
-        return Listing {
-            from,
-            end,
-            pairs: 0,
-            at: f.len() + 1,
-        };
-    }
-    Listing {
+    let n = pairs::read_pairs(&f[from..end], w.end, places)?;
+    Some(Listing {
         from,
         end,
         pairs: n,
         at: end + 1,
-    }
+    })
 }
 
-// The lines of the TREES block: how many trees they give; `at` is the place behind the block, past the file where it is wrong.
+// The lines of the TREES block: how many trees they give; `at` is the place behind the block.
 #[derive(Clone, Copy)]
 pub(crate) struct Lines {
     pub trees: usize,
     pub at: usize,
 }
 
-// Counts the trees of the TREES block, from the place behind its list on.
-fn count_lines(f: &[u8], from: usize) -> Lines
+// Counts the trees of the TREES block, from the place behind its list on; none where a line is wrong, or the block never ends.
+fn count_lines(f: &[u8], from: usize) -> Option<Lines>
     requires { from ≤ length f.now }
     ensures { CountedAs f.now from result }
 {
@@ -114,25 +112,17 @@ fn count_lines(f: &[u8], from: usize) -> Lines
     loop {
         let end = commands::command_end(f, at);
         if end == f.len() {
-            return Lines {
-                trees: n,
-                at: f.len() + 1,
-            };
+            return None;
         }
         let l = lines::read_line(&f[at..end]);
         match l {
             Line::End => {
-                return Lines {
+                return Some(Lines {
                     trees: n,
                     at: end + 1,
-                }
+                })
             }
-            Line::Wrong => {
-                return Lines {
-                    trees: n,
-                    at: f.len() + 1,
-                }
-            }
+            Line::Wrong => return None,
             Line::Text(_) => {}
         }
         n += 1;
@@ -157,7 +147,6 @@ fn ends_well(f: &[u8], from: usize) -> bool
 // `lines`, and it gives so many trees.
 #[derive(Clone, Copy)]
 pub(crate) struct Blocks {
-    pub good: bool,
     pub from: usize,
     pub end: usize,
     pub pairs: usize,
@@ -165,60 +154,39 @@ pub(crate) struct Blocks {
     pub trees: usize,
 }
 
-// A file that is malformed.
-fn malformed() -> Blocks
-    ensures { result.good ≡ false }
-{
-    Blocks {
-        good: false,
-        from: 0,
-        end: 0,
-        pairs: 0,
-        lines: 0,
-        trees: 0,
-    }
-}
-
-// Reads a whole file: whether it is malformed, the places of its pairs, and where its trees stand.
-pub(crate) fn read_file(f: &[u8], places: &mut [usize]) -> Blocks
+// Reads a whole file: the places of its pairs, and where its trees stand; none where it is malformed.
+pub(crate) fn read_file(f: &[u8], places: &mut [usize]) -> Option<Blocks>
     requires { 4 * most_keys ≤ length places.old }
-    ensures { FileAs f.now result places.new }
+    ensures { FileAs f.now places.new result }
 {
     let w = tokens::first_token(f, 0);
     if !tokens::is_word(f, w.from, w.end, b"#NEXUS") {
-        return malformed();
+        return None;
     }
     let next = next_block(f, w.end);
     match next {
         Next::Trees(at) => read_trees(f, at, places),
-        Next::Last(_) => malformed(),
-        Next::Wrong => malformed(),
+        Next::Last(_) => None,
+        Next::Wrong => None,
     }
 }
 
 // Reads the TREES block from its first command on, and what stands behind it.
-fn read_trees(f: &[u8], from: usize, places: &mut [usize]) -> Blocks
+fn read_trees(f: &[u8], from: usize, places: &mut [usize]) -> Option<Blocks>
     requires from_in_bounds { from ≤ length f.now }
     requires most_keys_in_bounds { 4 * most_keys ≤ length places.old }
-    ensures { TreesAs f.now from result places.new }
+    ensures { TreesAs f.now from places.new result }
 {
-    let list = read_list(f, from, places);
-    if f.len() < list.at {
-        return malformed();
-    }
-    let counted = count_lines(f, list.at);
-    if f.len() < counted.at {
-        return malformed();
-    }
+    let list = read_list(f, from, places)?;
+    let counted = count_lines(f, list.at)?;
     if !ends_well(f, counted.at) {
-        return malformed();
+        return None;
     }
-    Blocks {
-        good: true,
+    Some(Blocks {
         from: list.from,
         end: list.end,
         pairs: list.pairs,
         lines: list.at,
         trees: counted.trees,
-    }
+    })
 }

@@ -11,6 +11,7 @@ pub(crate) fn command_end(s: &[u8], from: usize) -> usize
     ensures { CommandEnd s.now from result }
 {
     let mut at = past_plain(s, from);
+    // No range counts these places: each is behind a comment or a run in quotes.
     while at < s.len() {
         if s[at] == b';' {
             return at;
@@ -39,14 +40,12 @@ pub(crate) fn past_plain(s: &[u8], from: usize) -> usize
     requires { from ≤ length s.now }
     ensures { PlainEnd s.now from result }
 {
-    let mut at = past_blocks(s, from);
-    while at < s.len() {
+    for at in past_blocks(s, from)..s.len() {
         if !is_plain(s[at]) {
             return at;
         }
-        at += 1;
     }
-    at
+    s.len()
 }
 
 // Past the blocks of 64 such bytes from `from` on.
@@ -55,6 +54,7 @@ fn past_blocks(s: &[u8], from: usize) -> usize
     ensures { PlainRun s.now from result }
 {
     let mut at = from;
+    // Not in chunks, since it is the place where the blocks end that is answered.
     while 64 <= s.len() - at {
         let all = all_plain(&s[at..at + 64]);
         if !all {
@@ -73,18 +73,16 @@ fn all_plain(block: &[u8]) -> bool
     let mut no_end = true;
     let mut no_comment = true;
     let mut no_quote = true;
-    let mut i = 0;
-    while i < block.len() {
-        if block[i] == b';' {
+    for b in block {
+        if *b == b';' {
             no_end = false;
         }
-        if block[i] == b'[' {
+        if *b == b'[' {
             no_comment = false;
         }
-        if block[i] == b'\'' {
+        if *b == b'\'' {
             no_quote = false;
         }
-        i += 1;
     }
     if !no_end {
         return false;

@@ -7,12 +7,10 @@ pub(crate) fn past_next(s: &[u8], from: usize, b: u8) -> usize
     requires { from ≤ length s.now }
     ensures { NextByte s.now b from result }
 {
-    let mut at = from;
-    while at < s.len() {
+    for at in from..s.len() {
         if s[at] == b {
             return at + 1;
         }
-        at += 1;
     }
     s.len() + 1
 }
@@ -31,6 +29,7 @@ pub(crate) fn skip(s: &[u8], from: usize) -> usize
     ensures { Skipped s.now from result }
 {
     let mut at = from;
+    // No range counts these places: a comment is passed at once.
     while at < s.len() {
         let next = past_blank(s, at);
         if next == at {

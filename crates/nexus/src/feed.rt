@@ -10,11 +10,10 @@ ghost use Rattle.nexus.specs.Commands.{pairs_in, Placed};
 ghost use Rattle.nexus.specs.Named.{labelled};
 ghost use Rattle.nexus.specs.Verdicts.{LineAt, LinesAt, Hands, FeedsLines};
 
-use crate::keyed::Keyed;
 use crate::lines::Line;
 use crate::tokens::Token;
 use crate::{commands, keyed, keys, lines, plain, verdicts};
-use answers::Progress;
+use answers::{Refusal, Tree};
 use head::KEYS;
 use layout::MOST_TEXT;
 
@@ -75,8 +74,7 @@ fn feed_lines(
 {
     let mut text = [0u8; MOST_TEXT];
     let mut at = from;
-    let mut i = 0;
-    while i < n {
+    for i in 0..n {
         let line = text_at(f, at);
         let b = line.from;
         let e = line.end;
@@ -94,7 +92,6 @@ fn feed_lines(
         );
         verdicts[i] = answers::verdict_number(progress);
         at = e + 1;
-        i += 1;
     }
 }
 
@@ -111,7 +108,7 @@ fn feed_text(
     firsts: &[u8; KEYS],
     nexts: &[u8; 64],
     text: &mut [u8],
-) -> Progress
+) -> Result<Option<Tree>, Refusal>
     requires s_value { whole_at s.old ≡ true }
     requires indexed { Indexed (names_at s.old) starts.now links.now }
     requires placed { Placed list.now pairs places.now }
@@ -123,8 +120,8 @@ fn feed_text(
 {
     let k = keyed::judge_keys(s, starts, links, raw, list, pairs, places, firsts, nexts);
     match k {
-        Keyed::Told(p) => p,
-        Keyed::Unsure => {
+        Some(p) => p,
+        None => {
             let n = plain::write_text(list, pairs, places, firsts, nexts, raw, text);
             verdicts::judge_text(s, starts, links, text, n)
         }

@@ -15,20 +15,13 @@ ghost use Rattle.nexus.specs.Named.{labelled};
 ghost use Rattle.nexus.specs.Keyed.{most_keyed, BareFrom, NamesAs, Standing, KeyedAs};
 
 use crate::{commands, comments, keys, verdicts};
-use answers::Progress;
+use answers::{Refusal, Tree};
 use head::KEYS;
-use layout::{MOST_TEXT, RAN_OVER};
+use layout::MOST_TEXT;
 use newick::{NODES, TOKENS};
 
 // How many leaves such a tree has at most: `most_keyed` of specs/Keyed.antt.
 const MOST_KEYED: usize = 64;
-
-// What came of it: the verdict, or nothing, and then nothing is changed.
-#[derive(Clone, Copy)]
-pub(crate) enum Keyed {
-    Told(Progress),
-    Unsure,
-}
 
 // Judges the tree for which these bytes stand in a file, if it is such a tree and lengths are not kept.
 pub(crate) fn judge_keys(
@@ -41,7 +34,7 @@ pub(crate) fn judge_keys(
     places: &[usize],
     firsts: &[u8; KEYS],
     nexts: &[u8; 64],
-) -> Keyed
+) -> Option<Result<Option<Tree>, Refusal>>
     requires s_value { whole_at s.old ≡ true }
     requires indexed { Indexed (names_at s.old) starts.now links.now }
     requires placed { Placed list.now pairs places.now }
@@ -50,13 +43,10 @@ pub(crate) fn judge_keys(
     ensures { KeyedAs s.old (replaced (pairs_in list.now pairs places.now) (uncommented false raw.now)) result s.new }
 {
     if head::kept(s) != 0 {
-        return Keyed::Unsure;
+        return None;
     }
-    let from = bare_from(raw);
+    let from = bare_from(raw)?;
     let bytes = raw.len();
-    if bytes < from {
-        return Keyed::Unsure;
-    }
     judge_bare(
         s,
         starts,
@@ -83,7 +73,7 @@ fn judge_bare(
     places: &[usize],
     firsts: &[u8; KEYS],
     nexts: &[u8; 64],
-) -> Keyed
+) -> Option<Result<Option<Tree>, Refusal>>
     requires s_value { (whole_at s.old ≡ true) × ((opening_at s.old).numbers.kept ≡ 0) }
     requires indexed { Indexed (names_at s.old) starts.now links.now }
     requires text_len_bound { (length text.now ≤ most_text) × (length text.now ≤ bytes) × (member apostrophe text.now ≡ false) }
@@ -96,40 +86,37 @@ fn judge_bare(
     let mut nodes = [0u16; NODES];
     let c = newick::read_shape(text, &mut tokens, &mut nodes);
     if text.len() < c.at {
-        return Keyed::Unsure;
+        return None;
     }
     if MOST_KEYED < c.leaves {
-        return Keyed::Unsure;
+        return None;
     }
     let mut names = [0u16; TOKENS];
     let n = name_leaves(
         list, pairs, places, firsts, nexts, text, c.leaves, &tokens, &mut names,
-    );
-    if MOST_TEXT < n {
-        return Keyed::Unsure;
-    }
+    )?;
     if MOST_TEXT - n < bytes {
-        return Keyed::Unsure;
+        return None;
     }
-    Keyed::Told(verdicts::judge_named(s, starts, links, list, c.leaves, c.inner, &names, &nodes))
+    Some(verdicts::judge_named(s, starts, links, list, c.leaves, c.inner, &names, &nodes))
 }
 
-// Where a tree's text begins behind blanks and comments, if neither quotes nor comments stand in it and it is no longer than a text may be; 1
-// more than the length, if not.
-pub(crate) fn bare_from(raw: &[u8]) -> usize
+// Where a tree's text begins behind blanks and comments, if neither quotes nor comments stand in it and it is no longer than a text may be;
+// none, if not.
+pub(crate) fn bare_from(raw: &[u8]) -> Option<usize>
     ensures { BareFrom raw.now result }
 {
     let from = comments::skip(raw, 0);
     if commands::past_plain(raw, from) < raw.len() {
-        return raw.len() + 1;
+        return None;
     }
     if MOST_TEXT < raw.len() - from {
-        return raw.len() + 1;
+        return None;
     }
-    from
+    Some(from)
 }
 
-// Looks up the first k tokens of a text, notes where the names of these keys stand in the list, and answers how many bytes they have; 4,609
+// Looks up the first k tokens of a text, notes where the names of these keys stand in the list, and answers how many bytes they have; none
 // where one is no key, or they have more than 4,608. Places are noted in 16 bits: a name behind them is left to the plain text.
 pub(crate) fn name_leaves(
     list: &[u8],
@@ -141,33 +128,28 @@ pub(crate) fn name_leaves(
     k: usize,
     tokens: &[u16; TOKENS],
     names: &mut [u16],
-) -> usize
+) -> Option<usize>
     requires placed { Placed list.now n places.now }
     requires indexed { Indexed (keys_of (pairs_in list.now n places.now)) starts.now links.now }
     requires k_le_most_keyed { (k ≤ most_keyed) × Tokens text.now tokens.now k }
     requires most_keyed_in_bounds { 2 * most_keyed ≤ length names.old }
-    ensures { NamesAs (pairs_in list.now n places.now) list.now text.now tokens.now k result names.new }
+    ensures { NamesAs (pairs_in list.now n places.now) list.now text.now tokens.now k names.new result }
 {
     let mut bytes = 0;
-    let mut j = 0;
-    while j < k {
+    for j in 0..k {
         let b = tokens[2 * j] as usize;
         let e = tokens[2 * j + 1] as usize;
-        let p = keys::find_key(list, n, places, starts, links, text, b, e);
-        if p == 0 {
-            return RAN_OVER;
-        }
-        let name = keys::name_at(places, p - 1);
+        let p = keys::find_key(list, n, places, starts, links, text, b, e)?;
+        let name = keys::name_at(places, p);
         if 65535 < name.end {
-            return RAN_OVER;
+            return None;
         }
         if MOST_TEXT - bytes < name.end - name.from {
-            return RAN_OVER;
+            return None;
         }
         names[2 * j] = name.from as u16;
         names[2 * j + 1] = name.end as u16;
         bytes += name.end - name.from;
-        j += 1;
     }
-    bytes
+    Some(bytes)
 }

@@ -18,12 +18,10 @@ pub(crate) fn repeats(list: &[u8], n: usize, places: &[usize]) -> bool
     requires { Placed list.now n places.now }
     ensures { result ≡ not (different (keys_of (pairs_in list.now n places.now))) }
 {
-    let mut i = 0;
-    while i < n {
+    for i in 0..n {
         if comes_again(list, n, places, i) {
             return true;
         }
-        i += 1;
     }
     false
 }
@@ -35,12 +33,10 @@ fn comes_again(list: &[u8], n: usize, places: &[usize], i: usize) -> bool
     ensures { result ≡ in_names (key_in list.now places.now i) (drop (i + 1) (keys_of (pairs_in list.now n places.now))) }
 {
     let k = key_at(places, i);
-    let mut j = i + 1;
-    while j < n {
+    for j in i + 1..n {
         if is_key(list, places, j, list, k.from, k.end) {
             return true;
         }
-        j += 1;
     }
     false
 }
@@ -97,9 +93,7 @@ pub(crate) fn index_keys(
 {
     *starts = [0; KEYS];
     *links = [0; 64];
-    let mut i = n;
-    while 0 < i {
-        i -= 1;
+    for i in (0..n).rev() {
         let t = key_at(places, i);
         let k = head::key_of(list, t.from, t.end);
         links[i] = starts[k];
@@ -107,7 +101,7 @@ pub(crate) fn index_keys(
     }
 }
 
-// The pair whose key is the bytes of the text from b up to e: its number and one more; 0 where they are no key.
+// The pair whose key is the bytes of the text from b up to e; none where they are no key.
 pub(crate) fn find_key(
     list: &[u8],
     n: usize,
@@ -117,22 +111,22 @@ pub(crate) fn find_key(
     text: &[u8],
     b: usize,
     e: usize,
-) -> usize
+) -> Option<usize>
     requires placed { Placed list.now n places.now }
     requires indexed { Indexed (keys_of (pairs_in list.now n places.now)) starts.now links.now }
     requires b_le_e { b ≤ e }
     requires e_in_bounds { e ≤ length text.now }
-    ensures found_as { FoundAs (keys_of (pairs_in list.now n places.now)) (part b e text.now) result }
-    ensures upper_bound { result ≤ n }
+    ensures { FoundAs (keys_of (pairs_in list.now n places.now)) (part b e text.now) result }
 {
     let k = head::key_of(text, b, e);
     let mut number = starts[k];
+    // The links lead from pair to pair, in no range.
     while number != 0 {
         let i = (number - 1) as usize;
         if is_key(list, places, i, text, b, e) {
-            return i + 1;
+            return Some(i);
         }
         number = links[i];
     }
-    0
+    None
 }

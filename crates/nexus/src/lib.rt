@@ -8,7 +8,7 @@
 ghost use Rattle.std.specs.Prelude.{length};
 ghost use Rattle.nexus.specs.Fed.{nexus_of, NexusAs};
 
-use answers::{Number, Refusal};
+use answers::Refusal;
 
 mod blocks;
 mod commands;
@@ -26,25 +26,24 @@ mod verdicts;
 const PLACES: usize = 256;
 
 // Feeds the trees of a NEXUS file and writes each verdict: a refusal's number, or 256 more than the tree's. Answers how many there are.
-pub fn feed_file(s: &mut [u8], file: &[u8], verdicts: &mut [u32]) -> Number
+pub fn feed_file(s: &mut [u8], file: &[u8], verdicts: &mut [u32]) -> Result<usize, Refusal>
     ensures { NexusAs (nexus_of s.old file.now (length verdicts.old)) result s.old verdicts.old s.new verdicts.new }
 {
     if !store::is_whole(s) {
-        return Number::Refused(Refusal::NotWhole);
+        return Err(Refusal::NotWhole);
     }
     let mut places = [0usize; PLACES];
-    let x = blocks::read_file(file, &mut places);
-    if !x.good {
-        return Number::Refused(Refusal::BadBlock);
-    }
+    let Some(x) = blocks::read_file(file, &mut places) else {
+        return Err(Refusal::BadBlock);
+    };
     let from = x.from;
     let end = x.end;
     if keys::repeats(&file[from..end], x.pairs, &places) {
-        return Number::Refused(Refusal::RepeatedKey);
+        return Err(Refusal::RepeatedKey);
     }
     let n = x.trees;
     if verdicts.len() < n {
-        return Number::Refused(Refusal::TooShort);
+        return Err(Refusal::TooShort);
     }
     feed::feed_trees(
         s,
@@ -56,5 +55,5 @@ pub fn feed_file(s: &mut [u8], file: &[u8], verdicts: &mut [u32]) -> Number
         &places,
         verdicts,
     );
-    Number::Gives(n)
+    Ok(n)
 }

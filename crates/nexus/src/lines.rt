@@ -42,6 +42,7 @@ pub(crate) fn ends_other(c: &[u8]) -> bool
     ensures { result ≡ ends_other (uncommented false c.now) }
 {
     let mut at = comments::skip(c, 0);
+    // No range counts these places: each is behind a token and what may follow it.
     while at < c.len() {
         let end = text::token_end(c, at);
         if tokens::is_word(c, at, end, b"END") {
@@ -72,24 +73,24 @@ fn past_word(c: &[u8], at: usize, end: usize) -> usize
     at + 1
 }
 
-// Where the text of the tree begins that a command gives, behind its `=`; 1 more than the length where it gives none.
-fn text_from(c: &[u8]) -> usize
+// Where the text of the tree begins that a command gives, behind its `=`; none where it gives none.
+fn text_from(c: &[u8]) -> Option<usize>
     ensures { LineAs c.now result }
 {
     let w = tokens::first_token(c, 0);
     if !tokens::is_word(c, w.from, w.end, b"TREE") {
-        return c.len() + 1;
+        return None;
     }
     let name = comments::skip(c, w.end);
     let end = tokens::name_end(c, name);
     if end == name {
-        return c.len() + 1;
+        return None;
     }
     let equals = comments::skip(c, end);
     if !text::has_byte(c, equals, b'=') {
-        return c.len() + 1;
+        return None;
     }
-    equals + 1
+    Some(equals + 1)
 }
 
 // Whether a command ends the TREES block: END alone.
@@ -118,9 +119,8 @@ pub(crate) fn read_line(c: &[u8]) -> Line
     if is_end(c) {
         return Line::End;
     }
-    let from = text_from(c);
-    if c.len() < from {
+    let Some(from) = text_from(c) else {
         return Line::Wrong;
-    }
+    };
     Line::Text(from)
 }

@@ -10,33 +10,31 @@ use crate::{comments, tokens};
 pub(crate) const MOST_KEYS: usize = 64;
 
 // Reads the pairs from `from` on, with commas between, and puts the places of each: where its key and its name begin and end.
-// Answers how many there are; 0 where they are no pairs, or too many.
-pub(crate) fn read_pairs(c: &[u8], from: usize, places: &mut [usize]) -> usize
+// Answers how many there are; none where they are no pairs, or too many.
+pub(crate) fn read_pairs(c: &[u8], from: usize, places: &mut [usize]) -> Option<usize>
     requires from_in_bounds { from ≤ length c.now }
     requires most_keys_in_bounds { 4 * most_keys ≤ length places.old }
-    ensures pairs_as { PairsAs c.now from result places.new }
+    ensures pairs_as { PairsAs c.now from places.new result }
     ensures places_len_unchanged { length places.new ≡ length places.old }
 {
     let mut at = from;
-    let mut n = 0;
-    while n < MOST_KEYS {
+    for n in 0..MOST_KEYS {
         let key = tokens::first_token(c, at);
         let name = first_label(c, key.end);
         if is_none(key, name) {
-            return 0;
+            return None;
         }
         put_pair(places, n, key, name);
-        n += 1;
         let end = comments::skip(c, name.end);
         if end == c.len() {
-            return n;
+            return Some(n + 1);
         }
         if c[end] != b',' {
-            return 0;
+            return None;
         }
         at = end + 1;
     }
-    0
+    None
 }
 
 // The first label from `from` on, behind blanks and comments, with its quotes, if it has any; none, where what stands there is no label.

@@ -34,6 +34,7 @@ pub(crate) fn write_text(
     let mut at = 0;
     let mut to = 0;
     let mut free = true;
+    // No range counts these places: a run, a token or a comment is passed at once.
     while at < raw.len() {
         let kept = kept_end(raw, at, free);
         if at < kept {
@@ -107,14 +108,12 @@ fn past_kept(raw: &[u8], from: usize) -> usize
     requires { from ≤ length raw.now }
     ensures { KeptEnd raw.now from result }
 {
-    let mut at = from;
-    while at < raw.len() {
+    for at in from..raw.len() {
         if !is_kept(raw[at]) {
             return at;
         }
-        at += 1;
     }
-    at
+    raw.len()
 }
 
 // Past each `(` and comma from `from` on.
@@ -122,14 +121,12 @@ fn past_openings(raw: &[u8], from: usize) -> usize
     requires { from ≤ length raw.now }
     ensures { Run is_opening raw.now from result }
 {
-    let mut at = from;
-    while at < raw.len() {
+    for at in from..raw.len() {
         if !is_opening(raw[at]) {
             return at;
         }
-        at += 1;
     }
-    at
+    raw.len()
 }
 
 // Whether b is a mark, behind which no token is replaced.
@@ -187,11 +184,10 @@ fn put_token(
     if !free {
         return put_run(out, to, raw, b, e);
     }
-    let k = keys::find_key(list, n, places, starts, links, raw, b, e);
-    if k == 0 {
+    let Some(k) = keys::find_key(list, n, places, starts, links, raw, b, e) else {
         return put_run(out, to, raw, b, e);
-    }
-    let name = keys::name_at(places, k - 1);
+    };
+    let name = keys::name_at(places, k);
     put_run(out, to, list, name.from, name.end)
 }
 

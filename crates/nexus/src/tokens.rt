@@ -34,12 +34,10 @@ pub(crate) fn is_word(s: &[u8], b: usize, e: usize, k: &[u8]) -> bool
     if e - b != k.len() {
         return false;
     }
-    let mut i = 0;
-    while i < k.len() {
+    for i in 0..k.len() {
         if capital(s[b + i]) != k[i] {
             return false;
         }
-        i += 1;
     }
     true
 }
@@ -62,14 +60,12 @@ pub(crate) fn name_end(s: &[u8], from: usize) -> usize
     requires { from ≤ length s.now }
     ensures { NameEnd s.now from result }
 {
-    let mut at = from;
-    while at < s.len() {
+    for at in from..s.len() {
         if !is_name_byte(s[at]) {
             return at;
         }
-        at += 1;
     }
-    at
+    s.len()
 }
 
 // Whether b may stand in a tree's name: a label byte but `=`.

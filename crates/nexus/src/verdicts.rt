@@ -9,10 +9,10 @@ ghost use Rattle.newick.specs.Leaves.{most_leaves, Tokens};
 ghost use Rattle.newick.specs.Shaping.{Shaping};
 ghost use Rattle.nexus.specs.Verdicts.{Judges, Hands};
 
-use answers::{Progress, Refusal};
+use answers::{Refusal, Tree};
 use head::KEYS;
 use layout::MOST_TEXT;
-use newick::{Judged, NODES, TOKENS};
+use newick::{NODES, TOKENS};
 use records::MOST_WORDS;
 
 // The verdict on the text of n bytes at the front of a buffer; 4,609 bytes stand for any text that is longer than 4,608.
@@ -22,22 +22,19 @@ pub(crate) fn judge_text(
     links: &[u8; 64],
     text: &[u8],
     n: usize,
-) -> Progress
+) -> Result<Option<Tree>, Refusal>
     requires s_value { whole_at s.old ≡ true }
     requires indexed { Indexed (names_at s.old) starts.now links.now }
     requires text_len { length text.now ≡ most_text }
     ensures { Judges s.old text.now n result s.new }
 {
     if MOST_TEXT < n {
-        return Progress::Refused(Refusal::TooLong);
+        return Err(Refusal::TooLong);
     }
     let mut records = [0u64; MOST_WORDS];
     let mut lengths = [0u64; 64];
-    let judged = feeding::judge_text(s, starts, links, &text[..n], &mut records, &mut lengths);
-    match judged {
-        Judged::Refused(r) => Progress::Refused(r),
-        Judged::Splits(k) => recording::accept(s, k, &records, &lengths),
-    }
+    let k = feeding::judge_text(s, starts, links, &text[..n], &mut records, &mut lengths)?;
+    recording::accept(s, k, &records, &lengths)
 }
 
 // The verdict on a tree whose shape was read, by the labels of its leaves in a list of names, where lengths are not kept. Its plain text is no
@@ -51,7 +48,7 @@ pub(crate) fn judge_named(
     inner: usize,
     names: &[u16; TOKENS],
     nodes: &[u16; NODES],
-) -> Progress
+) -> Result<Option<Tree>, Refusal>
     requires s_value { (whole_at s.old ≡ true) × ((opening_at s.old).numbers.kept ≡ 0) }
     requires indexed { Indexed (names_at s.old) starts.now links.now }
     requires tokens { Tokens list.now names.now (min leaves most_leaves) }
@@ -60,7 +57,7 @@ pub(crate) fn judge_named(
 {
     let mut records = [0u64; MOST_WORDS];
     let lengths = [0u64; 64];
-    let judged = newick::judge_shape(
+    let k = newick::judge_shape(
         s,
         starts,
         links,
@@ -70,9 +67,6 @@ pub(crate) fn judge_named(
         names,
         nodes,
         &mut records,
-    );
-    match judged {
-        Judged::Refused(why) => Progress::Refused(why),
-        Judged::Splits(k) => recording::accept(s, k, &records, &lengths),
-    }
+    )?;
+    recording::accept(s, k, &records, &lengths)
 }

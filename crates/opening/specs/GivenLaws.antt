@@ -6,8 +6,9 @@
 --   between-most               a number in its range is at most the most
 --   range-not-taxa, range-not-lanes, range-not-trees, range-not-splits, range-places     the ranges, one after another
 --   constants-not-first, constants-not-second, constants-below     the constants, one list after another
---   every-none, every_more, every-not, every-all     a test of every member, as a loop makes it
+--   every-none, every_more, every-not, every_all, every-all     a test of every member, as a loop makes it or the library
 use Rattle.std.specs.Prelude.{ℕ, suc, ◌+◌, ◌*◌, ◌^◌, ◌≤◌, ◌<◌, ◌≡◌, refl, Bool, false, ◌&&◌, not, List, [], ◌∷◌, leb, length, get_or, drop}
+use Rattle.std.specs.List.{list_all}
 use Rattle.std.proofs.Math.Nat.{zero-mul, one-mul}
 use Rattle.std.proofs.Common.{add-one, arith, sym, ap, ◌∙◌, drop_of_length-le}
 use Rattle.std.proofs.Math.Bool.{true}
@@ -101,6 +102,11 @@ module _ {A : Type 0} (p : A → Bool) (l : List A) (d : A) (i : ℕ) where
   pub every-none : length l ≤ i → every p (drop i l) ≡ true
   unfolding every
   every-none h = rw (drop_of_length-le l h)
+
+pub every_all : {A : Type 0} (p : A → Bool) (l : List A) → list_all p l ≡ every p l
+unfolding every
+every_all p [] = refl
+every_all p (x ∷ l) = ap (λ b. p x && b) (every_all p l)
 
 pub every-all : {A : Type 0} (p : A → Bool) (l : List A) (d : A) → ((i : ℕ) → p (get_or l i d) ≡ true) → every p l ≡ true
 unfolding every

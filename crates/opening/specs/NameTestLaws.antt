@@ -6,12 +6,15 @@
 --   name-run                   a name, whose length was read
 --   short-not, long-not, name-bytes     whether it is one
 --   quoted-more, quoted-not, quoted-end     its bytes
-use Rattle.std.specs.Prelude.{ℕ, ◌+◌, ◌*◌, ◌≤◌, ◌<◌, ◌≡◌, true, false, ◌&&◌, ◌||◌, not, length, get_or, drop}
+--   same_pointwise             two runs of bytes, as the library compares them
+use Rattle.std.specs.Prelude.{refl, ◌∷◌, ℕ, ◌+◌, ◌*◌, ◌≤◌, ◌<◌, ◌≡◌, true, false, ◌&&◌, ◌||◌, not, length, get_or, drop}
 use Rattle.std.proofs.Math.Numerals.{add-one}
 use Rattle.std.proofs.Common.{arith, ap, ◌∙◌, drop_of_length-le, drop-cons}
 use mathlib.Core.List.{List, []}
 use Rattle.std.proofs.Math.Seq.{slice, slice-cons, slice_empty, length-slice}
 use borrow.Author.Tests.{le-leb, lt-leb, eq-eqb}
+use lib.Pointwise.{pointwise}
+use lib.Dec.{eqb}
 use Rattle.trees.specs.Plain.{every, same_bytes, in_names}
 use Rattle.trees.specs.Text.{is_quoted_byte}
 use Rattle.trees.specs.Names.{is_name, different, good_names}
@@ -86,7 +89,16 @@ module _ (s : List ℕ) (i n : ℕ) (q : n ≡ get_or s (16 + 33 * i) 0) where
         let l = name-size in
         rw (le-leb 1 (length (name_at s i)) (omega arith), le-leb (length (name_at s i)) 32 (omega arith)) (ap (every is_quoted_byte) name-run)
 
--- ---- its bytes
+-- ---- runs of bytes
+
+pub same_pointwise : (v w : List ℕ) → pointwise eqb v w ≡ same_bytes v w
+unfolding same_bytes
+same_pointwise [] [] = refl
+same_pointwise [] (y ∷ w) = refl
+same_pointwise (x ∷ v) [] = refl
+same_pointwise (x ∷ v) (y ∷ w) = ap (λ b. eqb x y && b) (same_pointwise v w)
+
+-- ---- the bytes of a name in quotes
 
 module _ (s : List ℕ) (b e : ℕ) (h : e ≤ length s) where
   quoted-cons : b < e → every is_quoted_byte (slice b e s) ≡ (is_quoted_byte (get_or s b 0) && every is_quoted_byte (slice (b + 1) e s))

@@ -88,21 +88,14 @@ pub fn constants_good(places: u32, taxa: u32, first: &[u64], second: &[u64]) -> 
     if second.len() != n {
         return false;
     }
-    all_below(first, places as u64)
+    all_below(first, u64::from(places))
 }
 
 // Whether every number of the list is below `most`.
 fn all_below(list: &[u64], most: u64) -> bool
     ensures { result ≡ every (λ c. ltb c most) list.now }
 {
-    let mut i = 0;
-    while i < list.len() {
-        if list[i] >= most {
-            return false;
-        }
-        i += 1;
-    }
-    true
+    list.iter().all(|c| *c < most)
 }
 
 // Writes an opening, with the names that lie in their places, into the head of a store, where nothing is counted yet.
@@ -162,7 +155,7 @@ fn write_numbers(
     fields::put16(s, 14, flag(kept));
 }
 
-// 1 where lengths are kept, else 0.
+// 1 where lengths are kept, else 0. The library makes no number of a truth value.
 fn flag(kept: bool) -> u16
     ensures { result ≡ flag_of kept }
 {
@@ -179,10 +172,8 @@ fn write_names(s: &mut [u8], names: &[u8], n: usize)
     requires n_bound { n ≤ 64 }
     ensures { s.new ≡ with_names s.old 0 (first_names n names.now) }
 {
-    let mut i = 0;
-    while i < n {
+    for i in 0..n {
         write_name(s, names, i);
-        i += 1;
     }
 }
 
@@ -205,10 +196,8 @@ fn write_first(s: &mut [u8], list: &[u64])
     requires by_index { (i : ℕ) → get_or list.now i 0 < 65536 }
     ensures { s.new ≡ puts 2 s.old 2128 list.now }
 {
-    let mut i = 0;
-    while i < list.len() {
+    for i in 0..list.len() {
         fields::put16(s, 2128 + 2 * i, list[i] as u16);
-        i += 1;
     }
 }
 
@@ -218,9 +207,7 @@ fn write_second(s: &mut [u8], list: &[u64])
     requires list_len_bound { length list.now ≤ 64 }
     ensures { s.new ≡ puts 8 s.old 2256 list.now }
 {
-    let mut i = 0;
-    while i < list.len() {
+    for i in 0..list.len() {
         fields::put64(s, 2256 + 8 * i, list[i]);
-        i += 1;
     }
 }

@@ -34,9 +34,8 @@ fn place_names(list: &[u8], n: usize, names: &mut [u8]) -> bool
     ensures list_value { result ≡ false → good_names n (names_in list.now) ≡ false }
 {
     let mut at = 0;
-    let mut i = 0;
-    while at <= list.len() {
-        if i == n {
+    for i in 0..n {
+        if list.len() < at {
             return false;
         }
         let e = name_end(list, at);
@@ -47,9 +46,8 @@ fn place_names(list: &[u8], n: usize, names: &mut [u8]) -> bool
             return false;
         }
         at = e + 1;
-        i += 1;
     }
-    i == n
+    list.len() < at
 }
 
 // Reads the label from b up to e into place i. False where it is read as too many bytes for a name.
@@ -100,12 +98,10 @@ fn all_names(s: &[u8], n: usize) -> bool
     requires n_bound { n ≤ 64 }
     ensures { result ≡ every is_name (first_names n s.now) }
 {
-    let mut i = 0;
-    while i < n {
+    for i in 0..n {
         if !is_name(s, i) {
             return false;
         }
-        i += 1;
     }
     true
 }
@@ -133,14 +129,7 @@ fn all_quoted_bytes(s: &[u8], b: usize, e: usize) -> bool
     requires e_in_bounds { e ≤ length s.now }
     ensures { result ≡ every is_quoted_byte (slice b e s.now) }
 {
-    let mut i = b;
-    while i < e {
-        if !text::is_quoted_byte(s[i]) {
-            return false;
-        }
-        i += 1;
-    }
-    true
+    s[b..e].iter().all(|x| text::is_quoted_byte(*x))
 }
 
 // Whether none of the first n names comes twice.
@@ -149,12 +138,10 @@ fn all_different(s: &[u8], n: usize) -> bool
     requires n_bound { n ≤ 64 }
     ensures { result ≡ different (first_names n s.now) }
 {
-    let mut i = 0;
-    while i < n {
+    for i in 0..n {
         if comes_again(s, i, n) {
             return false;
         }
-        i += 1;
     }
     true
 }
@@ -166,12 +153,10 @@ fn comes_again(s: &[u8], i: usize, n: usize) -> bool
     requires i_lt_n { i < n }
     ensures { result ≡ in_names (name_at s.now i) (drop (i + 1) (first_names n s.now)) }
 {
-    let mut j = i + 1;
-    while j < n {
+    for j in i + 1..n {
         if same_names(s, j, i) {
             return true;
         }
-        j += 1;
     }
     false
 }
@@ -187,28 +172,7 @@ fn same_names(s: &[u8], i: usize, j: usize) -> bool
     let b = 17 + 33 * j;
     let m = name_length(s, i);
     let n = name_length(s, j);
-    same_bytes(s, a, a + m, b, b + n)
-}
-
-// Whether the bytes of s from a up to z are those from b up to e.
-fn same_bytes(s: &[u8], a: usize, z: usize, b: usize, e: usize) -> bool
-    requires a_le_z { (a ≤ z) × (z ≤ length s.now) }
-    requires b_le_e { (b ≤ e) × (e ≤ length s.now) }
-    ensures { result ≡ same_bytes (slice a z s.now) (slice b e s.now) }
-{
-    if z - a != e - b {
-        return false;
-    }
-    let mut i = a;
-    let mut j = b;
-    while i < z {
-        if s[i] != s[j] {
-            return false;
-        }
-        i += 1;
-        j += 1;
-    }
-    true
+    s[a..a + m] == s[b..b + n]
 }
 
 // The length of the name in place i.
@@ -217,5 +181,5 @@ pub(crate) fn name_length(s: &[u8], i: usize) -> usize
     requires i_bound { i < 64 }
     ensures { (result ≡ get_or s.now (16 + 33 * i) 0) × (result < 256) }
 {
-    s[16 + 33 * i] as usize
+    usize::from(s[16 + 33 * i])
 }

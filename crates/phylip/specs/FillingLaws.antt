@@ -6,7 +6,7 @@
 --   are-row, row-values, row-at-end            rows that stand have a row at their front, its values, and LF behind them
 --   filled-length, filled-are, filled_more     a row more is filled
 --   fill_done                                  none is left
---   row_room                                   room for one row less
+--   next_from, row_room                        where the next row begins, and room for one row less
 --   front-filled                               the buffer at the end
 use Rattle.std.specs.Prelude.{ℕ, zero, suc, ◌+◌, ◌-◌, ◌*◌, ◌≤◌, ◌<◌, ◌≡◌, refl, true, ◌&&◌, List, [], ◌∷◌, ◌++◌, leb, length, set, take, drop}
 use Rattle.std.proofs.Common.{zero-add, add-one, arith, ap, ◌∙◌, length-append, leb-true}
@@ -128,6 +128,10 @@ module _ (f out new : List ℕ) (k m t p r : ℕ) (l : 0 < m) (e : are_rows m t 
 
   pub filled_more : rows_filled out k m t (rest f p) ≡ rows_filled new (k + t) (m - 1) t (rest f (r + 1))
   filled_more = fill_more out k m t (rest f p) l ∙ rw (h.filled, rest_more f p 10, behind-row)
+
+-- where the values of the next row begin
+pub next_from : (t r : ℕ) → t * (r + 1) ≡ t * r + t
+next_from t r = rw add-one (omega arith)
 
 -- room for one row less
 pub row_room : (k m t n : ℕ) → 0 < m → k + m * t ≤ n → (k + t ≤ n) × (k + t + (m - 1) * t ≤ n)

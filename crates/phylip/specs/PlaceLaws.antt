@@ -1,14 +1,15 @@
 -- The laws of what stands at a place of a text. Assumes nothing.
 --
---   begins-at, begins-past, begins-within     a byte stands at a place exactly where the text has not ended
+--   begins-at, begins-here, begins-past, begins-within     a byte stands at a place exactly where the text has not ended
 --   begins-first           a text that begins with a byte of a kind, taken apart
 --   behind-next            a run, one byte on
 --   number_behind v s       the number v, with the digits at the front of s behind it
---   capped-large, capped_same, capped-top      a capped number
+--   capped-large, capped_same, capped-least, capped-top      a capped number
 --   number-start, number_more, number-done     a number in digits: at its start, one digit on, and at its end
---   digit-below, digit-from, digit_low         the byte of a digit
+--   ascii-digit, digit-below, digit-from, digit_low  the byte of a digit
 --   value-place            a value, behind the spaces
-use Rattle.std.specs.Prelude.{ℕ, ◌+◌, ◌-◌, ◌*◌, ◌≤◌, ◌<◌, ◌⊎◌, ◌≡◌, refl, Bool, true, false, List, [], ◌∷◌, leb, ltb, length, if◌then◌else◌}
+use Rattle.std.specs.Prelude.{leb, ℕ, ◌+◌, ◌-◌, ◌*◌, ◌≤◌, ◌<◌, ◌⊎◌, ◌≡◌, refl, Bool, true, false, List, [], ◌∷◌, ltb, length, min, if◌then◌else◌}
+use Rattle.std.specs.Char.{is_ascii_digit}
 use Rattle.std.proofs.Common.{add-one, arith, inl, inr, sym, ◌∙◌, true≢false, drop_of_length-le, ltb-true, ltb-false, le-ltb, leb-true, le-leb}
 use Rattle.std.proofs.Math.Path.{ap}
 use Rattle.std.proofs.Math.ListN.{get_or, drop}
@@ -25,6 +26,11 @@ use Rattle.phylip.specs.Places.{NumberAt, ValueAt}
 
 -- ---- a byte at a place
 
+-- nothing stands past the end
+pub rest_past : (f : List ℕ) (i j : ℕ) → length f ≤ i → length f ≤ j → rest f i ≡ rest f j
+unfolding rest
+rest_past f i j h k = drop_of_length-le f h ∙ sym (drop_of_length-le f k)
+
 module _ (p : ℕ → Bool) (f : List ℕ) (i : ℕ) where
   pub begins-at : i < length f → begins p (rest f i) ≡ p (get_or f i 0)
   unfolding begins rest
@@ -33,6 +39,9 @@ module _ (p : ℕ → Bool) (f : List ℕ) (i : ℕ) where
   pub begins-past : length f ≤ i → begins p (rest f i) ≡ false
   unfolding begins rest
   begins-past h = rw (drop_of_length-le f h)
+
+  pub begins-here : i < length f → (b : Bool) → p (get_or f i 0) ≡ b → begins p (rest f i) ≡ b
+  begins-here h b e = begins-at h ∙ e
 
   pub begins-within : begins p (rest f i) ≡ true → i < length f
   begins-within e = go (less-or-not i (length f))
@@ -72,6 +81,14 @@ pub capped-large : (n : ℕ) → 65536 ≤ n → capped n ≡ 65536
 unfolding capped
 capped-large n h = rw (le-ltb n 65536 h)
 
+pub capped-least : (n : ℕ) → min 65536 n ≡ capped n
+unfolding capped
+capped-least n = go (ltb n 65536) refl
+  where
+    go : (t : Bool) → ltb n 65536 ≡ t → min 65536 n ≡ (if t then n else 65536)
+    go true e = let k = ltb-true n 65536 e in omega arith
+    go false e = let k = ltb-false n 65536 e in omega arith
+
 pub capped_same : (n : ℕ) → n ≤ 65536 → capped n ≡ n
 unfolding capped
 capped_same n h = go (ltb n 65536) refl
@@ -110,6 +127,10 @@ module _ (f : List ℕ) (i v : ℕ) where
   pub number-done : begins is_digit (rest f i) ≡ false → v ≤ 65536 → number_behind v (rest f i) ≡ v
   unfolding number_behind number_from
   number-done e h = rw (run-over is_digit (rest f i) e) (capped_same v h)
+
+pub ascii-digit : (b : ℕ) → is_ascii_digit b ≡ is_digit b
+unfolding is_digit
+ascii-digit b = refl
 
 pub digit-below : (b : ℕ) → b < 48 → is_digit b ≡ false
 unfolding is_digit

@@ -3,7 +3,7 @@
 --   at_place, no_place, place_at, place_none     a place that is found, and one that is not
 --   less_one                                     one less than the next number
 --   named n s, name-is, named_more, named-stops, named_none     a name, byte by byte
---   plain-below, plain-from                      the byte of a name
+--   plain-within, plain-below, plain-from, plain-above       the byte of a name
 --   name-within, row_within                      a name stands inside the text
 --   value-unspaced, value-undigit, value-large, value_found     a value
 --   ends_more, ends-stops, ends-done, nexts-more, nexts-none    values, one by one, and LF
@@ -11,7 +11,7 @@
 --   row-unnamed, row_ends                        a row
 --   rows_next, rows_more, rows-stop, rows-done   rows, one by one
 --   stands-none, stands-more                     the places of their first values
-use Rattle.std.specs.Prelude.{ℕ, zero, suc, ◌+◌, ◌-◌, ◌≤◌, ◌<◌, ◌⊎◌, ◌≡◌, Bool, ◌&&◌, eqb, length, get_or, set, take, drop}
+use Rattle.std.specs.Prelude.{ℕ, zero, suc, ◌+◌, ◌-◌, ◌≤◌, ◌<◌, ◌⊎◌, ◌≡◌, Bool, ◌&&◌, eqb, length, get_or, set, take, drop, Option, None, Some}
 use Rattle.std.proofs.Common.{add-one, arith, inl, inr, sym, ◌∙◌, length-take, length-drop, drop_of_length-le, drop-cons, drop-drop, get_or-set_same, get_or-set_other}
 use Rattle.std.proofs.Math.Path.{refl, ap}
 use Rattle.std.proofs.Math.Bool.{true, false}
@@ -24,8 +24,6 @@ use Rattle.trees.specs.Nexus.{behind_run, begins}
 use Rattle.trees.specs.Phylip.{is_empty, is_name}
 use Rattle.theorems.specs.ListLaws.{less-or-not, equal_or_not, same_bool, and_left}
 use Rattle.phylip.specs.declared.values.Reached.{Reached}
-use Rattle.phylip.specs.declared.form.Place.{Place}
-use Rattle.phylip.specs.declared.form.Place.TheVariants.{At, Nothing}
 use Rattle.phylip.specs.Walk.{rest, is_byte, number, value, next, is_value, nexts, are_values, ends_row, is_row, next_row, next_rows, are_rows}
 use Rattle.phylip.specs.Places.{NumberAt}
 use Rattle.phylip.specs.PlaceLaws.{begins-first}
@@ -35,20 +33,20 @@ use Rattle.phylip.specs.Rows.{is_plain, PlaceAs, Stands}
 -- ---- places
 
 module _ (f s : List ℕ) (good : Bool) where
-  pub at_place : (e : ℕ) → good ≡ true → rest f e ≡ s → PlaceAs f good s (At e)
+  pub at_place : (e : ℕ) → good ≡ true → rest f e ≡ s → PlaceAs f good s (Some e)
   unfolding PlaceAs
   at_place e g q = (g, q)
 
-  pub no_place : good ≡ false → PlaceAs f good s Nothing
+  pub no_place : good ≡ false → PlaceAs f good s None
   unfolding PlaceAs
   no_place g = g
 
-  module _ (r : Place) (h : PlaceAs f good s r) where
-    pub place_at : (e : ℕ) → r ≡ At e → (good ≡ true) × (rest f e ≡ s)
+  module _ (r : Option ℕ) (h : PlaceAs f good s r) where
+    pub place_at : (e : ℕ) → r ≡ Some e → (good ≡ true) × (rest f e ≡ s)
     unfolding PlaceAs
     place_at e q = rw q at h
 
-    pub place_none : r ≡ Nothing → good ≡ false
+    pub place_none : r ≡ None → good ≡ false
     unfolding PlaceAs
     place_none q = rw q at h
 
@@ -100,6 +98,10 @@ pub named_none : (s : List ℕ) (n : ℕ) → n ≡ 0 → named n s ≡ true
 unfolding named
 named_none s n e = rw e
 
+pub plain-within : (b : ℕ) → 32 ≤ b → b ≤ 126 → is_plain b ≡ true
+unfolding is_plain
+plain-within b h k = rw (le-leb 32 b h, le-leb b 126 k)
+
 pub plain-below : (b : ℕ) → b < 32 → is_plain b ≡ false
 unfolding is_plain
 plain-below b h = rw (lt-leb 32 b h)
@@ -107,6 +109,10 @@ plain-below b h = rw (lt-leb 32 b h)
 pub plain-from : (b : ℕ) → 32 ≤ b → is_plain b ≡ leb b 126
 unfolding is_plain
 plain-from b h = rw (le-leb 32 b h)
+
+pub plain-above : (b : ℕ) → 126 < b → is_plain b ≡ false
+unfolding is_plain
+plain-above b h = rw (le-leb 32 b (omega arith), lt-leb b 126 h)
 
 pub name-within : (f : List ℕ) (i : ℕ) → is_name (take 10 (rest f i)) ≡ true → i + 10 ≤ length f
 unfolding is_name rest
@@ -136,7 +142,7 @@ module _ (f : List ℕ) (i j : ℕ) (r : Reached) (e : rest f j ≡ behind_run (
   value-large l = and_last (begins (is_byte 32) (rest f i)) (begins is_digit (behind_run (is_byte 32) (rest f i))) (ap (λ (s : List ℕ). leb (number s) 65535) (sym e) ∙ ap (λ (n : ℕ). leb n 65535) (sym h.is) ∙ lt-leb r.value 65535 l)
 
   pub value_found : begins (is_byte 32) (rest f i) ≡ true → begins is_digit (rest f j) ≡ true → r.value ≤ 65535
-      → PlaceAs f (is_value (rest f i)) (next (rest f i)) (At r.at)
+      → PlaceAs f (is_value (rest f i)) (next (rest f i)) (Some r.at)
   unfolding is_value value next
   value_found s d l = at_place f (next (rest f i)) (is_value (rest f i)) r.at (rw (s, ← e, d, ← h.is) (le-leb r.value 65535 l)) (h.behind ∙ ap (behind_run is_digit) e)
 
@@ -179,7 +185,7 @@ pub rest_more : (f : List ℕ) (i n : ℕ) → rest f (i + n) ≡ drop n (rest f
 unfolding rest
 rest_more f i n = sym (drop-drop n i f)
 
-pub row_ends : (f : List ℕ) (i t : ℕ) (r : Place) → is_name (take 10 (rest f i)) ≡ true
+pub row_ends : (f : List ℕ) (i t : ℕ) (r : Option ℕ) → is_name (take 10 (rest f i)) ≡ true
     → PlaceAs f (ends_row t (rest f (i + 10))) (drop 1 (nexts t (rest f (i + 10)))) r → PlaceAs f (is_row t (rest f i)) (next_row t (rest f i)) r
 unfolding is_row next_row
 row_ends f i t r e h = rw (e, ← rest_more f i 10) h

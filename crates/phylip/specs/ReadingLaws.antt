@@ -5,7 +5,7 @@
 --   first-within, first_read           so it is where the line is good
 --   values-fit                         how many values there are at most
 --   read-unfirst, read-unrows, read-unsymmetric, read_short, read-given     the answers
-use Rattle.std.specs.Prelude.{ℕ, ◌+◌, ◌*◌, ◌≤◌, ◌<◌, ◌≡◌, refl, Bool, true, false, ◌&&◌, List, ◌++◌, leb, ltb, length, drop, if◌then◌else◌}
+use Rattle.std.specs.Prelude.{ℕ, ◌+◌, ◌*◌, ◌≤◌, ◌<◌, ◌≡◌, refl, Bool, true, false, ◌&&◌, List, ◌++◌, leb, ltb, length, drop, if◌then◌else◌, Ok, Err}
 use Rattle.std.proofs.Common.{mul-le-mul, ◌∙◌}
 use Rattle.std.proofs.Math.Path.{sym, ap}
 use Rattle.std.proofs.Math.Option.{none, some}
@@ -18,7 +18,6 @@ use Rattle.trees.specs.PhylipCall.{read_phylip_of}
 use Rattle.theorems.specs.ListLaws.{and_left, and_right}
 use Rattle.answers.specs.declared.Refusal.{Refusal}
 use Rattle.answers.specs.declared.Refusal.TheVariants as why
-use Rattle.answers.specs.declared.Number.TheVariants as answer
 use Rattle.answers.specs.Answers.{refusal_number, refusing, number_given}
 use Rattle.answers.specs.Filled.{front}
 use Rattle.phylip.specs.declared.values.Reached.{Reached}
@@ -109,22 +108,22 @@ module _ (f : List ℕ) (room : ℕ) where
 
 -- ---- the answers
 
-read-refused : (x : Answer Square) (old : List ℕ) (r : Refusal) → x ≡ refusing r → ReadAs x (answer.Refused r) old old
+read-refused : (x : Answer Square) (old : List ℕ) (r : Refusal) → x ≡ refusing r → ReadAs x (Err r) old old
 unfolding number_given trees_given values_given front
 read-refused x old r e = rw e (refl, refl)
 
 read-gives : (x : Answer Square) (q : Square) (old m : List ℕ) (n : ℕ) → x ≡ gives q → n ≡ q.trees → m ≡ q.values ++ drop (length q.values) old
-    → ReadAs x (answer.Gives n) old m
+    → ReadAs x (Ok n) old m
 unfolding number_given trees_given values_given front
 read-gives x q old m n e a b = rw e (ap gives a, b)
 
 module _ (f out : List ℕ) where
-  pub read-unfirst : is_first f ≡ false → ReadAs (read_phylip_of f (length out)) (answer.Refused why.BadMatrix) out out
+  pub read-unfirst : is_first f ≡ false → ReadAs (read_phylip_of f (length out)) (Err why.BadMatrix) out out
   unfolding is_square refusal_number
   read-unfirst e = read-refused (read_phylip_of f (length out)) out why.BadMatrix (answer-bad f (length out) (rw e))
 
   module _ (t start : ℕ) (h : First f t start) (b : Bool) (old at : List ℕ) (g : RowsAs f start t b old at) where
-    pub read-unrows : b ≡ false → ReadAs (read_phylip_of f (length out)) (answer.Refused why.BadMatrix) out out
+    pub read-unrows : b ≡ false → ReadAs (read_phylip_of f (length out)) (Err why.BadMatrix) out out
     unfolding refusal_number
     read-unrows e = read-refused (read_phylip_of f (length out)) out why.BadMatrix (answer-bad f (length out) (square-is f (length out) t start h ∙ sym g.is ∙ e))
 
@@ -135,18 +134,18 @@ module _ (f out : List ℕ) where
       good : read_phylip_of f (length out) ≡ (if symmetric_at f t at then (if ltb (length out) (length (rows_read t t (rest f start))) then refused 4 else gives (matrix t (rest f start))) else refused 25)
       good = rw symmetric-is (answer-good f (length out) t start h (sym g.is ∙ e))
 
-      pub read-unsymmetric : symmetric_at f t at ≡ false → ReadAs (read_phylip_of f (length out)) (answer.Refused why.NotSymmetric) out out
+      pub read-unsymmetric : symmetric_at f t at ≡ false → ReadAs (read_phylip_of f (length out)) (Err why.NotSymmetric) out out
       unfolding refusal_number
       read-unsymmetric s = read-refused (read_phylip_of f (length out)) out why.NotSymmetric (good ∙ rw s)
 
       module _ (s : symmetric_at f t at ≡ true) where
-        pub read_short : length out < t * t → ReadAs (read_phylip_of f (length out)) (answer.Refused why.TooShort) out out
+        pub read_short : length out < t * t → ReadAs (read_phylip_of f (length out)) (Err why.TooShort) out out
         unfolding refusal_number
         read_short l =
             read-refused (read_phylip_of f (length out)) out why.TooShort
             (good ∙ rw (s, rows-length t t (rest f start), lt-ltb (length out) (t * t) l))
 
-        pub read-given : t * t ≤ length out → (m : List ℕ) → m ≡ rows_filled out 0 t t (rest f start) → ReadAs (read_phylip_of f (length out)) (answer.Gives t) out m
+        pub read-given : t * t ≤ length out → (m : List ℕ) → m ≡ rows_filled out 0 t t (rest f start) → ReadAs (read_phylip_of f (length out)) (Ok t) out m
         read-given l m q =
             read-gives (read_phylip_of f (length out)) (matrix t (rest f start)) out m t
             (good ∙ rw (s, rows-length t t (rest f start), le-ltb (length out) (t * t) l)) refl

@@ -10,7 +10,7 @@
 --   text-put                 the text: the number of trees, and the lines
 --   text-short               it is no longer than the longest
 --   phylip-short, phylip-given     4 where the buffer is too short, else the text at its front
-use Rattle.std.specs.Prelude.{ℕ, zero, suc, ◌+◌, ◌*◌, ◌%◌, ◌≤◌, ◌<◌, ◌≡◌, refl, true, length, get_or, set, take, drop}
+use Rattle.std.specs.Prelude.{ℕ, zero, suc, ◌+◌, ◌*◌, ◌%◌, ◌≤◌, ◌<◌, ◌≡◌, refl, true, length, get_or, set, take, drop, Ok, Err}
 use Rattle.std.proofs.Common.{zero-add, suc-mul, mul-le-mul, add-one, sym, ◌∙◌, length-drop, drop_of_length-le, drop-cons, length-take-le, get_or-take, get_or-drop, ext_get_or}
 use native.Mathlib.Omega.{arith}
 use Rattle.std.proofs.Math.Path.{ap}
@@ -23,7 +23,6 @@ use Rattle.trees.specs.Questions.{if_room}
 use Rattle.trees.specs.Phylip.{row_text, row_texts, square_text}
 use Rattle.trees.specs.PhylipCall.{phylip_text, phylip_of}
 use Rattle.answers.specs.declared.Refusal.TheVariants as why
-use Rattle.answers.specs.declared.Number.TheVariants as number
 use Rattle.answers.specs.Filled.{FilledAs}
 use Rattle.answers.specs.AnswerLaws.{filled-short, filled-given}
 use Rattle.layout.specs.Store.{trees_held_at, tree_at, held_at}
@@ -168,11 +167,11 @@ module _ (s : List ℕ) (w : whole_at s ≡ true) where
     unfolding phylip_of
     asked = when_whole s (λ h. phylip_of h (length out)) w
 
-    pub phylip-short : length out < length (phylip_text ts) → FilledAs (phylip_asked s (length out)) (number.Refused why.TooShort) out out
+    pub phylip-short : length out < length (phylip_text ts) → FilledAs (phylip_asked s (length out)) (Err why.TooShort) out out
     phylip-short h = filled-short (phylip_asked s (length out)) out (phylip_text ts) asked h
 
     pub phylip-given : (m : List ℕ) (n : ℕ) → length (phylip_text ts) ≤ length out → Put out 0 (phylip_text ts) m n
-        → FilledAs (phylip_asked s (length out)) (number.Gives n) out m
+        → FilledAs (phylip_asked s (length out)) (Ok n) out m
     phylip-given m n h p =
         let e : n ≡ length (phylip_text ts) = omega (arith, p.ends) in
         let q : m ≡ phylip_text ts ++ drop (length (phylip_text ts)) out = p.stored ∙ sets-eq (phylip_text ts) out 0 (omega arith) ∙ rw zero-add in

@@ -15,7 +15,7 @@ fn digit(n: u16) -> u8
     requires { n < 10 }
     ensures { result ≡ 48 + n }
 {
-    48 + n as u8
+    b'0' + n as u8
 }
 
 // Puts the digits of n from `at` on, and answers where they end. Most are of one or two digits.

@@ -13,12 +13,8 @@ pub(crate) fn fill_rows(f: &[u8], i: usize, t: usize, out: &mut [u16])
     ensures { out.new ≡ rows_filled out.old 0 t t (rest f.now i) }
 {
     let mut p = i;
-    let mut k = 0;
-    let mut left = t;
-    while 0 < left {
-        p = fill_row(f, p + NAME, t, out, k) + 1;
-        k += t;
-        left -= 1;
+    for row in 0..t {
+        p = fill_row(f, p + NAME, t, out, t * row) + 1;
     }
 }
 
@@ -29,14 +25,10 @@ fn fill_row(f: &[u8], i: usize, n: usize, out: &mut [u16], k: usize) -> usize
     ensures { RowFilled f.now i n k result out.old out.new }
 {
     let mut at = i;
-    let mut j = k;
-    let mut left = n;
-    while 0 < left {
+    for j in k..k + n {
         let v = values::value_at(f, at);
         out[j] = v.value as u16;
         at = v.at;
-        j += 1;
-        left -= 1;
     }
     at
 }

@@ -20,7 +20,7 @@ pub(crate) fn put_line(out: &mut [u8], at: usize, i: usize, row: &[u16]) -> usiz
 {
     put_name(out, at, i);
     let e = put_values(out, at + 10, row);
-    put_byte(out, e, 10);
+    put_byte(out, e, b'\n');
     e + 1
 }
 
@@ -30,7 +30,7 @@ fn put_name(out: &mut [u8], at: usize, i: usize)
     requires at_bound { at ≤ 8000000 }
     ensures { Put out.old at (padded (name_of i)) out.new (at + 10) }
 {
-    put_byte(out, at, 116);
+    put_byte(out, at, b't');
     let e = put_number(out, at + 1, i as u16);
     put_spaces(out, e, at + 10);
 }
@@ -44,11 +44,9 @@ fn put_values(out: &mut [u8], at: usize, row: &[u16]) -> usize
     ensures upper_bound { result ≤ at + 4096 }
 {
     let mut e = at;
-    let mut j = 0;
-    while j < row.len() {
-        put_byte(out, e, 32);
+    for j in 0..row.len() {
+        put_byte(out, e, b' ');
         e = put_number(out, e + 1, row[j]);
-        j += 1;
     }
     e
 }

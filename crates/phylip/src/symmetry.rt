@@ -10,12 +10,10 @@ pub(crate) fn is_symmetric(f: &[u8], t: usize, at: &mut [usize]) -> bool
     requires { t ≤ length at.old }
     ensures { result ≡ symmetric_at f.now t at.old }
 {
-    let mut i = 0;
-    while i < t {
+    for i in 0..t {
         if !agrees(f, t, i, at) {
             return false;
         }
-        i += 1;
     }
     true
 }
@@ -31,8 +29,7 @@ fn agrees(f: &[u8], t: usize, i: usize, at: &mut [usize]) -> bool
         return false;
     }
     let mut p = first.at;
-    let mut j = i + 1;
-    while j < t {
+    for j in i + 1..t {
         let a = values::value_at(f, p);
         let b = values::value_at(f, at[j]);
         if a.value != b.value {
@@ -40,7 +37,6 @@ fn agrees(f: &[u8], t: usize, i: usize, at: &mut [usize]) -> bool
         }
         p = a.at;
         at[j] = b.at;
-        j += 1;
     }
     true
 }

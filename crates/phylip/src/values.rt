@@ -19,47 +19,40 @@ const TOO_LARGE: usize = 65536;
 pub(crate) fn has_byte(f: &[u8], at: usize, x: u8) -> bool
     ensures { result ≡ begins (is_byte x) (rest f.now at) }
 {
-    if at < f.len() {
-        return f[at] == x;
-    }
-    false
+    at < f.len() && f[at] == x
 }
 
 // Whether a digit stands at a place.
 pub(crate) fn has_digit(f: &[u8], at: usize) -> bool
     ensures { result ≡ begins is_digit (rest f.now at) }
 {
-    if at < f.len() {
-        if f[at] < 48 {
-            return false;
-        }
-        return f[at] <= 57;
-    }
-    false
+    at < f.len() && f[at].is_ascii_digit()
 }
 
 // The place behind the spaces at a place.
 pub(crate) fn spaces_end(f: &[u8], i: usize) -> usize
     ensures { rest f.now result ≡ behind_run (is_byte 32) (rest f.now i) }
 {
-    let mut at = i;
-    while has_byte(f, at, 32) {
-        at += 1;
+    for at in i..f.len() {
+        if f[at] != b' ' {
+            return at;
+        }
     }
-    at
+    f.len()
 }
 
 // The number in the digits at a place.
 pub(crate) fn number_at(f: &[u8], i: usize) -> Reached
     ensures { NumberAt f.now i result }
 {
-    let mut v = 0;
-    let mut at = i;
-    while has_digit(f, at) {
-        v = with_digit(v, f[at]);
-        at += 1;
+    let mut value = 0;
+    for at in i..f.len() {
+        if !f[at].is_ascii_digit() {
+            return Reached { value, at };
+        }
+        value = with_digit(value, f[at]);
     }
-    Reached { value: v, at }
+    Reached { value, at: f.len() }
 }
 
 // The value at a place, behind spaces.
@@ -74,9 +67,5 @@ fn with_digit(v: usize, b: u8) -> usize
     requires { (v ≤ 65536) × (48 ≤ b) }
     ensures { result ≡ capped (10 * v + (b - 48)) }
 {
-    let n = 10 * v + (b - 48) as usize;
-    if n < TOO_LARGE {
-        return n;
-    }
-    TOO_LARGE
+    TOO_LARGE.min(10 * v + usize::from(b - b'0'))
 }

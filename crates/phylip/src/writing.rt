@@ -13,21 +13,21 @@ ghost use Rattle.putting.specs.Put.{Put};
 ghost use Rattle.phylip.specs.Writing.{phylip_asked, distance_rows, most_bytes};
 
 use crate::{digits, eight, line};
-use answers::{Number, Refusal};
+use answers::Refusal;
 use distances::{EIGHT_ROWS, MOST_TREES, PLACES};
 
 // Writes the doubled distances of all pairs of trees in PHYLIP's square layout to the front of out.
-pub fn write_matrix(s: &[u8], out: &mut [u8]) -> Number
+pub fn write_matrix(s: &[u8], out: &mut [u8]) -> Result<usize, Refusal>
     ensures { FilledAs (phylip_asked s.now (length out.old)) result out.old out.new }
 {
     if !store::is_whole(s) {
-        return Number::Refused(Refusal::NotWhole);
+        return Err(Refusal::NotWhole);
     }
     if !has_room(s, out.len()) {
-        return Number::Refused(Refusal::TooShort);
+        return Err(Refusal::TooShort);
     }
     let n = put_matrix(s, out);
-    Number::Gives(n)
+    Ok(n)
 }
 
 // Whether the text has at most `room` bytes. Its length is asked only where the longest text of so many trees has more.
@@ -68,7 +68,7 @@ fn put_matrix(s: &[u8], out: &mut [u8]) -> usize
     let mut sizes = [0; MOST_TREES];
     distances::shorten(s, trees, &mut short, &mut sizes);
     let e = digits::put_number(out, 0, trees as u16);
-    putting::put_byte(out, e, 10);
+    putting::put_byte(out, e, b'\n');
     put_lines(s, &short, &sizes, out, e + 1)
 }
 
@@ -88,11 +88,9 @@ fn put_lines(
     let trees = layout::trees_held(s);
     let mut rows = [0u16; EIGHT_ROWS];
     let mut e = at;
-    let mut i = 0;
-    while i < trees {
+    for i in 0..trees {
         eight::renew(s, i, short, sizes, &mut rows);
         e = line::put_line(out, e, i, eight::row_of(&rows, i, trees));
-        i += 1;
     }
     e
 }

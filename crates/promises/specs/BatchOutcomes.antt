@@ -2,21 +2,22 @@
 --
 --   batched_free b l     what a batch that is b, on lane l, leaves free in the lent bytes
 --   batch-once          the answer, the verdicts, every other element of their buffer, and the lent bytes but for what is free
-use Rattle.std.specs.Prelude.{◌≡◌, refl, Bool, true, false, List, ℕ, length, if◌then◌else◌}
+use Rattle.std.specs.Prelude.{◌≡◌, refl, Bool, true, false, List, ℕ, length, if◌then◌else◌, Result}
 use Rattle.trees.specs.Plain.{Answer, refused, gives}
 use Rattle.trees.specs.Batch.{none_accepted, Batched}
-use Rattle.answers.specs.declared.Number.{Number}
 use Rattle.feeding.specs.Feeding.{batch_of, BatchedAs}
 use Rattle.feeding.proofs.batch.Reads as batch
 use Rattle.promises.specs.Once.{Once, arg1, arg2, arg3, arg4, Free, nothing, lane, store, SameBut}
 use Rattle.promises.specs.Outcomes.{both, number-both, holds-both, outside-both}
+use Rattle.answers.specs.declared.Refusal.{Refusal}
 
 -- a refused batch leaves every byte as found; one that accepts no tree, every byte outside the lane
+
 unfoldable pub batched_free : Answer Batched → ℕ → Free
 batched_free (refused n) l = nothing
 batched_free (gives b) l = if none_accepted b.verdicts then lane l else store
 
-batched-both : (b : Answer Batched) (l : ℕ) (q r : Number) (s v t w u x : List ℕ) → BatchedAs b l q s v t w → BatchedAs b l r s v u x
+batched-both : (b : Answer Batched) (l : ℕ) (q r : Result ℕ Refusal) (s v t w u x : List ℕ) → BatchedAs b l q s v t w → BatchedAs b l r s v u x
     → (q ≡ r) × SameBut (batched_free b l) t u × (w ≡ x)
 unfolding BatchedAs batched_free SameBut
 batched-both (refused n) l q r s v t w u x c d = (number-both q r c.0 d.0, both c.1 d.1, both c.2 d.2)

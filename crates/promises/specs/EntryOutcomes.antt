@@ -12,7 +12,7 @@
 --   closed_free, close-once                                        closing
 --   withdrawn_free, withdraw-once                                  withdrawing
 --   asked-same, fed-same, closed_same, withdrawn-same             no call tells two lent bytes apart that are the same as stores
-use Rattle.std.specs.Prelude.{ℕ, ◌<◌, ◌≡◌, refl, Bool, true, false, List, length, if◌then◌else◌}
+use Rattle.std.specs.Prelude.{ℕ, ◌<◌, ◌≡◌, refl, Bool, true, false, List, length, if◌then◌else◌, Result}
 use Rattle.std.proofs.Common.{sym, ap, subst, ◌∙◌}
 use Rattle.std.proofs.Math.Path.{ap₂}
 use Rattle.trees.specs.Plain.{Answer, refused, gives}
@@ -21,7 +21,6 @@ use Rattle.trees.specs.Held.{Held, Closed, opened, feeding, closing}
 use Rattle.trees.specs.Held as held
 use Rattle.trees.specs.Withdrawing.{Withdrawn, withdrawing}
 use Rattle.theorems.specs.WithdrawLaws.{withdrawing-opening}
-use Rattle.answers.specs.declared.Finish.{Finish}
 use Rattle.answers.specs.declared.Fed.{Fed}
 use Rattle.head.specs.Head.{numbers_at}
 use Rattle.opening.specs.Given.{numbers_of}
@@ -58,6 +57,7 @@ use Rattle.feeding.proofs.close.Reads as close
 use Rattle.withdrawing.proofs.withdraw.Reads as withdraw
 use Rattle.promises.specs.Once.{Once, AnswerOnce, arg1, arg2, arg3, arg4, arg5, arg6, arg7, arg8, arg9, arg10, SameStore, Free, nothing, lane, table, store, SameBut}
 use Rattle.promises.specs.Outcomes.{both, split_one, weight-one, split-lengths-one, progress-one, finish-both, number-both, lengths-both, filled-both, holds-both, outside-both}
+use Rattle.answers.specs.declared.Refusal.{Refusal}
 
 -- ---- tests
 
@@ -132,7 +132,7 @@ unfoldable pub opened_free : Answer Opening → Free
 opened_free (refused n) = nothing
 opened_free (gives o) = store
 
-pub opened_both : (o : Answer Opening) (q r : Finish) (s t u : List ℕ) → OpenedAs o q s t → OpenedAs o r s u → (q ≡ r) × SameBut (opened_free o) t u
+pub opened_both : (o : Answer Opening) (q r : Result (Unit {0}) Refusal) (s t u : List ℕ) → OpenedAs o q s t → OpenedAs o r s u → (q ≡ r) × SameBut (opened_free o) t u
 unfolding OpenedAs opened_free SameBut
 opened_both (refused n) q r s t u a b = (finish-both q r a.0 b.0, both a.1 b.1)
 opened_both (gives o) q r s t u a b = (finish-both q r a.0 b.0, holds-both (opened o) s t u a.1 b.1)
@@ -166,7 +166,7 @@ feed-once k x q r y z a b = fed-both _ _ _ q r _ _ a b
 unfoldable pub closed_free : List ℕ → ℕ → Free
 closed_free s l = if reached s l then lane l else nothing
 
-closed-both : (s : List ℕ) (l : ℕ) (q r : Finish) (t u : List ℕ) → ClosedAs s l q t → ClosedAs s l r u → (q ≡ r) × SameBut (closed_free s l) t u
+closed-both : (s : List ℕ) (l : ℕ) (q r : Result (Unit {0}) Refusal) (t u : List ℕ) → ClosedAs s l q t → ClosedAs s l r u → (q ≡ r) × SameBut (closed_free s l) t u
 unfolding closed_free SameBut
 closed-both s l q r t u a b = (finish-both q r a.answer b.answer, go (reached s l) refl)
   where
@@ -192,7 +192,7 @@ withdrawn-numbers s k t h = sym (held-numbers t) ∙ ap (λ (x : Held). x.openin
     go true = ap (λ (o : Opening). o.numbers) (withdrawing-opening (held_at s) k)
     go false = refl
 
-withdrawn-both : (s : List ℕ) (k : ℕ) (q r : Finish) (t u : List ℕ) → WithdrawnAs s k q t → WithdrawnAs s k r u → (q ≡ r) × SameBut (withdrawn_free s k) t u
+withdrawn-both : (s : List ℕ) (k : ℕ) (q r : Result (Unit {0}) Refusal) (t u : List ℕ) → WithdrawnAs s k q t → WithdrawnAs s k r u → (q ≡ r) × SameBut (withdrawn_free s k) t u
 unfolding withdrawn_free SameBut
 withdrawn-both s k q r t u a b = (finish-both q r a.answer b.answer, go (there s k) refl)
   where

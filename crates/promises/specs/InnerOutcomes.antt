@@ -9,7 +9,7 @@
 --   read-shape-once                           the shape of a text: whether it is a tree, how many leaves and inner nodes it has, their spans and labels
 --   judge-lengths-once, judge-text-once       the verdict where lengths are kept, and where they may be; both lists
 --   write-tree-once                           a tree written
-use Rattle.std.specs.Prelude.{ℕ, ◌+◌, ◌*◌, ◌/◌, ◌%◌, ◌≤◌, ◌<◌, min, ◌≡◌, refl, List, [], ◌∷◌, ◌++◌, get_or, take, drop}
+use Rattle.std.specs.Prelude.{ℕ, ◌+◌, ◌*◌, ◌/◌, ◌%◌, ◌≤◌, ◌<◌, min, ◌≡◌, refl, List, [], ◌∷◌, ◌++◌, get_or, take, drop, Result, Ok, Err, Option, None, Some}
 use Rattle.std.proofs.Common.{arith, subst, ◌∙◌, ⊎_elim, length-take-le, get_or-take}
 use Rattle.std.proofs.Math.Path.{sym, ap}
 use Rattle.std.proofs.Math.ListN.{length, get_or-append}
@@ -28,8 +28,6 @@ use Rattle.records.specs.Records.{with_records, put_in}
 use Rattle.records.specs.RecordLaws.{put-length}
 use Rattle.records.specs.Slot.{SlotFound}
 use Rattle.records.specs.SlotLaws.{insert-taken, mem-at}
-use Rattle.records.specs.declared.Slot.{Slot}
-use Rattle.records.specs.declared.Slot.TheVariants.{Free, Taken}
 use Rattle.head.specs.Index.{keys}
 use Rattle.head.specs.Head.{names_at}
 use Rattle.layout.specs.Store.{trees_held_at}
@@ -42,12 +40,8 @@ use Rattle.newick.specs.Leaves.{most_leaves}
 use Rattle.newick.specs.Sound.{span_room}
 use Rattle.newick.specs.ShapingLaws.{shape-itself}
 use Rattle.newick.specs.declared.shape.Mark.{Mark}
-use Rattle.newick.specs.declared.Judged.{Judged}
-use Rattle.newick.specs.declared.Judged.TheVariants.{Refused, Splits}
 use Rattle.feeding.specs.Judging.{JudgedIn}
 use Rattle.writer.specs.Text.{Wrote}
-use Rattle.writer.specs.declared.Text.{Text}
-use Rattle.writer.specs.declared.Text.TheVariants.{Bytes, TooShort}
 use Rattle.records.proofs.find_slot.Reads as find-slot
 use Rattle.head.proofs.build_index.Reads as build-index
 use Rattle.distances.proofs.shorten.Reads as shorten
@@ -61,6 +55,7 @@ use Rattle.writer.proofs.write_tree.Reads as write-tree
 use Rattle.promises.specs.Once.{Once, OnceIf, arg1, arg2, arg3, arg4, arg5, arg6, arg9}
 use Rattle.promises.specs.Calls.{refusal_in}
 use Rattle.promises.specs.Outcomes.{refusal-one, value_or, both}
+use Rattle.answers.specs.declared.Refusal.{Refusal}
 
 -- ---- a rising list
 
@@ -75,12 +70,12 @@ put-before i j v l d h g =
     get_or-append (take j l) (v ++ drop j l) d i (omega (arith, length-take-le j l g)) ∙ get_or-take j l i d h
 
 -- what goes to a free place is not in the list yet
-free_new : (l : List ℕ) (m j : ℕ) → Rising l → SlotFound l m (Free j) → Mem m l → ⊥
+free_new : (l : List ℕ) (m j : ℕ) → Rising l → SlotFound l m (Some j) → Mem m l → ⊥
 unfolding SlotFound
 free_new l m j r a h = omega (arith, put-length j (m ∷ []) l, ap length (sym a.1 ∙ insert-taken l m r h))
 
 -- of two free places, the one behind is not behind the mask itself
-free-before : (l : List ℕ) (m j k : ℕ) → Rising l → SlotFound l m (Free j) → SlotFound l m (Free k) → j < k → ⊥
+free-before : (l : List ℕ) (m j k : ℕ) → Rising l → SlotFound l m (Some j) → SlotFound l m (Some k) → j < k → ⊥
 unfolding SlotFound
 free-before l m j k r a b h =
     let e = put-before j k (m ∷ []) l 0 h b.0 in
@@ -88,17 +83,17 @@ free-before l m j k r a b h =
     let c : get_or l j 0 ≡ m = sym e ∙ ap (λ (w : List ℕ). get_or w j 0) (sym b.1 ∙ a.1) ∙ d in
     free_new l m j r a (subst (λ (n : ℕ). Mem n l) c (mem-at l j (omega (arith, b.0))))
 
-slot-both : (l : List ℕ) (m : ℕ) (q r : Slot) → Rising l → SlotFound l m q → SlotFound l m r → q ≡ r
+slot-both : (l : List ℕ) (m : ℕ) (q r : Option ℕ) → Rising l → SlotFound l m q → SlotFound l m r → q ≡ r
 unfolding SlotFound
-slot-both l m (Free j) (Free k) h a b =
-    ap Free
+slot-both l m (Some j) (Some k) h a b =
+    ap Some
     (⊎_elim
     (λ n. absurd (free-before l m j k h a b n))
     (λ n. ⊎_elim (λ o. absurd (free-before l m k j h b a o)) (λ o. omega arith) (less-or-not k j))
     (less-or-not j k))
-slot-both l m (Free j) Taken h a b = absurd (free_new l m j h a b)
-slot-both l m Taken (Free k) h a b = absurd (free_new l m k h b a)
-slot-both l m Taken Taken h a b = refl
+slot-both l m (Some j) None h a b = absurd (free_new l m j h a b)
+slot-both l m None (Some k) h a b = absurd (free_new l m k h b a)
+slot-both l m None None h a b = refl
 
 pub find-slot-once : OnceIf find-slot.Pre find-slot.Post (λ x q r y z. q ≡ r)
 find-slot-once k x q r y z p a b = slot-both _ _ q r p.1 a b
@@ -124,14 +119,14 @@ write-eight-once k x q r y z u v a j e h l = both (u.rows a j e h l) (v.rows a j
 
 -- ---- a text read
 
-judged-both : (o : Opening) (s : List ℕ) (q r : Judged) (u v w : List ℕ) → JudgedAs o s q u v → JudgedAs o s r u w → (q ≡ r) × (v ≡ w)
+judged-both : (o : Opening) (s : List ℕ) (q r : Result ℕ Refusal) (u v w : List ℕ) → JudgedAs o s q u v → JudgedAs o s r u w → (q ≡ r) × (v ≡ w)
 unfolding JudgedAs refusal_in value_or
-judged-both o s (Refused j) (Refused k) u v w x y = (ap Refused (refusal-one j k (ap refusal_in (sym x.0 ∙ y.0))), both x.1 y.1)
-judged-both o s (Refused j) (Splits k) u v w x y = absurd (gives≢refused y.0 (refusal_number j) (sym y.1 ∙ x.0))
-judged-both o s (Splits j) (Refused k) u v w x y = absurd (gives≢refused x.0 (refusal_number k) (sym x.1 ∙ y.0))
-judged-both o s (Splits j) (Splits k) u v w x y =
+judged-both o s (Err j) (Err k) u v w x y = (ap Err (refusal-one j k (ap refusal_in (sym x.0 ∙ y.0))), both x.1 y.1)
+judged-both o s (Err j) (Ok k) u v w x y = absurd (gives≢refused y.0 (refusal_number j) (sym y.1 ∙ x.0))
+judged-both o s (Ok j) (Err k) u v w x y = absurd (gives≢refused x.0 (refusal_number k) (sym x.1 ∙ y.0))
+judged-both o s (Ok j) (Ok k) u v w x y =
     let q : x.0 ≡ y.0 = ap (value_or []) (sym x.1 ∙ y.1) in
-    (ap Splits (x.2 ∙ ap length q ∙ sym y.2), x.3 ∙ ap (λ (l : List ℕ). with_records o l u) q ∙ sym y.3)
+    (ap Ok (x.2 ∙ ap length q ∙ sym y.2), x.3 ∙ ap (λ (l : List ℕ). with_records o l u) q ∙ sym y.3)
 
 pub judge-once : Once judge.Post (λ x q r y z. (q ≡ r) × ((arg5 y).now ≡ (arg5 z).now))
 judge-once k x q r y z a b = judged-both _ _ q r _ _ _ a b
@@ -178,32 +173,32 @@ read-shape-once k x q r y z a b = (fault-both _ q r _ _ _ _ _ _ a b, λ h g. (sh
 
 -- a text with its lengths, of which the verdict is j
 module _ (o : Opening) (j : Answer Branches) (u v : List ℕ) where
-  abbrev Given : Judged → List ℕ → List ℕ → Type 0
-  Given (Refused r) t w = (j ≡ refused (refusal_number r)) × (t ≡ u) × (w ≡ v)
-  Given (Splits k) t w = (b : Branches) × (j ≡ gives b) × (k ≡ length b.splits) × (t ≡ with_records o b.splits u) × (w ≡ with_words b.lengths v)
+  abbrev Given : Result ℕ Refusal → List ℕ → List ℕ → Type 0
+  Given (Err r) t w = (j ≡ refused (refusal_number r)) × (t ≡ u) × (w ≡ v)
+  Given (Ok k) t w = (b : Branches) × (j ≡ gives b) × (k ≡ length b.splits) × (t ≡ with_records o b.splits u) × (w ≡ with_words b.lengths v)
 
-  given_both : (q r : Judged) (t w x z : List ℕ) → Given q t w → Given r x z → (q ≡ r) × (t ≡ x) × (w ≡ z)
+  given_both : (q r : Result ℕ Refusal) (t w x z : List ℕ) → Given q t w → Given r x z → (q ≡ r) × (t ≡ x) × (w ≡ z)
   unfolding refusal_in value_or
-  given_both (Refused m) (Refused n) t w x z a b = (ap Refused (refusal-one m n (ap refusal_in (sym a.0 ∙ b.0))), both a.1 b.1, both a.2 b.2)
-  given_both (Refused m) (Splits n) t w x z a b = absurd (gives≢refused b.0 (refusal_number m) (sym b.1 ∙ a.0))
-  given_both (Splits m) (Refused n) t w x z a b = absurd (gives≢refused a.0 (refusal_number n) (sym a.1 ∙ b.0))
-  given_both (Splits m) (Splits n) t w x z a b =
+  given_both (Err m) (Err n) t w x z a b = (ap Err (refusal-one m n (ap refusal_in (sym a.0 ∙ b.0))), both a.1 b.1, both a.2 b.2)
+  given_both (Err m) (Ok n) t w x z a b = absurd (gives≢refused b.0 (refusal_number m) (sym b.1 ∙ a.0))
+  given_both (Ok m) (Err n) t w x z a b = absurd (gives≢refused a.0 (refusal_number n) (sym a.1 ∙ b.0))
+  given_both (Ok m) (Ok n) t w x z a b =
       let e : a.0 ≡ b.0 = ap (value_or a.0) (sym a.1 ∙ b.1) in (
-        ap Splits (a.2 ∙ ap (λ (c : Branches). length c.splits) e ∙ sym b.2),
+        ap Ok (a.2 ∙ ap (λ (c : Branches). length c.splits) e ∙ sym b.2),
         a.3 ∙ ap (λ (c : Branches). with_records o c.splits u) e ∙ sym b.3,
         a.4 ∙ ap (λ (c : Branches). with_words c.lengths v) e ∙ sym b.4,
       )
 
 module _ (o : Opening) (s u v t w : List ℕ) where
-  with-given : (q : Judged) → JudgedWith o s q u v t w → Given o (judged_with 1 o.names s) u v q t w
+  with-given : (q : Result ℕ Refusal) → JudgedWith o s q u v t w → Given o (judged_with 1 o.names s) u v q t w
   unfolding JudgedWith
-  with-given (Refused r) a = a
-  with-given (Splits k) a = a
+  with-given (Err r) a = a
+  with-given (Ok k) a = a
 
-  in-given : (q : Judged) → JudgedIn o s q u v t w → Given o (judged_with o.numbers.kept o.names s) u v q t w
+  in-given : (q : Result ℕ Refusal) → JudgedIn o s q u v t w → Given o (judged_with o.numbers.kept o.names s) u v q t w
   unfolding JudgedIn
-  in-given (Refused r) a = a
-  in-given (Splits k) a = a
+  in-given (Err r) a = a
+  in-given (Ok k) a = a
 
 pub judge-lengths-once : Once judge-lengths.Post (λ x q r y z. (q ≡ r) × ((arg5 y).now ≡ (arg5 z).now) × ((arg6 y).now ≡ (arg6 z).now))
 judge-lengths-once k x q r y z a b = given_both _ _ _ _ q r _ _ _ _ (with-given _ _ _ _ _ _ q a) (with-given _ _ _ _ _ _ r b)
@@ -213,14 +208,14 @@ judge-text-once k x q r y z a b = given_both _ _ _ _ q r _ _ _ _ (in-given _ _ _
 
 -- ---- a tree written
 
-wrote-both : (t before : List ℕ) (q r : Text) (a b : List ℕ) → Wrote t before q a → Wrote t before r b → (q ≡ r) × (a ≡ b)
+wrote-both : (t before : List ℕ) (q r : Option ℕ) (a b : List ℕ) → Wrote t before q a → Wrote t before r b → (q ≡ r) × (a ≡ b)
 unfolding Wrote
-wrote-both t before (Bytes n) (Bytes m) a b x y =
+wrote-both t before (Some n) (Some m) a b x y =
     let e : n ≡ m = both x.0 y.0 in
-    (ap Bytes e, x.2 ∙ ap (λ (k : ℕ). t ++ drop k before) e ∙ sym y.2)
-wrote-both t before (Bytes n) TooShort a b x y = absurd (omega (arith, x.0, x.1, y.0))
-wrote-both t before TooShort (Bytes m) a b x y = absurd (omega (arith, y.0, y.1, x.0))
-wrote-both t before TooShort TooShort a b x y = (refl, both x.1 y.1)
+    (ap Some e, x.2 ∙ ap (λ (k : ℕ). t ++ drop k before) e ∙ sym y.2)
+wrote-both t before (Some n) None a b x y = absurd (omega (arith, x.0, x.1, y.0))
+wrote-both t before None (Some m) a b x y = absurd (omega (arith, y.0, y.1, x.0))
+wrote-both t before None None a b x y = (refl, both x.1 y.1)
 
 pub write-tree-once : Once write-tree.Post (λ x q r y z. (q ≡ r) × ((arg4 y).now ≡ (arg4 z).now))
 write-tree-once k x q r y z a b = wrote-both _ _ q r _ _ a b

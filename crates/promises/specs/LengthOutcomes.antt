@@ -4,7 +4,7 @@
 --   lengths     length-at-once
 --   weighing    weighing-weighted-once, first-sum-once, add-sum-once
 --   rows        length-in-once
-use Rattle.std.specs.Prelude.{ℕ, ◌≡◌, refl, List, Float}
+use Rattle.std.specs.Prelude.{ℕ, ◌≡◌, refl, List, Float, None, Some, Option as CodeOption}
 use Rattle.std.proofs.Common.{sym, ap, ap₂, ◌∙◌, subst}
 use Rattle.std.proofs.Math.Option.{Option, none, some}
 use Rattle.std.proofs.Math.Seq.{slice}
@@ -16,13 +16,9 @@ use Rattle.weighing.proofs.weighted.Reads as weighted
 use Rattle.weighing.proofs.first_sum.Reads as first-sum
 use Rattle.weighing.proofs.add_sum.Reads as add-sum
 use Rattle.rows.proofs.length_in.Reads as length-in
-use Rattle.doubles.specs.declared.Length.{Length}
-use Rattle.doubles.specs.declared.Length.TheVariants.{Absent, Given}
 use Rattle.doubles.specs.Stored.{branch_given}
 use Rattle.trees.specs.Value.{length_of}
 use Rattle.text.specs.OnceLaws.{run-once}
-use Rattle.lengths.specs.declared.Value.{Value}
-use Rattle.lengths.specs.declared.Value.TheVariants.{Outside, Inside}
 use Rattle.lengths.specs.declared.Taken.{Taken}
 use Rattle.lengths.specs.Answer.{value_given}
 use Rattle.lengths.specs.Read.{LengthTaken}
@@ -37,23 +33,23 @@ given_or x none = x
 given_or x (some y) = y
 
 -- whether there is one, as a type
-abbrev Some : Option Float → Type 0
-Some none = ⊥
-Some (some x) = Unit {0}
+abbrev Is_some : Option Float → Type 0
+Is_some none = ⊥
+Is_some (some x) = Unit {0}
 
-branch_one : (a b : Length) → branch_given a ≡ branch_given b → a ≡ b
+branch_one : (a b : CodeOption Float) → branch_given a ≡ branch_given b → a ≡ b
 unfolding branch_given
-branch_one Absent Absent e = refl
-branch_one Absent (Given y) e = absurd (subst Some (sym e) tt)
-branch_one (Given x) Absent e = absurd (subst Some e tt)
-branch_one (Given x) (Given y) e = ap (λ (o : Option Float). Given (given_or x o)) e
+branch_one None None e = refl
+branch_one None (Some y) e = absurd (subst Is_some (sym e) tt)
+branch_one (Some x) None e = absurd (subst Is_some e tt)
+branch_one (Some x) (Some y) e = ap (λ (o : Option Float). Some (given_or x o)) e
 
-value-one : (a b : Value) → value_given a ≡ value_given b → a ≡ b
+value-one : (a b : CodeOption Float) → value_given a ≡ value_given b → a ≡ b
 unfolding value_given
-value-one Outside Outside e = refl
-value-one Outside (Inside y) e = absurd (subst Some (sym e) tt)
-value-one (Inside x) Outside e = absurd (subst Some e tt)
-value-one (Inside x) (Inside y) e = ap (λ (o : Option Float). Inside (given_or x o)) e
+value-one None None e = refl
+value-one None (Some y) e = absurd (subst Is_some (sym e) tt)
+value-one (Some x) None e = absurd (subst Is_some e tt)
+value-one (Some x) (Some y) e = ap (λ (o : Option Float). Some (given_or x o)) e
 
 -- ---- doubles
 
@@ -72,7 +68,7 @@ holds-length-once k x q r y z a b = both a b
 taken-one : (s : List ℕ) (b : ℕ) (q r : Taken) → LengthTaken s b q → LengthTaken s b r → q ≡ r
 taken-one s b q r x y =
     let e : q.at ≡ r.at = run-once s b q.at r.at x.run y.run in
-    ap₂ (λ (v : Value) (n : ℕ). record { value = v; at = n }) (value-one q.value r.value (x.value ∙ ap (λ (n : ℕ). length_of (slice b n s)) e ∙ sym y.value)) e
+    ap₂ (λ (v : CodeOption Float) (n : ℕ). record { value = v; at = n }) (value-one q.value r.value (x.value ∙ ap (λ (n : ℕ). length_of (slice b n s)) e ∙ sym y.value)) e
 
 pub length-at-once : AnswerOnce length_at.Post
 length-at-once k x q r y z a b = taken-one _ _ q r a b

@@ -8,15 +8,11 @@
 --   weighted-both-ways  it is the same both ways round, and so is a refusal
 --   weighted-zero       it is plus zero for trees with the same splits and the same lengths, a tree and itself among them
 --   split-lengths-number     the three lengths of a split, where they are given, are no NaN; the sum may be an infinity, as a distance may
-use Rattle.std.specs.Prelude.{◌≡◌, true}
+use Rattle.std.specs.Prelude.{◌≡◌, true, Float, Result, Ok, Err}
 use Rattle.std.proofs.Common.{sym, ◌∙◌}
 use Rattle.trees.specs.Sums.{plus_zero}
 use Rattle.trees.specs.Questions.{tree_lengths, tree}
 use Rattle.theorems.specs.Size.{plus}
-use Rattle.answers.specs.declared.Weight.{Weight}
-use Rattle.answers.specs.declared.Weight.TheVariants as weight
-use Rattle.answers.specs.declared.SplitLengths.{SplitLengths}
-use Rattle.answers.specs.declared.SplitLengths.TheVariants as split_lengths
 use Rattle.answers.specs.Answers.{weight_given, sums_given, split_lengths_given}
 use Rattle.layout.specs.Store.{held_at}
 use Rattle.comparing.specs.NumberLaws.{weighted-number as asked-number, weighted-both-ways as asked-both-ways, weighted-zero as asked-zero}
@@ -25,19 +21,21 @@ use Rattle.table.specs.NumberLaws.{AreNumbers, lengths-numbers}
 use Rattle.table.proofs.split_lengths.Reads as split-lengths
 use Rattle.promises.specs.Once.{AnswerIs, BothWays, arg1, arg2, arg3}
 use Rattle.promises.specs.Outcomes.{weight-one}
+use Rattle.answers.specs.declared.Refusal.{Refusal}
+use Rattle.answers.specs.declared.Lengths.{Lengths}
 
-abbrev pub IsNumber : Weight → Type 0
-IsNumber (weight.Refused r) = Unit {0}
-IsNumber (weight.Gives x) = plus x ≡ true
+abbrev pub IsNumber : Result Float Refusal → Type 0
+IsNumber (Err r) = Unit {0}
+IsNumber (Ok x) = plus x ≡ true
 
-abbrev pub IsZero : Weight → Type 0
-IsZero (weight.Refused r) = Unit {0}
-IsZero (weight.Gives x) = x ≡ plus_zero
+abbrev pub IsZero : Result Float Refusal → Type 0
+IsZero (Err r) = Unit {0}
+IsZero (Ok x) = x ≡ plus_zero
 
 pub weighted-number : AnswerIs weighted.Post (λ x r. IsNumber r)
 unfolding weight_given
-weighted-number k x (weight.Refused r) y a = tt
-weighted-number k x (weight.Gives d) y a = asked-number _ _ _ d (sym a)
+weighted-number k x (Err r) y a = tt
+weighted-number k x (Ok d) y a = asked-number _ _ _ d (sym a)
 
 pub weighted-both-ways : BothWays weighted.Post
 weighted-both-ways k s i j q r y z a b = weight-one q r (a ∙ asked-both-ways s.now i.0 j.0 ∙ sym b)
@@ -46,14 +44,14 @@ pub weighted-zero : AnswerIs weighted.Post
     (λ x r. let h = held_at (arg1 x).now in
     tree h (arg2 x).0 ≡ tree h (arg3 x).0 → tree_lengths h (arg2 x).0 ≡ tree_lengths h (arg3 x).0 → IsZero r)
 unfolding weight_given
-weighted-zero k x (weight.Refused r) y a = λ t l. tt
-weighted-zero k x (weight.Gives d) y a = λ t l. asked-zero _ _ _ t l d (sym a)
+weighted-zero k x (Err r) y a = λ t l. tt
+weighted-zero k x (Ok d) y a = λ t l. asked-zero _ _ _ t l d (sym a)
 
-abbrev pub IsNumbers : SplitLengths → Type 0
-IsNumbers (split_lengths.Refused r) = Unit {0}
-IsNumbers (split_lengths.Gives l) = AreNumbers (sums_given l)
+abbrev pub IsNumbers : Result Lengths Refusal → Type 0
+IsNumbers (Err r) = Unit {0}
+IsNumbers (Ok l) = AreNumbers (sums_given l)
 
 pub split-lengths-number : AnswerIs split-lengths.Post (λ x r. IsNumbers r)
 unfolding split_lengths_given
-split-lengths-number k x (split_lengths.Refused r) y a = tt
-split-lengths-number k x (split_lengths.Gives l) y a = lengths-numbers _ _ (sums_given l) (sym a)
+split-lengths-number k x (Err r) y a = tt
+split-lengths-number k x (Ok l) y a = lengths-numbers _ _ (sums_given l) (sym a)

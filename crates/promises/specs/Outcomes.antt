@@ -9,7 +9,7 @@
 --   holds-both                            two lent bytes that a promise lets hold the same
 --   outside-both                          two lent bytes that a promise lets differ from a third in one lane alone
 --   filled-both                           two outcomes of a call that fills a buffer
-use Rattle.std.specs.Prelude.{ℕ, suc, ◌≤◌, ◌≡◌, refl, List, eqb, if◌then◌else◌}
+use Rattle.std.specs.Prelude.{ℕ, suc, ◌≤◌, ◌≡◌, refl, List, eqb, if◌then◌else◌, Float, Result, Ok, Err, Option, None, Some}
 use Rattle.std.proofs.Common.{arith, sym, ap, subst, ◌∙◌}
 use Rattle.trees.specs.Plain.{Answer, refused, gives}
 use Rattle.trees.specs.Opening.{store_size}
@@ -18,23 +18,9 @@ use Rattle.trees.specs.Held as held
 use Rattle.trees.specs.Claim.{Claimed, same, text_alone, majority_alone}
 use Rattle.answers.specs.declared.Refusal.{Refusal}
 use Rattle.answers.specs.declared.Refusal.TheVariants as why
-use Rattle.answers.specs.declared.Finish.{Finish}
-use Rattle.answers.specs.declared.Finish.TheVariants as finish
-use Rattle.answers.specs.declared.Number.{Number}
-use Rattle.answers.specs.declared.Number.TheVariants as number
-use Rattle.answers.specs.declared.Recorded.{Recorded}
-use Rattle.answers.specs.declared.Recorded.TheVariants as recorded
-use Rattle.answers.specs.declared.Weight.{Weight}
-use Rattle.answers.specs.declared.Weight.TheVariants as weight
 use Rattle.answers.specs.declared.Lengths.{Lengths}
-use Rattle.answers.specs.declared.SplitLengths.{SplitLengths}
-use Rattle.answers.specs.declared.SplitLengths.TheVariants as three
 use Rattle.answers.specs.declared.Claim.{Claim}
 use Rattle.answers.specs.declared.Claim.TheVariants as claim
-use Rattle.answers.specs.declared.Progress.{Progress}
-use Rattle.answers.specs.declared.Progress.TheVariants as progress
-use Rattle.answers.specs.declared.Both.{Both}
-use Rattle.answers.specs.declared.Both.TheVariants as lengths
 use Rattle.answers.specs.Answers.{refusal_number, finish_given, number_given, both_given, split_given, weight_given, sums_given, split_lengths_given, claim_given, progress_given}
 use Rattle.answers.specs.AnswerLaws.{gives≢refused}
 use Rattle.head.specs.Head.{opening_at}
@@ -43,10 +29,12 @@ use Rattle.store.specs.Lent.{Holds}
 use Rattle.feeding.specs.Feeding.{SameOutside}
 use Rattle.promises.specs.Calls.{refusal_in}
 use Rattle.promises.specs.Once.{SameStore}
+use Rattle.answers.specs.declared.Tree.{Tree}
 
 -- ---- answers
 
 -- the refusal with a number; past the table, the last
+
 refusal_of : ℕ → Refusal
 refusal_of n =
     if eqb n 1 then why.NotWhole
@@ -111,102 +99,102 @@ unfoldable pub value_or : {A : Type 0} → A → Answer A → A
 value_or y (refused k) = y
 value_or y (gives x) = x
 
-pub finish-one : (a b : Finish) → finish_given a ≡ finish_given b → a ≡ b
+pub finish-one : (a b : Result (Unit {0}) Refusal) → finish_given a ≡ finish_given b → a ≡ b
 unfolding finish_given refusal_in
-finish-one (finish.Refused r) (finish.Refused q) e = ap finish.Refused (refusal-one r q (ap refusal_in e))
-finish-one (finish.Refused r) finish.Done e = absurd (gives≢refused tt (refusal_number r) (sym e))
-finish-one finish.Done (finish.Refused r) e = absurd (gives≢refused tt (refusal_number r) e)
-finish-one finish.Done finish.Done e = refl
+finish-one (Err r) (Err q) e = ap Err (refusal-one r q (ap refusal_in e))
+finish-one (Err r) (Ok x) e = absurd (gives≢refused tt (refusal_number r) (sym e))
+finish-one (Ok x) (Err r) e = absurd (gives≢refused tt (refusal_number r) e)
+finish-one (Ok x) (Ok y) e = refl
 
-pub number-one : (a b : Number) → number_given a ≡ number_given b → a ≡ b
+pub number-one : (a b : Result ℕ Refusal) → number_given a ≡ number_given b → a ≡ b
 unfolding number_given refusal_in value_or
-number-one (number.Refused r) (number.Refused q) e = ap number.Refused (refusal-one r q (ap refusal_in e))
-number-one (number.Refused r) (number.Gives n) e = absurd (gives≢refused n (refusal_number r) (sym e))
-number-one (number.Gives n) (number.Refused r) e = absurd (gives≢refused n (refusal_number r) e)
-number-one (number.Gives n) (number.Gives m) e = ap number.Gives (ap (value_or n) e)
+number-one (Err r) (Err q) e = ap Err (refusal-one r q (ap refusal_in e))
+number-one (Err r) (Ok n) e = absurd (gives≢refused n (refusal_number r) (sym e))
+number-one (Ok n) (Err r) e = absurd (gives≢refused n (refusal_number r) e)
+number-one (Ok n) (Ok m) e = ap Ok (ap (value_or n) e)
 
-pub lengths-one : (a b : Both) → both_given a ≡ both_given b → a ≡ b
+pub lengths-one : (a b : Result (ℕ × ℕ) Refusal) → both_given a ≡ both_given b → a ≡ b
 unfolding both_given refusal_in value_or
-lengths-one (lengths.Refused r) (lengths.Refused q) e = ap lengths.Refused (refusal-one r q (ap refusal_in e))
-lengths-one (lengths.Refused r) (lengths.Gives m n) e = absurd (gives≢refused (m, n) (refusal_number r) (sym e))
-lengths-one (lengths.Gives m n) (lengths.Refused r) e = absurd (gives≢refused (m, n) (refusal_number r) e)
-lengths-one (lengths.Gives m n) (lengths.Gives j k) e = ap (λ (x : ℕ × ℕ). lengths.Gives x.0 x.1) (ap (value_or (m, n)) e)
+lengths-one (Err r) (Err q) e = ap Err (refusal-one r q (ap refusal_in e))
+lengths-one (Err r) (Ok (m, n)) e = absurd (gives≢refused (m, n) (refusal_number r) (sym e))
+lengths-one (Ok (m, n)) (Err r) e = absurd (gives≢refused (m, n) (refusal_number r) e)
+lengths-one (Ok (m, n)) (Ok (j, k)) e = ap (λ (x : ℕ × ℕ). Ok (x.0, x.1)) (ap (value_or (m, n)) e)
 
-pub split_one : (a b : Recorded) → split_given a ≡ split_given b → a ≡ b
+pub split_one : (a b : Result (ℕ × ℕ) Refusal) → split_given a ≡ split_given b → a ≡ b
 unfolding split_given refusal_in value_or
-split_one (recorded.Refused r) (recorded.Refused q) e = ap recorded.Refused (refusal-one r q (ap refusal_in e))
-split_one (recorded.Refused r) (recorded.Gives m c) e = absurd (gives≢refused (m, c) (refusal_number r) (sym e))
-split_one (recorded.Gives m c) (recorded.Refused r) e = absurd (gives≢refused (m, c) (refusal_number r) e)
-split_one (recorded.Gives m c) (recorded.Gives n d) e = ap (λ (x : ℕ × ℕ). recorded.Gives x.0 x.1) (ap (value_or (m, c)) e)
+split_one (Err r) (Err q) e = ap Err (refusal-one r q (ap refusal_in e))
+split_one (Err r) (Ok (m, c)) e = absurd (gives≢refused (m, c) (refusal_number r) (sym e))
+split_one (Ok (m, c)) (Err r) e = absurd (gives≢refused (m, c) (refusal_number r) e)
+split_one (Ok (m, c)) (Ok (n, d)) e = ap (λ (x : ℕ × ℕ). Ok (x.0, x.1)) (ap (value_or (m, c)) e)
 
-pub weight-one : (a b : Weight) → weight_given a ≡ weight_given b → a ≡ b
+pub weight-one : (a b : Result Float Refusal) → weight_given a ≡ weight_given b → a ≡ b
 unfolding weight_given refusal_in value_or
-weight-one (weight.Refused r) (weight.Refused q) e = ap weight.Refused (refusal-one r q (ap refusal_in e))
-weight-one (weight.Refused r) (weight.Gives x) e = absurd (gives≢refused x (refusal_number r) (sym e))
-weight-one (weight.Gives x) (weight.Refused r) e = absurd (gives≢refused x (refusal_number r) e)
-weight-one (weight.Gives x) (weight.Gives y) e = ap weight.Gives (ap (value_or x) e)
+weight-one (Err r) (Err q) e = ap Err (refusal-one r q (ap refusal_in e))
+weight-one (Err r) (Ok x) e = absurd (gives≢refused x (refusal_number r) (sym e))
+weight-one (Ok x) (Err r) e = absurd (gives≢refused x (refusal_number r) e)
+weight-one (Ok x) (Ok y) e = ap Ok (ap (value_or x) e)
 
 pub sums-one : (a b : Lengths) → sums_given a ≡ sums_given b → a ≡ b
 unfolding sums_given
 sums-one a b e = λ i. record { shortest = (e i).shortest; longest = (e i).longest; sum = (e i).sum }
 
-pub split-lengths-one : (a b : SplitLengths) → split_lengths_given a ≡ split_lengths_given b → a ≡ b
+pub split-lengths-one : (a b : Result Lengths Refusal) → split_lengths_given a ≡ split_lengths_given b → a ≡ b
 unfolding split_lengths_given refusal_in value_or
-split-lengths-one (three.Refused r) (three.Refused q) e = ap three.Refused (refusal-one r q (ap refusal_in e))
-split-lengths-one (three.Refused r) (three.Gives x) e = absurd (gives≢refused (sums_given x) (refusal_number r) (sym e))
-split-lengths-one (three.Gives x) (three.Refused r) e = absurd (gives≢refused (sums_given x) (refusal_number r) e)
-split-lengths-one (three.Gives x) (three.Gives y) e = ap three.Gives (sums-one x y (ap (value_or (sums_given x)) e))
+split-lengths-one (Err r) (Err q) e = ap Err (refusal-one r q (ap refusal_in e))
+split-lengths-one (Err r) (Ok x) e = absurd (gives≢refused (sums_given x) (refusal_number r) (sym e))
+split-lengths-one (Ok x) (Err r) e = absurd (gives≢refused (sums_given x) (refusal_number r) e)
+split-lengths-one (Ok x) (Ok y) e = ap Ok (sums-one x y (ap (value_or (sums_given x)) e))
 
 -- the answer of the code to a claim
-claim_from : Answer Claimed → Claim
-claim_from (refused k) = claim.Refused (refusal_of k)
-claim_from (gives same) = claim.Same
-claim_from (gives (text_alone m)) = claim.Text m
-claim_from (gives (majority_alone m)) = claim.Majority m
+claim_from : Answer Claimed → Result Claim Refusal
+claim_from (refused k) = Err (refusal_of k)
+claim_from (gives same) = (Ok claim.Same)
+claim_from (gives (text_alone m)) = Ok (claim.Text m)
+claim_from (gives (majority_alone m)) = Ok (claim.Majority m)
 
-claim-from : (a : Claim) → claim_from (claim_given a) ≡ a
+claim-from : (a : Result Claim Refusal) → claim_from (claim_given a) ≡ a
 unfolding claim_from claim_given
-claim-from (claim.Refused r) = ap claim.Refused (numbered r)
-claim-from claim.Same = refl
-claim-from (claim.Text m) = refl
-claim-from (claim.Majority m) = refl
+claim-from (Err r) = ap Err (numbered r)
+claim-from (Ok claim.Same) = refl
+claim-from (Ok (claim.Text m)) = refl
+claim-from (Ok (claim.Majority m)) = refl
 
-pub claim-one : (a b : Claim) → claim_given a ≡ claim_given b → a ≡ b
+pub claim-one : (a b : Result Claim Refusal) → claim_given a ≡ claim_given b → a ≡ b
 claim-one a b e = sym (claim-from a) ∙ ap claim_from e ∙ claim-from b
 
 tree_or0 : held.Progress → ℕ
 tree_or0 more_wanted = 0
 tree_or0 (accepted n) = suc n
 
-pub progress-one : (a b : Progress) → progress_given a ≡ progress_given b → a ≡ b
+pub progress-one : (a b : Result (Option Tree) Refusal) → progress_given a ≡ progress_given b → a ≡ b
 unfolding progress_given refusal_in value_or tree_or0
-progress-one (progress.Refused r) (progress.Refused q) e = ap progress.Refused (refusal-one r q (ap refusal_in e))
-progress-one (progress.Refused r) progress.MoreWanted e = absurd (gives≢refused more_wanted (refusal_number r) (sym e))
-progress-one (progress.Refused r) (progress.Accepted t) e = absurd (gives≢refused (accepted t.0) (refusal_number r) (sym e))
-progress-one progress.MoreWanted (progress.Refused r) e = absurd (gives≢refused more_wanted (refusal_number r) e)
-progress-one progress.MoreWanted progress.MoreWanted e = refl
-progress-one progress.MoreWanted (progress.Accepted t) e = absurd (omega (arith, ap (λ (x : Answer held.Progress). tree_or0 (value_or more_wanted x)) e))
-progress-one (progress.Accepted t) (progress.Refused r) e = absurd (gives≢refused (accepted t.0) (refusal_number r) e)
-progress-one (progress.Accepted t) progress.MoreWanted e = absurd (omega (arith, ap (λ (x : Answer held.Progress). tree_or0 (value_or more_wanted x)) e))
-progress-one (progress.Accepted t) (progress.Accepted u) e =
+progress-one (Err r) (Err q) e = ap Err (refusal-one r q (ap refusal_in e))
+progress-one (Err r) (Ok None) e = absurd (gives≢refused more_wanted (refusal_number r) (sym e))
+progress-one (Err r) (Ok (Some t)) e = absurd (gives≢refused (accepted t.0) (refusal_number r) (sym e))
+progress-one (Ok None) (Err r) e = absurd (gives≢refused more_wanted (refusal_number r) e)
+progress-one (Ok None) (Ok None) e = refl
+progress-one (Ok None) (Ok (Some t)) e = absurd (omega (arith, ap (λ (x : Answer held.Progress). tree_or0 (value_or more_wanted x)) e))
+progress-one (Ok (Some t)) (Err r) e = absurd (gives≢refused (accepted t.0) (refusal_number r) e)
+progress-one (Ok (Some t)) (Ok None) e = absurd (omega (arith, ap (λ (x : Answer held.Progress). tree_or0 (value_or more_wanted x)) e))
+progress-one (Ok (Some t)) (Ok (Some u)) e =
     let d : t.0 ≡ u.0 = omega (arith, ap (λ (x : Answer held.Progress). tree_or0 (value_or more_wanted x)) e) in
-    ap (λ (n : ℕ). progress.Accepted (record { 0 = n })) d
+    ap (λ (n : ℕ). Ok (Some (record { 0 = n }))) d
 
 -- ---- two outcomes
 
 pub both : {A : Type 0} {x a b : A} → a ≡ x → b ≡ x → a ≡ b
 both p q = p ∙ sym q
 
-pub finish-both : {x : Answer (Unit {0})} (q r : Finish) → finish_given q ≡ x → finish_given r ≡ x → q ≡ r
+pub finish-both : {x : Answer (Unit {0})} (q r : Result (Unit {0}) Refusal) → finish_given q ≡ x → finish_given r ≡ x → q ≡ r
 finish-both q r a b = finish-one q r (both a b)
 
-pub number-both : {x : Answer ℕ} (q r : Number) → number_given q ≡ x → number_given r ≡ x → q ≡ r
+pub number-both : {x : Answer ℕ} (q r : Result ℕ Refusal) → number_given q ≡ x → number_given r ≡ x → q ≡ r
 number-both q r a b = number-one q r (both a b)
 
-pub lengths-both : {x : Answer (ℕ × ℕ)} (q r : Both) → both_given q ≡ x → both_given r ≡ x → q ≡ r
+pub lengths-both : {x : Answer (ℕ × ℕ)} (q r : Result (ℕ × ℕ) Refusal) → both_given q ≡ x → both_given r ≡ x → q ≡ r
 lengths-both q r a b = lengths-one q r (both a b)
 
-pub filled-both : {x : Answer ℕ} {m t u : List ℕ} (q r : Number) → (number_given q ≡ x) × (t ≡ m) → (number_given r ≡ x) × (u ≡ m) → (q ≡ r) × (t ≡ u)
+pub filled-both : {x : Answer ℕ} {m t u : List ℕ} (q r : Result ℕ Refusal) → (number_given q ≡ x) × (t ≡ m) → (number_given r ≡ x) × (u ≡ m) → (q ≡ r) × (t ≡ u)
 filled-both q r a b = (number-both q r a.0 b.0, both a.1 b.1)
 
 -- ---- lent bytes

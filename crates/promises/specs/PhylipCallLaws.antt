@@ -15,7 +15,7 @@
 --   read-matrix-untouched    whatever is refused, the buffer stays
 --   read-matrix-given        any other text is answered by its number of trees, with its values at the front of the buffer
 --   read-matrix-alike        texts of one matrix, whatever their names, spaces and leading zeros, are answered alike
-use Rattle.std.specs.Prelude.{ℕ, suc, ◌+◌, ◌*◌, ◌^◌, ◌≤◌, ◌<◌, ◌≡◌, refl, ◌⊎◌, ◌↔◌, Bool, true, false, ltb, take, drop, if◌then◌else◌}
+use Rattle.std.specs.Prelude.{ℕ, suc, ◌+◌, ◌*◌, ◌^◌, ◌≤◌, ◌<◌, ◌≡◌, refl, ◌⊎◌, ◌↔◌, Bool, true, false, ltb, take, drop, if◌then◌else◌, Result}
 use Rattle.std.proofs.Common.{arith, sym, ap₂, subst, ◌∙◌, inl, inr, length-append, ltb-true, ltb-false}
 use Rattle.std.proofs.Math.Path.{ap}
 use Rattle.std.proofs.Math.Logic.Iff.{trans as iff_trans}
@@ -37,7 +37,6 @@ use Rattle.theorems.specs.PhylipLayout.{LaidOut, Even}
 use Rattle.theorems.specs.PhylipRefusalLaws.{Malformed, NotEven, NoRoom, PhylipRefused, phylip-refusals-in-order, twenty-four-exactly, twenty-five-exactly, four-exactly, matrix-given-exactly, writing-makes-no-difference}
 use Rattle.theorems.specs.PhylipWrittenLaws.{row_ends, row-short}
 use Rattle.theorems.specs.PhylipCallLaws.{doubled-few, whole-few, phylip-most, phylip-reads-back, phylip-refused-exactly}
-use Rattle.answers.specs.declared.Number.{Number}
 use Rattle.answers.specs.Answers.{number_given}
 use Rattle.answers.specs.Filled.{length_given, front}
 use Rattle.answers.specs.AnswerLaws.{gives≢refused}
@@ -51,12 +50,13 @@ use Rattle.promises.specs.Steps.{lent, lent_mut, Asked}
 use Rattle.promises.specs.StepLaws.{asked-follows}
 use Rattle.promises.specs.ReadBackCallLaws.{given_is}
 use Rattle.promises.specs.SplitFileCallLaws.{filled-refusal, answered}
+use Rattle.answers.specs.declared.Refusal.{Refusal}
 
 -- ---- reading
 
 abbrev pub ReadMatrix : List ℕ → List ℕ → Reply → Type 0
 ReadMatrix f out a =
-    (r : Number) × (left : List ℕ) × reads_matrix.Post ([], ([], tt)) (lent f, (lent_mut out, tt)) r (lent f, (lent_mut left, tt)) × (a ≡ filled (number_given r) left)
+    (r : Result ℕ Refusal) × (left : List ℕ) × reads_matrix.Post ([], ([], tt)) (lent f, (lent_mut out, tt)) r (lent f, (lent_mut left, tt)) × (a ≡ filled (number_given r) left)
 
 unfoldable pub fill_matrix : Answer Square → List ℕ → Reply
 unfolding trees_given values_given front

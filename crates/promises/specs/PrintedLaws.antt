@@ -5,16 +5,13 @@
 use Prim.Native.Nat.{ℕ, zero, suc, ◌+◌, ◌≤◌, ◌<◌}
 use Rattle.std.proofs.Common.{arith, ◌∙◌, inl, inr, drop_of_length-le, drop-drop, lt-ltb, le-ltb}
 use Rattle.std.proofs.Math.Path.{◌≡◌, refl, sym, ap, ap₂}
-use Rattle.std.specs.Prelude.{◌⊎◌, get_or, take, drop}
+use Rattle.std.specs.Prelude.{◌⊎◌, get_or, take, drop, Result, Ok, Err, ℕ}
 use mathlib.Core.List.{List, [], ◌∷◌, ◌++◌, flat_map}
 use Rattle.std.proofs.Math.ListN.{length}
 use Rattle.std.proofs.Math.Seq.{take_at}
 use Rattle.theorems.specs.ListLaws.{less-or-not}
 use Rattle.trees.specs.Plain.{Answer, refused, gives}
-use Rattle.answers.specs.declared.Number.{Number}
-use Rattle.answers.specs.declared.Number.TheVariants as number
 use Rattle.answers.specs.declared.Refusal.{Refusal}
-use Rattle.answers.specs.declared.Both.TheVariants as both
 use Rattle.answers.specs.Answers.{refusal_number, both_given}
 use Rattle.answers.specs.Filled.{front}
 use Rattle.answers.specs.AnswerLaws.{gives≢refused}
@@ -44,11 +41,11 @@ whole-more p ps = refl
 -- ---- lines that are given
 
 module _ (x : Answer (List (List ℕ))) (ls : List (List ℕ)) (e : x ≡ gives ls) (out after : List ℕ) where
-  never-refused : (w : Refusal) → PrintsAs x (both.Refused w) out after → ⊥
+  never-refused : (w : Refusal) → PrintsAs x (Err w) out after → ⊥
   unfolding both_given sizes_given
   never-refused w f = gives≢refused (length (bytes_of ls), length ls) (refusal_number w) (ap sizes_given (sym e) ∙ sym f.0)
 
-  bytes-given : (n k : ℕ) → PrintsAs x (both.Gives n k) out after → (take n after ≡ bytes_of ls) × (k ≡ length ls)
+  bytes-given : (n k : ℕ) → PrintsAs x (Ok (n, k)) out after → (take n after ≡ bytes_of ls) × (k ≡ length ls)
   unfolding both_given sizes_given bytes_given front value_or
   bytes-given n k f =
       let z : ◌≡◌ {A = ℕ × ℕ} (n, k) (length (bytes_of ls), length ls) = ap (value_or (0, 0)) (f.0 ∙ ap sizes_given e) in
@@ -57,7 +54,7 @@ module _ (x : Answer (List (List ℕ))) (ls : List (List ℕ)) (e : x ≡ gives 
         ap (λ (y : ℕ × ℕ). y.1) z,
       )
 
-never-given : (x : Answer (List (List ℕ))) (m : ℕ) → x ≡ refused m → (n k : ℕ) (out after : List ℕ) → PrintsAs x (both.Gives n k) out after → ⊥
+never-given : (x : Answer (List (List ℕ))) (m : ℕ) → x ≡ refused m → (n k : ℕ) (out after : List ℕ) → PrintsAs x (Ok (n, k)) out after → ⊥
 unfolding both_given sizes_given
 never-given x m e n k out after f = gives≢refused (n, k) m (f.0 ∙ ap sizes_given e)
 
@@ -71,17 +68,17 @@ one-short : (l : List ℕ) (j : ℕ) → length l ≤ 8192 → length (get_or (l
 one-short l zero h = h
 one-short l (suc j) h = omega arith
 
-lines-short : (a : Number) (s v : List ℕ) → SheetOf a s v → CountedIn v → (j : ℕ) → length (get_or (lines_for v) j []) ≤ 8192
-lines-short (number.Gives n) s v g small j =
+lines-short : (a : Result ℕ Refusal) (s v : List ℕ) → SheetOf a s v → CountedIn v → (j : ℕ) → length (get_or (lines_for v) j []) ≤ 8192
+lines-short (Ok n) s v g small j =
     let c = sheet-counted n s v g small in
     rw (sheet-is n s v g small) (lines_fit s (unfold SheetOf in g.2) n c j)
-lines-short (number.Refused w) s v g small j =
+lines-short (Err w) s v g small j =
     rw (refusal_is w s v g) (unfold refusal_lines in one-short (refusal_line (refusal_number w)) j
     (refusal-short (refusal_number w) (two-or-three (first_line v) summary_bytes (omega arith) (refusal_number w) (unfold SheetOf in g))))
 
 -- ---- the lines of the summary of v
 
-module _ (a : Number) (s v : List ℕ) (g : SheetOf a s v) (small : CountedIn v) where
+module _ (a : Result ℕ Refusal) (s v : List ℕ) (g : SheetOf a s v) (small : CountedIn v) where
   abbrev lines : List (List ℕ)
   lines = lines_for v
 
@@ -99,7 +96,7 @@ module _ (a : Number) (s v : List ℕ) (g : SheetOf a s v) (small : CountedIn v)
   lines-past from room h = rw (le-ltb from (length lines) h) refl
 
   -- a refusal: there are no more
-  given-none : (from : ℕ) (w : Refusal) (out after : List ℕ) → 8192 ≤ length out → PrintsAs (lines_from lines from (length out)) (both.Refused w) out after
+  given-none : (from : ℕ) (w : Refusal) (out after : List ℕ) → 8192 ≤ length out → PrintsAs (lines_from lines from (length out)) (Err w) out after
       → [] ≡ drop from lines
   given-none from w out after l f = go (less-or-not from (length lines))
     where
@@ -107,7 +104,7 @@ module _ (a : Number) (s v : List ℕ) (g : SheetOf a s v) (small : CountedIn v)
       go (inl h) = absurd (never-refused _ (fit from (length out)) (lines-there from (length out) h l) out after w f)
       go (inr h) = sym (drop_of_length-le lines h)
 
-  given-more : (from n k : ℕ) (out after : List ℕ) → 8192 ≤ length out → PrintsAs (lines_from lines from (length out)) (both.Gives n k) out after
+  given-more : (from n k : ℕ) (out after : List ℕ) → 8192 ≤ length out → PrintsAs (lines_from lines from (length out)) (Ok (n, k)) out after
       → take n after ++ bytes_of (drop (from + k) lines) ≡ bytes_of (drop from lines)
   given-more from n k out after l f = go (less-or-not from (length lines))
     where

@@ -10,7 +10,7 @@
 --   stand-ins-behind         the stand-ins of a taxon are its last lines, one for each other taxon
 --   stand-in-names           the group that is named for two taxa is in the majority, holds both, and no smaller majority group does
 --   stand-in-none            none is named where no majority group holds both
-use Rattle.std.specs.Prelude.{ℕ, ◌≤◌, ◌<◌, ◌≡◌, ◌↔◌, Bool, true, false, List, [], ◌∷◌, ◌++◌, map, ltb, eqb, length, take, if◌then◌else◌}
+use Rattle.std.specs.Prelude.{ℕ, ◌≤◌, ◌<◌, ◌≡◌, ◌↔◌, Bool, true, false, List, [], ◌∷◌, ◌++◌, map, ltb, eqb, length, take, if◌then◌else◌, Some}
 use Rattle.std.proofs.Common.{arith, ◌∙◌, append_assoc}
 use Rattle.std.proofs.Math.Path.{refl, sym, ap, ap₂}
 use Rattle.std.proofs.Math.Logic.Iff.{trans as iff_trans}
@@ -40,7 +40,6 @@ use Rattle.putting.specs.Lines.{line_of, bytes_of}
 use Rattle.sheet.specs.Sheet.{counts_line, majority_line, strict_line}
 use Rattle.grouping.specs.GroupLines.{labels, group_line, group_lines, stand_in_line, stand_in_lines}
 use Rattle.drawing.specs.DrawnLines.{drawn_lines}
-use Rattle.release.specs.declared.Apart.TheVariants as apart
 use Rattle.release.specs.declared.Wanted.{Wanted}
 use Rattle.release.specs.Release.{first_lines, split_lines, apart_lines, is_taxon, release_lines, release_of}
 use Rattle.promises.specs.Calls.{majority, release, Reply, filled, fill, reply}
@@ -196,7 +195,7 @@ module _ (s : List ℕ) (w : whole_at s ≡ true) where
         first-is two more e = unfold first_lines in rw e
 
     -- "for one strain its stand-ins, every other strain"
-    pub stand-ins-behind : (i : Taxon) → x.apart ≡ apart.Of i
+    pub stand-ins-behind : (i : Taxon) → x.apart ≡ Some i
         → (first : List (List ℕ)) × (take k made ≡ bytes_of (first ++ map (stand_in_line h i.0) (stand_ins h.opening.numbers.taxa i.0 (of.majority h.trees))))
     stand-ins-behind i e =
         (first_lines h n ++ split_lines h x.splits, sheet-is ∙ ap bytes_of (ap (λ (ls : List (List ℕ)). first_lines h n ++ (split_lines h x.splits ++ ls)) lines_are ∙ sym (append_assoc (first_lines h n) (split_lines h x.splits) _)))

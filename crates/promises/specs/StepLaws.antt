@@ -8,7 +8,7 @@
 --   opening-follows            an opening that is accepted leaves a whole collection just opened
 --   refused-alike, told-lent   openings that are refused have the same number, in however many bytes
 use Prim.Native.Nat.{ℕ}
-use Rattle.std.specs.Prelude.{◌≡◌, Bool, ◌&&◌, leb, ltb, length, get_or, if◌then◌else◌}
+use Rattle.std.specs.Prelude.{◌≡◌, Bool, ◌&&◌, leb, ltb, length, get_or, if◌then◌else◌, Result, ℕ}
 use Rattle.std.proofs.Math.Path.{refl, ap, ap₂, subst}
 use Rattle.std.proofs.Common.{sym, ◌∙◌}
 use Rattle.std.proofs.Math.Bool.{true, false}
@@ -31,8 +31,6 @@ use Rattle.theorems.specs.ListLaws.{by-test}
 use Rattle.theorems.specs.FeedingLaws.{feeding-by}
 use Rattle.theorems.specs.WithdrawLaws.{withdrawing-by}
 use Rattle.theorems.specs.RunLaws.{ending-opening}
-use Rattle.answers.specs.declared.Finish.{Finish}
-use Rattle.answers.specs.declared.Number.{Number}
 use Rattle.answers.specs.Answers.{finish_given, number_given}
 use Rattle.answers.specs.Filled.{length_given, front}
 use Rattle.answers.specs.AnswerLaws.{gives≢refused}
@@ -51,6 +49,7 @@ use Rattle.summary.specs.PartLaws.{holds_then}
 use Rattle.promises.specs.Calls.{Question, tree-count, split-count, one_split, split-list, tree-splits, one-sided, doubled, matrix, collisions, strict, majority, both, write-accepted, weighted, split-lengths, write-splits, read-splits, merge, strict_tree, majority-tree, write-matrix, claim, release, Reply, number, split, filled, both_filled, each_filled, weight, sums, claimed, fill, fill_both, fill_each, fill_read, reply, Made, one, many, file, ask, reopen, Told, heard, batched, replied, not_opened, numbers_in, after_batch, refusal_in, told, after, told_all, after_all, handed}
 use Rattle.promises.specs.Steps.{Asked, Opened, Opens, Step, Steps}
 use Rattle.promises.specs.BatchLaws.{after-handed}
+use Rattle.answers.specs.declared.Refusal.{Refusal}
 
 -- ---- openings
 
@@ -104,18 +103,18 @@ module _ (x : Numbers) (names first second : List ℕ) where
 
   module _ (s t : List ℕ) where
     -- an opening that answers a refusal is refused with it, and every byte stays
-    refused-opening : (r : Finish) (k : ℕ) (y : Answer Opening) → OpenedAs y r s t → finish_given r ≡ refused k → (y ≡ refused k) × (t ≡ s)
+    refused-opening : (r : Result (Unit {0}) Refusal) (k : ℕ) (y : Answer Opening) → OpenedAs y r s t → finish_given r ≡ refused k → (y ≡ refused k) × (t ≡ s)
     unfolding OpenedAs refusal_in
     refused-opening r k (refused j) q e = (ap (λ (n : ℕ). refused n) (ap (λ (a : Answer (Unit {0})). refusal_in a) (sym q.0 ∙ e)), q.1)
     refused-opening r k (gives o) q e = absurd (gives≢refused tt k (sym q.0 ∙ e))
 
-    accepted-opening : (r : Finish) (y : Answer Opening) → AsGiven y → OpenedAs y r s t → finish_given r ≡ gives tt → Holds (opened begun) s t
+    accepted-opening : (r : Result (Unit {0}) Refusal) (y : Answer Opening) → AsGiven y → OpenedAs y r s t → finish_given r ≡ gives tt → Holds (opened begun) s t
     unfolding OpenedAs
     accepted-opening r (refused j) g q e = absurd (gives≢refused tt j (sym e ∙ q.0))
     accepted-opening r (gives o) g q e = subst (λ (y : Opening). Holds (opened y) s t) g q.1
 
     -- the numbers of the call's own arguments are these
-    opened-as : (r : Finish) → Opened x names first second s r t → OpenedAs (opening x names first second (length s)) r s t
+    opened-as : (r : Result (Unit {0}) Refusal) → Opened x names first second s r t → OpenedAs (opening x names first second (length s)) r s t
     opened-as r q = subst (λ (k : ℕ). OpenedAs (opening (keeping k) names first second (length s)) r s t) q.1 q.2
 
     pub opening-follows : Opens x names first second s t → Holds (opened begun) s t
@@ -138,7 +137,7 @@ unfolding Step
 asking-changes-nothing s q a t x = x.3
 
 -- a buffer that is filled with the answer x, which is y
-module _ (x y : Answer (List ℕ)) (e : x ≡ y) (r : Number) (out left : List ℕ) (p : number_given r ≡ length_given x) (q : left ≡ front x out) where
+module _ (x y : Answer (List ℕ)) (e : x ≡ y) (r : Result ℕ Refusal) (out left : List ℕ) (p : number_given r ≡ length_given x) (q : left ≡ front x out) where
   filled_is : filled (number_given r) left ≡ fill y out
   unfolding fill
   filled_is = ap₂ filled p q ∙ ap (λ (z : Answer (List ℕ)). filled (length_given z) (front z out)) e
@@ -226,14 +225,14 @@ module _ (s : List ℕ) (w : whole_at s ≡ true) (t : List ℕ) where
   batch-whole l p v = when_whole s (λ h. batch h l p (length v)) w
 
   -- a batch that is x
-  batch-follows : (x : Answer Batched) (l : ℕ) (r : Number) (v u : List ℕ) → BatchedAs x l r s v t u
+  batch-follows : (x : Answer Batched) (l : ℕ) (r : Result ℕ Refusal) (v u : List ℕ) → BatchedAs x l r s v t u
       → Holds (after_batch (held_at s) x) s t × (batched (number_given r) u ≡ batched (length_given (numbers_in x)) (front (numbers_in x) v))
   unfolding BatchedAs after_batch numbers_in length_given front
   batch-follows (refused k) l r v u q = (stays q.1, ap₂ batched q.0 q.2)
   batch-follows (gives b) l r v u q = (q.1, ap₂ batched q.0 q.2)
 
   -- a file that gives x
-  file-follows : (x : Answer Batched) (r : Number) (v u : List ℕ) → NexusAs x r s v t u
+  file-follows : (x : Answer Batched) (r : Result ℕ Refusal) (v u : List ℕ) → NexusAs x r s v t u
       → Holds (after_batch (held_at s) x) s t × (batched (number_given r) u ≡ batched (length_given (numbers_in x)) (front (numbers_in x) v))
   unfolding NexusAs after_batch numbers_in length_given front
   file-follows (refused k) r v u q = (stays q.1, ap₂ batched q.0 q.2)

@@ -3,11 +3,10 @@
 --
 --   extend-lane-once, empty-lane-once     a lane changed: the store, and every byte outside the lane
 --   accepted_free, accept-once             a tree accepted: the answer; without room every byte, else the store
-use Rattle.std.specs.Prelude.{ℕ, ◌<◌, ◌≡◌, List}
+use Rattle.std.specs.Prelude.{ℕ, ◌<◌, ◌≡◌, List, Result, Option}
 use Rattle.trees.specs.Plain.{Answer, refused, gives}
 use Rattle.trees.specs.Verdict.{Branches}
 use Rattle.trees.specs.Held.{Lane, room_for, with_lane, with_tree}
-use Rattle.answers.specs.declared.Progress.{Progress}
 use Rattle.head.specs.Head.{numbers_at}
 use Rattle.layout.specs.Store.{held_at}
 use Rattle.lanes.specs.Lanes.{LaneIs}
@@ -18,6 +17,8 @@ use Rattle.lanes.proofs.empty_lane.Reads as empty-lane
 use Rattle.recording.proofs.accept.Reads as accept
 use Rattle.promises.specs.Once.{Once, OnceIf, arg1, arg2, arg3, arg4, Free, nothing, lane, store, SameBut}
 use Rattle.promises.specs.Outcomes.{both, progress-one, holds-both, outside-both}
+use Rattle.answers.specs.declared.Refusal.{Refusal}
+use Rattle.answers.specs.declared.Tree.{Tree}
 
 -- ---- a lane
 
@@ -39,7 +40,7 @@ unfoldable pub accepted_free : Answer Branches → Free
 accepted_free (refused n) = nothing
 accepted_free (gives b) = store
 
-accepts-both : (v : Answer Branches) (s : List ℕ) (q r : Progress) (t u : List ℕ) → Accepts v s q t → Accepts v s r u → (q ≡ r) × SameBut (accepted_free v) t u
+accepts-both : (v : Answer Branches) (s : List ℕ) (q r : Result (Option Tree) Refusal) (t u : List ℕ) → Accepts v s q t → Accepts v s r u → (q ≡ r) × SameBut (accepted_free v) t u
 unfolding Accepts accepted_free SameBut
 accepts-both (refused n) s q r t u a b = (progress-one q r (both a.0 b.0), both a.1 b.1)
 accepts-both (gives x) s q r t u a b = (progress-one q r (both a.0 b.0), holds-both (with_tree (held_at s) x) s t u a.1 b.1)

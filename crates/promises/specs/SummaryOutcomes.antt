@@ -8,7 +8,7 @@
 --   take-once              taking a piece: the state, every byte of the buffer for names, and the lent bytes
 --   finish-once            finishing
 --   summary-lines-once     giving lines: the answer, and every byte of the buffer
-use Rattle.std.specs.Prelude.{ℕ, ◌+◌, ◌≡◌, refl, ◌⊎◌, Bool, true, false, List, length, drop}
+use Rattle.std.specs.Prelude.{ℕ, ◌+◌, ◌≡◌, refl, ◌⊎◌, Bool, true, false, List, length, drop, Result, Ok, Err}
 use Rattle.std.proofs.Common.{arith, subst, ◌∙◌, inr}
 use Rattle.std.proofs.Math.Path.{sym, ap}
 use Rattle.std.proofs.Math.Logic.{inl}
@@ -17,9 +17,6 @@ use Rattle.trees.specs.Opening.{Opening}
 use Rattle.trees.specs.Held.{Held, opened, closing}
 use Rattle.trees.specs.Batch.{refused_in, refused_after}
 use Rattle.theorems.specs.OwnLaneLaws.{closing-opening}
-use Rattle.answers.specs.declared.Finish.{Finish}
-use Rattle.answers.specs.declared.Finish.TheVariants as finish
-use Rattle.answers.specs.declared.Number.{Number}
 use Rattle.answers.specs.Answers.{finish_given}
 use Rattle.layout.specs.Store.{held_at}
 use Rattle.store.specs.Lent.{Holds}
@@ -42,6 +39,7 @@ use Rattle.summary.proofs.lines.Reads as lines
 use Rattle.promises.specs.Once.{Once, AnswerOnce, arg1, arg2, arg3, arg4, SameStore, SameBut}
 use Rattle.promises.specs.Outcomes.{both, number-one, finish-one, lengths-both, holds-both}
 use Rattle.promises.specs.TextsOutcomes.{taken-both, texts_free, texts-both, closed_texts_free, closed-texts-both}
+use Rattle.answers.specs.declared.Refusal.{Refusal}
 
 -- ---- lent bytes
 
@@ -67,7 +65,7 @@ module _ (h : Held) (lent s s' : List ℕ) (a : Holds h lent s) (b : Holds h len
     same_count =
         counted s n q a.whole ∙ ap (λ (k : Held). gives (capped (n + refused_in (texts_fed k q).verdicts))) same-held ∙ sym (counted s' n q b.whole)
 
-    fed-from : (x : List ℕ) → Holds h lent x → (r : Number) (t : List ℕ) → TextsAs x n q r t → Holds (texts_fed h q).after lent t
+    fed-from : (x : List ℕ) → Holds h lent x → (r : Result ℕ Refusal) (t : List ℕ) → TextsAs x n q r t → Holds (texts_fed h q).after lent t
     fed-from x c r t f =
         holds_then h (texts_fed h q).after lent x t (batching-opening (texts_at h 0 q) h 0 q) c
         (subst (λ (k : Held). Holds (texts_fed k q).after x t) c.held (f.holds c.whole))
@@ -85,11 +83,11 @@ module _ (h : Held) (lent s s' : List ℕ) (a : Holds h lent s) (b : Holds h len
       ∙ ap (λ (k : Held). gives (capped (refused_after n (closing k 0).answer))) same-held
       ∙ sym (when_whole s' (λ k. gives (capped (refused_after n (closing k 0).answer))) b.whole)
 
-  closed-from : (n : ℕ) (x : List ℕ) → Holds h lent x → (r : Number) (t : List ℕ) → ClosedAs x n r t → Holds (closing h 0).after lent t
+  closed-from : (n : ℕ) (x : List ℕ) → Holds h lent x → (r : Result ℕ Refusal) (t : List ℕ) → ClosedAs x n r t → Holds (closing h 0).after lent t
   closed-from n x c r t f =
       holds_then h (closing h 0).after lent x t (closing-opening h 0) c (subst (λ (k : Held). Holds (closing k 0).after x t) c.held (f.holds c.whole))
 
-  closes-both : (n : ℕ) (r r' : Number) (t u : List ℕ) → ClosedAs s n r t → ClosedAs s' n r' u → (r ≡ r') × Alike t u
+  closes-both : (n : ℕ) (r r' : Result ℕ Refusal) (t u : List ℕ) → ClosedAs s n r t → ClosedAs s' n r' u → (r ≡ r') × Alike t u
   closes-both n r r' t u f g = (
     number-one r r' (f.answer ∙ same-closed n ∙ sym g.answer),
     alike-holds (closing h 0).after lent t u (closed-from n s a r t f) (closed-from n s' b r' u g),
@@ -98,30 +96,30 @@ module _ (h : Held) (lent s s' : List ℕ) (a : Holds h lent s) (b : Holds h len
 -- ---- opening, and what stands behind the line
 
 -- two answers of an opening, and the bytes that they leave
-module _ (s : List ℕ) (P : Finish → List ℕ → Type 0) (Q : Finish → List ℕ → Type 0) (R : Type 0)
-    (refusing : (f : Finish) (k : ℕ) → finish_given f ≡ refused k → P f s → Q f s → R)
-    (opening : (o : Opening) (x y : List ℕ) → Holds (opened o) s x → Holds (opened o) s y → P finish.Done x → Q finish.Done y → R) where
-  opened-then : (z : Answer Opening) (f g : Finish) (x y : List ℕ) → OpenedAs z f s x → OpenedAs z g s y → P f x → Q g y → R
+module _ (s : List ℕ) (P : Result (Unit {0}) Refusal → List ℕ → Type 0) (Q : Result (Unit {0}) Refusal → List ℕ → Type 0) (R : Type 0)
+    (refusing : (f : Result (Unit {0}) Refusal) (k : ℕ) → finish_given f ≡ refused k → P f s → Q f s → R)
+    (opening : (o : Opening) (x y : List ℕ) → Holds (opened o) s x → Holds (opened o) s y → P (Ok tt) x → Q (Ok tt) y → R) where
+  opened-then : (z : Answer Opening) (f g : Result (Unit {0}) Refusal) (x y : List ℕ) → OpenedAs z f s x → OpenedAs z g s y → P f x → Q g y → R
   unfolding OpenedAs finish_given
   opened-then (refused k) f g x y a b p q =
       let e = finish-one f g (a.0 ∙ sym b.0) in
-      refusing f k a.0 (subst (P f) a.1 p) (subst (λ (i : Finish). Q i s) (sym e) (subst (Q g) b.1 q))
+      refusing f k a.0 (subst (P f) a.1 p) (subst (λ (i : Result (Unit {0}) Refusal). Q i s) (sym e) (subst (Q g) b.1 q))
   opened-then (gives o) f g x y a b p q =
-      let e : f ≡ finish.Done = finish-one f finish.Done a.0 in
-      let d : g ≡ finish.Done = finish-one g finish.Done b.0 in
-      opening o x y a.1 b.1 (subst (λ (i : Finish). P i x) e p) (subst (λ (i : Finish). Q i y) d q)
+      let e : f ≡ (Ok tt) = finish-one f (Ok tt) a.0 in
+      let d : g ≡ (Ok tt) = finish-one g (Ok tt) b.0 in
+      opening o x y a.1 b.1 (subst (λ (i : Result (Unit {0}) Refusal). P i x) e p) (subst (λ (i : Result (Unit {0}) Refusal). Q i y) d q)
 
-gives-never : (k : ℕ) → finish_given finish.Done ≡ refused k → ⊥
+gives-never : (k : ℕ) → finish_given (Ok tt) ≡ refused k → ⊥
 unfolding finish_given
 gives-never k e = let z : ◌≡◌ {A = ℕ} 0 1 = cc e in omega arith
 
 module _ (k : Kept) (s q : List ℕ) (r r' : Summing) (t u : List ℕ) where
-  behind-refused : (f : Finish) (j : ℕ) → finish_given f ≡ refused j → BehindAs f s q r t → BehindAs f s q r' u → (r ≡ r') × Alike t u
+  behind-refused : (f : Result (Unit {0}) Refusal) (j : ℕ) → finish_given f ≡ refused j → BehindAs f s q r t → BehindAs f s q r' u → (r ≡ r') × Alike t u
   unfolding BehindAs Alike
-  behind-refused finish.Done j e a b = absurd (gives-never j e)
-  behind-refused (finish.Refused w) j e a b = (a.0 ∙ sym b.0, inl (a.1 ∙ sym b.1))
+  behind-refused (Ok tt) j e a b = absurd (gives-never j e)
+  behind-refused (Err w) j e a b = (a.0 ∙ sym b.0, inl (a.1 ∙ sym b.1))
 
-  behind-opened : (o : Opening) (x y : List ℕ) → Holds (opened o) s x → Holds (opened o) s y → BehindAs finish.Done x q r t → BehindAs finish.Done y q r' u
+  behind-opened : (o : Opening) (x y : List ℕ) → Holds (opened o) s x → Holds (opened o) s y → BehindAs (Ok tt) x q r t → BehindAs (Ok tt) y q r' u
       → (r ≡ r') × Alike t u
   unfolding BehindAs
   behind-opened o x y a b c d = feeds-both (opened o) s x y a b 0 q r r' t u c d
@@ -131,13 +129,13 @@ module _ (k : Kept) (s q : List ℕ) (r r' : Summing) (t u : List ℕ) where
       opened-then s (λ f x. BehindAs f x q r t) (λ f x. BehindAs f x q r' u) ((r ≡ r') × Alike t u) behind-refused behind-opened
       (kept_opening k (length s)) a.answer b.answer a.store b.store a.opens b.opens a.behind b.behind
 
-module _ (k : Kept) (s : List ℕ) (r r' : Number) (t u : List ℕ) where
-  ends-refused : (f : Finish) (j : ℕ) → finish_given f ≡ refused j → EndsAs f s r t → EndsAs f s r' u → (r ≡ r') × Alike t u
+module _ (k : Kept) (s : List ℕ) (r r' : Result ℕ Refusal) (t u : List ℕ) where
+  ends-refused : (f : Result (Unit {0}) Refusal) (j : ℕ) → finish_given f ≡ refused j → EndsAs f s r t → EndsAs f s r' u → (r ≡ r') × Alike t u
   unfolding EndsAs Alike
-  ends-refused finish.Done j e a b = absurd (gives-never j e)
-  ends-refused (finish.Refused w) j e a b = (a.0 ∙ sym b.0, inl (a.1 ∙ sym b.1))
+  ends-refused (Ok tt) j e a b = absurd (gives-never j e)
+  ends-refused (Err w) j e a b = (a.0 ∙ sym b.0, inl (a.1 ∙ sym b.1))
 
-  ends-opened : (o : Opening) (x y : List ℕ) → Holds (opened o) s x → Holds (opened o) s y → EndsAs finish.Done x r t → EndsAs finish.Done y r' u
+  ends-opened : (o : Opening) (x y : List ℕ) → Holds (opened o) s x → Holds (opened o) s y → EndsAs (Ok tt) x r t → EndsAs (Ok tt) y r' u
       → (r ≡ r') × Alike t u
   unfolding EndsAs
   ends-opened o x y a b c d = closes-both (opened o) s x y a b 0 r r' t u c d
@@ -190,7 +188,7 @@ FinishedAlike (summing.Line line) s t u = Alike t u
 FinishedAlike (summing.Texts n) s t u = SameBut (closed_texts_free s) t u
 FinishedAlike (summing.Refused w) s t u = t ≡ u
 
-finished-both : (state : Summing) (names s : List ℕ) (q r : Number) (t u : List ℕ) → FinishSteps state names s q t → FinishSteps state names s r u
+finished-both : (state : Summing) (names s : List ℕ) (q r : Result ℕ Refusal) (t u : List ℕ) → FinishSteps state names s q t → FinishSteps state names s r u
     → (q ≡ r) × FinishedAlike state s t u
 unfolding FinishSteps FinishedAlike
 finished-both (summing.Line line) names s q r t u f g = ends-both (kept_of line names) s q r t u f g

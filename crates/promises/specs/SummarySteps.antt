@@ -5,10 +5,8 @@
 --   LinesGiven answer s from ps     asking for the lines from number `from` on, and for those behind the ones that are given, up to a refusal,
 --                                each time into a buffer of 8,192 bytes or more, gives the bytes ps
 --   Summarised names lent ps printed     what is printed when the calls are made in order: begin, take the pieces ps, finish, the lines
-use Rattle.std.specs.Prelude.{ℕ, ◌+◌, ◌≤◌, ◌≡◌, length, take}
+use Rattle.std.specs.Prelude.{ℕ, ◌+◌, ◌≤◌, ◌≡◌, length, take, Result, Ok, Err}
 use mathlib.Core.List.{List, [], ◌∷◌, flat_map}
-use Rattle.answers.specs.declared.Number.{Number}
-use Rattle.answers.specs.declared.Both.TheVariants as both
 use Rattle.answers.specs.declared.Refusal.{Refusal}
 use Rattle.summary.specs.declared.Summing.{Summing}
 use Rattle.summary.specs.Summing.{BegunAs, TookAs, FinishedAs, PrintedAs}
@@ -21,12 +19,12 @@ unfoldable pub Takes : Summing → List ℕ → List ℕ → List (List ℕ) →
 Takes a names s [] b after t = (b ≡ a) × (after ≡ names) × (t ≡ s)
 Takes a names s (p ∷ ps) b after t = (c : Summing) × (m : List ℕ) × (u : List ℕ) × TookAs a names s p c m u × Takes c m u ps b after t
 
-unfoldable pub LinesGiven : Number → List ℕ → ℕ → List (List ℕ) → Type 0
-LinesGiven answer s from [] = (w : Refusal) × (out : List ℕ) × (after : List ℕ) × (8192 ≤ length out) × PrintedAs answer s from (both.Refused w) out after
+unfoldable pub LinesGiven : Result ℕ Refusal → List ℕ → ℕ → List (List ℕ) → Type 0
+LinesGiven answer s from [] = (w : Refusal) × (out : List ℕ) × (after : List ℕ) × (8192 ≤ length out) × PrintedAs answer s from (Err w) out after
 LinesGiven answer s from (p ∷ ps) =
     (bytes : ℕ) × (lines : ℕ) × (out : List ℕ) × (after : List ℕ)
     × (8192 ≤ length out)
-    × PrintedAs answer s from (both.Gives bytes lines) out after
+    × PrintedAs answer s from (Ok (bytes, lines)) out after
     × (p ≡ take bytes after)
     × LinesGiven answer s (from + lines) ps
 
@@ -37,7 +35,7 @@ pub record Summarised (names lent : List ℕ) (ps : List (List ℕ)) (printed : 
   pub kept : List ℕ
   pub store : List ℕ
   pub takes : Takes first names lent ps last kept store
-  pub answer : Number
+  pub answer : Result ℕ Refusal
   pub sheet : List ℕ
   pub finishes : FinishedAs last kept store answer sheet
   pub parts : List (List ℕ)

@@ -3,11 +3,10 @@
 --   taken-both                           taking a piece of the first line: the answer, and every byte of the buffer
 --   texts_free s p, texts-both            feeding the texts of the piece p to the lent bytes s: the answer, and the bytes but for what is free
 --   closed_texts_free s, closed-texts-both     closing
-use Rattle.std.specs.Prelude.{ℕ, ◌≡◌, refl, Bool, true, false, List, if◌then◌else◌}
+use Rattle.std.specs.Prelude.{ℕ, ◌≡◌, refl, Bool, true, false, List, if◌then◌else◌, Result}
 use Rattle.std.proofs.Common.{ap}
 use Rattle.trees.specs.Held.{closing}
 use Rattle.trees.specs.Batch.{none_accepted}
-use Rattle.answers.specs.declared.Number.{Number}
 use Rattle.layout.specs.Store.{held_at}
 use Rattle.layout.specs.WholeStore.{whole_at}
 use Rattle.summary.specs.declared.Taken.{Taken}
@@ -15,6 +14,7 @@ use Rattle.summary.specs.FirstLine.{Kept, TakenAs}
 use Rattle.summary.specs.Texts.{texts_fed, TextsAs, ClosedAs}
 use Rattle.promises.specs.Once.{Free, nothing, lane, store, SameBut}
 use Rattle.promises.specs.Outcomes.{both, number-both, holds-both, outside-both}
+use Rattle.answers.specs.declared.Refusal.{Refusal}
 
 pub taken-both : (k : Kept) (p : List ℕ) (q r : Taken) (t u : List ℕ) → TakenAs k p q t → TakenAs k p r u → (q ≡ r) × (t ≡ u)
 taken-both k p q r t u a b =
@@ -27,7 +27,7 @@ taken-both k p q r t u a b =
 unfoldable pub texts_free : List ℕ → List ℕ → Free
 texts_free s p = if whole_at s then if none_accepted (texts_fed (held_at s) p).verdicts then lane 0 else store else nothing
 
-pub texts-both : (s : List ℕ) (n : ℕ) (p : List ℕ) (q r : Number) (t u : List ℕ) → TextsAs s n p q t → TextsAs s n p r u → (q ≡ r) × SameBut (texts_free s p) t u
+pub texts-both : (s : List ℕ) (n : ℕ) (p : List ℕ) (q r : Result ℕ Refusal) (t u : List ℕ) → TextsAs s n p q t → TextsAs s n p r u → (q ≡ r) × SameBut (texts_free s p) t u
 unfolding texts_free SameBut
 texts-both s n p q r t u a b = (number-both q r a.answer b.answer, go (whole_at s) (none_accepted (texts_fed (held_at s) p).verdicts) refl refl)
   where
@@ -39,7 +39,7 @@ texts-both s n p q r t u a b = (number-both q r a.answer b.answer, go (whole_at 
 unfoldable pub closed_texts_free : List ℕ → Free
 closed_texts_free s = if whole_at s then lane 0 else nothing
 
-pub closed-texts-both : (s : List ℕ) (n : ℕ) (q r : Number) (t u : List ℕ) → ClosedAs s n q t → ClosedAs s n r u → (q ≡ r) × SameBut (closed_texts_free s) t u
+pub closed-texts-both : (s : List ℕ) (n : ℕ) (q r : Result ℕ Refusal) (t u : List ℕ) → ClosedAs s n q t → ClosedAs s n r u → (q ≡ r) × SameBut (closed_texts_free s) t u
 unfolding closed_texts_free SameBut
 closed-texts-both s n q r t u a b = (number-both q r a.answer b.answer, go (whole_at s) refl)
   where

@@ -11,7 +11,7 @@
 --   afresh-answers                      and whatever the lanes hold, every question is answered the same
 --   room-serves-again                   trees withdrawn one after another, the text of each fed again at once, are accepted each time, and the
 --                                       number of trees and the recorded splits are those of before
-use Rattle.std.specs.Prelude.{ℕ, ◌+◌, ◌-◌, ◌≤◌, ◌<◌, ◌≡◌, refl, Bool, true, false, List, [], ◌∷◌, map, ltb, length, get_or}
+use Rattle.std.specs.Prelude.{ℕ, ◌+◌, ◌-◌, ◌≤◌, ◌<◌, ◌≡◌, refl, Bool, true, false, List, [], ◌∷◌, map, ltb, length, get_or, Result}
 use Rattle.std.proofs.Common.{arith, sym, ap, ◌∙◌, inr, ltb-true}
 use Rattle.std.proofs.Math.Path.{subst}
 use Rattle.trees.specs.Plain.{refused, gives}
@@ -29,7 +29,6 @@ use Rattle.theorems.specs.AfreshLaws.{afresh-held, afresh-questions, afresh-coll
 use Rattle.theorems.specs.RoomAgainLaws as again
 use Rattle.theorems.specs.NexusFedLaws.{fed_to, EmptyLane}
 use Rattle.theorems.specs.ThroughLaneLaws.{through_lane, afresh-fed, room-serves-fed}
-use Rattle.answers.specs.declared.Finish.{Finish}
 use Rattle.answers.specs.Answers.{finish_given}
 use Rattle.answers.specs.AnswerLaws.{gives≢refused}
 use Rattle.head.specs.Head.{numbers_at}
@@ -43,10 +42,12 @@ use Rattle.promises.specs.Calls.{Question, Reply, reply, Made, one, Told, heard,
 use Rattle.promises.specs.Steps.{Asked, Opens, Step, Steps}
 use Rattle.promises.specs.StepLaws.{asked-follows, step_follows, steps-follow, opening-follows, withdrawn-whole, tree-test}
 use Rattle.promises.specs.RunLaws.{after-all, reply-same, run-follows}
+use Rattle.answers.specs.declared.Refusal.{Refusal}
 
 -- ---- one call
 
 -- where there is such a tree, it is withdrawn
+
 withdrawn-done : (s : List ℕ) (k : ℕ) → there s k ≡ true → (withdrawn_of s k).answer ≡ gives tt
 unfolding there
 withdrawn-done s k d =
@@ -55,7 +56,7 @@ withdrawn-done s k d =
     (withdrawn-whole s w k ∙ withdrawing-done (held_at s) k (ltb-true k (length (held_at s).trees) (sym (tree-test s w k) ∙ (unfold there in d))))
 
 module _ (s : List ℕ) (k : ℕ) (a : Told) (t : List ℕ) (q : Step s (one (withdraw k)) a t) where
-  promised : (r : Finish) × WithdrawnAs s k r t × (a ≡ heard (withdrew (finish_given r)))
+  promised : (r : Result (Unit {0}) Refusal) × WithdrawnAs s k r t × (a ≡ heard (withdrew (finish_given r)))
   unfolding Step
   promised = q
 

@@ -4,11 +4,16 @@
 --   put_as, put-to                  the same bytes, or the same end, under another name
 --   put-length                      storing leaves as many bytes
 --   put_front, put-taken            what is stored from the start stands at the front
+--   put-part                        a word of which a buffer takes what it has room for
 --   putting-start, putting-more, putting-end     a run, some bytes at a time
-use Rattle.std.specs.Prelude.{ℕ, suc, ◌+◌, ◌≤◌, ◌≡◌, refl, List, [], ◌∷◌, ◌++◌, length, set, take, drop}
-use Rattle.std.proofs.Common.{add-zero, arith, ap, sym, subst, ◌∙◌, length-append, take_at}
+use Rattle.std.specs.Prelude.{ℕ, suc, ◌+◌, ◌≤◌, ◌≡◌, refl, List, [], ◌∷◌, ◌++◌, ◌⊎◌, ◌-◌, min, length, set, take, drop}
+use Rattle.std.proofs.Common.{add-zero, arith, ap, sym, subst, ◌∙◌, inl, inr, length-append, length-take-le, take_all, take_at}
+use Rattle.std.proofs.lemmas.Bool.{cases_lt}
+use Rattle.std.proofs.lemmas.List.{take-append-drop}
 use Rattle.std.proofs.lemmas.List.Edits.{sets, sets-eq}
-use Rattle.std.proofs.Math.Seq.{length-sets}
+use Rattle.std.proofs.lemmas.Slice.{put_mid-paste}
+use Rattle.std.proofs.Math.Seq.{length-sets, set_out}
+use borrow.Rule.Slice.PartMut.{put_mid}
 use Rattle.putting.specs.Put.{Put, Putting}
 
 sets_then : (v w l : List ℕ) (at : ℕ) → sets l at (v ++ w) ≡ sets (sets l at v) (at + length v) w
@@ -52,6 +57,46 @@ module _ (l v after : List ℕ) (z : ℕ) (p : Put l 0 v after z) (h : z ≤ len
   put-taken =
       let e : length v ≡ z = omega (arith, p.ends) in
       rw put_front (take_at v (drop (length v) l) z e)
+
+-- ---- a word of which a buffer takes what it has room for
+
+sets-past : (w l : List ℕ) (at : ℕ) → length l ≤ at → sets l at w ≡ l
+sets-past [] l at h = refl
+sets-past (b ∷ w) l at h = rw (set_out l at b h) (sets-past w l (suc at) (omega arith))
+
+-- the first n bytes of w: all, or as many as there is room for
+sets-front : (l w : List ℕ) (at n : ℕ) → n ≤ length w → (n ≡ length w) ⊎ (length l ≤ at + n) → sets l at w ≡ sets l at (take n w)
+sets-front l w at n h (inl e) = ap (sets l at) (sym (take_all n w (omega arith)))
+sets-front l w at n h (inr e) =
+    ap (sets l at) (sym (take-append-drop n w))
+    ∙ sets_then (take n w) (drop n w) l at
+    ∙ sets-past (drop n w) (sets l at (take n w)) (at + length (take n w)) (omega (arith, length-sets l at (take n w), length-take-le n w h))
+
+-- no byte is stored anywhere
+sets-none : (l w : List ℕ) (at from n : ℕ) → (n ≡ 0) ⊎ (from ≡ at) → sets l at (take n w) ≡ sets l from (take n w)
+sets-none l w at from n (inl e) = rw e
+sets-none l w at from n (inr e) = rw e
+
+sets-part : (l v : List ℕ) (from : ℕ) → from + length v ≤ length l → sets l from v ≡ put_mid from (length v) l v
+sets-part l v from h =
+    sets-eq v l from h
+    ∙ ap (λ (x : List ℕ). take from l ++ x ++ drop (from + length v) l) (sym (take_all (length v) v (omega arith)))
+    ∙ sym (put_mid-paste from (length v) l v v (length v) refl refl refl)
+
+module _ {l w : List ℕ} {at from n : ℕ} (h : n ≤ length w) (f : from + n ≤ length l) (p : (n ≡ 0) ⊎ (from ≡ at)) (r : (n ≡ length w) ⊎ (length l ≤ at + n)) where
+  pub put-part : {mid : List ℕ} {k z : ℕ} → mid ≡ take n w → k ≡ n → z ≡ at + length w → Put l at w (put_mid from k l mid) z
+  put-part m e q =
+      let t : length (take n w) ≡ n = length-take-le n w h in
+      let u : sets l from (take n w) ≡ put_mid from (length (take n w)) l (take n w) = sets-part l (take n w) from (omega (arith, t)) in
+      record { stored = rw (m, e) (rw t at (sym (sets-front l w at n h r ∙ sets-none l w at from n p ∙ u))); ends = q }
+
+-- how much of m bytes from `at` on there is room for among z, and from where
+module _ (z at m from n : ℕ) (f : from ≡ min at z) (e : n ≡ min m (z - from)) where
+  pub room-part : (n ≡ 0) ⊎ (from ≡ at)
+  room-part = elim (cases_lt at z) [ inl h ↦ inr (omega (arith, f)) | inr h ↦ inl (omega (arith, f, e)) ]
+
+  pub room_word : (n ≡ m) ⊎ (z ≤ at + n)
+  room_word = elim (cases_lt m (z - from)) [ inl h ↦ inl (omega (arith, e)) | inr h ↦ inr (omega (arith, f, e)) ]
 
 -- ---- a run
 

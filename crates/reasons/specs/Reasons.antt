@@ -4,10 +4,10 @@
 --   reason_of k             the sentence of refusal number k
 --   reason_asked k room     the same into a buffer of `room` bytes: 13 where there is no refusal of that number
 --   SaysAs k r old m       the sentence of k is given as r, and leaves the buffer `old` as m
-use Rattle.std.specs.Prelude.{ℕ, ◌-◌, List, [], ◌∷◌, ltb, eqb, length, get_or, if◌then◌else◌}
+use Rattle.std.specs.Prelude.{ℕ, ◌-◌, List, [], ◌∷◌, ltb, eqb, length, get_or, if◌then◌else◌, Result}
 use Rattle.trees.specs.Plain.{Answer, refused, bytes}
 use Rattle.trees.specs.Questions.{if_room}
-use Rattle.answers.specs.declared.Number.{Number}
+use Rattle.answers.specs.declared.Refusal.{Refusal}
 use Rattle.answers.specs.Filled.{FilledAs}
 
 -- the numbers of documents 01 and 02, in their order
@@ -49,5 +49,5 @@ unfoldable pub reason_asked : ℕ → ℕ → Answer (List ℕ)
 unfolding reason_of if_room
 reason_asked k room = if eqb k 0 then refused 13 else (if ltb 25 k then refused 13 else if_room room (reason_of k))
 
-abbrev pub SaysAs : ℕ → Number → List ℕ → List ℕ → Type 0
+abbrev pub SaysAs : ℕ → Result ℕ Refusal → List ℕ → List ℕ → Type 0
 SaysAs k r old m = FilledAs (if_room (length old) (reason_of k)) r old m

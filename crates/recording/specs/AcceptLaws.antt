@@ -4,7 +4,7 @@
 --   refuses                         a refusal that changes nothing
 --   trees-in, rows_in               what listing the tree asks
 --   records                         the tree is recorded
-use Rattle.std.specs.Prelude.{ℕ, ◌+◌, ◌*◌, ◌≤◌, ◌<◌, ◌≡◌, refl, ◌⊎◌, true, ltb, eqb, get_or, take, if◌then◌else◌}
+use Rattle.std.specs.Prelude.{ℕ, ◌+◌, ◌*◌, ◌≤◌, ◌<◌, ◌≡◌, refl, ◌⊎◌, true, ltb, eqb, get_or, take, if◌then◌else◌, Result, Option}
 use Rattle.std.proofs.Common.{arith, sym, ◌∙◌, subst, inl, inr, length-take-le, get_or-take, ext_get_or, lt-ltb, le-ltb, eq-eqb, ne_eqb}
 use Rattle.std.proofs.Math.Path.{ap, ap₂}
 use mathlib.Core.List.{List, ◌++◌, map}
@@ -20,7 +20,6 @@ use Rattle.trees.specs.Whole.{rising, good_tree}
 use Rattle.theorems.specs.ListLaws.{and_left, and_right, Mem, mem-member, less-or-not, mem-get_d}
 use Rattle.theorems.specs.LackingLaws.{lacking-mem}
 use Rattle.theorems.specs.RisingLaws.{rising-true}
-use Rattle.answers.specs.declared.Progress.{Progress}
 use Rattle.answers.specs.Answers.{progress_given}
 use Rattle.records.specs.Records.{masks_of}
 use Rattle.records.specs.RecordLaws.{masks-length, masks-at}
@@ -42,6 +41,8 @@ use Rattle.recording.specs.ListSoundLaws.{list_counted, list-sound, list_held}
 use Rattle.recording.specs.Recording.{SplitsOf, lengths_given, LengthsOf, tree_given, new_in, Stands, RowsOf, Grown, Accepts}
 use Rattle.recording.specs.NewLaws.{mem-mask, stands-new}
 use Rattle.recording.specs.GrownLaws.{grown-head}
+use Rattle.answers.specs.declared.Refusal.{Refusal}
+use Rattle.answers.specs.declared.Tree.{Tree}
 
 -- ---- the verdict
 
@@ -62,7 +63,7 @@ module _ (s : List ℕ) (b : Branches) (w : whole_at s ≡ true) where
     room-enough : splits_held_at s + length (new_in (parts_at s) b.splits) ≤ (numbers_at s).split_room → room_for (held_at s) b ≡ gives b
     room-enough h = room ∙ rw (ne_eqb _ _ d, le-ltb _ _ h)
 
-pub refuses : (a : Answer Branches) (s : List ℕ) (r : Progress) (k : ℕ) → a ≡ refused k → progress_given r ≡ refused k → Accepts a s r s
+pub refuses : (a : Answer Branches) (s : List ℕ) (r : Result (Option Tree) Refusal) (k : ℕ) → a ≡ refused k → progress_given r ≡ refused k → Accepts a s r s
 unfolding Accepts
 refuses a s r k e q = rw e (q, refl)
 
@@ -150,6 +151,6 @@ module _ (s : List ℕ) (whole : whole_at s ≡ true) (n : ℕ) (rs : List ℕ) 
           behind = λ i b. l.behind i (omega (arith, size, size-held s u g.opening)) ∙ g.behind i (omega (arith, size));
         }
 
-    pub records : (a : Progress) → progress_given a ≡ gives (accepted (trees_held_at s)) → Accepts (room_for (held_at s) (tree_given s n rs ws)) s a v
+    pub records : (a : Result (Option Tree) Refusal) → progress_given a ≡ gives (accepted (trees_held_at s)) → Accepts (room_for (held_at s) (tree_given s n rs ws)) s a v
     unfolding Accepts
     records a q = rw (room-enough s (tree_given s n rs ws) whole d room_in) (q, recorded)

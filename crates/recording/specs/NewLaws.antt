@@ -9,7 +9,7 @@
 --   Filled p rs rows j new r     r, as long as rows, has the rows of the first j records' masks, of which `new` are new
 --   filled_none                  at first there are none
 --   filled-found, filled-missing     one more
-use Rattle.std.specs.Prelude.{ℕ, zero, suc, ◌+◌, ◌-◌, ◌*◌, ◌≤◌, ◌<◌, ◌≡◌, refl, true, false, get_or, set}
+use Rattle.std.specs.Prelude.{ℕ, zero, suc, ◌+◌, ◌-◌, ◌*◌, ◌≤◌, ◌<◌, ◌≡◌, refl, true, false, get_or, set, Option, None, Some}
 use Rattle.std.proofs.Common.{add-one, arith, ap, ◌∙◌, subst, ⊎_elim, length-set, get_or-append-add, get_or-set_same, get_or-set_other}
 use Rattle.std.proofs.Math.Path.{sym}
 use Rattle.std.proofs.Math.Bool.{not}
@@ -27,8 +27,6 @@ use Rattle.layout.specs.WholeStore.{whole_at}
 use Rattle.layout.specs.WholeFacts.{whole-at-facts}
 use Rattle.layout.specs.UpToLaws.{mem-at, one_more}
 use Rattle.layout.specs.OrderLaws.{mem-masks}
-use Rattle.recording.specs.declared.finding.Found.{Found}
-use Rattle.recording.specs.declared.finding.Found.TheVariants.{Row, Nothing}
 use Rattle.recording.specs.Recording.{new_in, Stands, FoundAs, RowsOf}
 
 module _ (n : ℕ) (rs : List ℕ) where
@@ -105,7 +103,7 @@ pub filled_none : (p : Parts) (rs rows : List ℕ) → Filled p rs rows 0 0 rows
 filled_none p rs rows = record { same_length = refl; counted = sym (ap length (new_none p rs)); each = λ i h. absurd (omega arith) }
 
 module _ (s : List ℕ) (whole : whole_at s ≡ true) (rs rows : List ℕ) (j new : ℕ) (r : List ℕ) (f : Filled (parts_at s) rs rows j new r) (b : j < length rows)
-    (x : Found) (d : FoundAs (parts_at s) (get_or rs (3 * j) 0) x) (new' : ℕ) (u : List ℕ) where
+    (x : Option ℕ) (d : FoundAs (parts_at s) (get_or rs (3 * j) 0) x) (new' : ℕ) (u : List ℕ) where
   abbrev m : ℕ
   m = get_or rs (3 * j) 0
 
@@ -125,14 +123,14 @@ module _ (s : List ℕ) (whole : whole_at s ≡ true) (rs rows : List ℕ) (j ne
         (λ l. let g : i ≡ j = omega arith in rw (g, get_or-set_same r j k 0 (omega (arith, f.same_length))) y) (less-or-not i j));
   }
 
-  pub filled-found : (k : ℕ) → x ≡ Row k → u ≡ set r j k → new' ≡ new → Filled (parts_at s) rs rows (j + 1) new' u
+  pub filled-found : (k : ℕ) → x ≡ Some k → u ≡ set r j k → new' ≡ new → Filled (parts_at s) rs rows (j + 1) new' u
   unfolding FoundAs
   filled-found k e q c =
       let y : Stands (parts_at s).masks k m = rw e at d in
       let z = new-old (parts_at s) rs j (row-recorded s whole k m y.0 y.1) in
       filled_next k [] (z ∙ sym (append-nil ns)) (stands-more ((parts_at s).masks ++ ns) [] k m (stands-more (parts_at s).masks ns k m y)) q (omega arith)
 
-  pub filled-missing : (held : ℕ) → held ≡ splits_held_at s → x ≡ Nothing → u ≡ set r j (held + new) → new' ≡ new + 1 → Filled (parts_at s) rs rows (j + 1) new' u
+  pub filled-missing : (held : ℕ) → held ≡ splits_held_at s → x ≡ None → u ≡ set r j (held + new) → new' ≡ new + 1 → Filled (parts_at s) rs rows (j + 1) new' u
   unfolding FoundAs
   filled-missing held h e q c =
       let i : length ((parts_at s).masks ++ ns) ≡ held + new = omega (arith, length-append (parts_at s).masks ns, f.counted) in

@@ -11,7 +11,7 @@
 --   RowsOf p n rs rows   the rows of the first n records' masks, those of new ones behind the others
 --   Grown s ms u         the lent bytes u are s with the new splits ms behind the others, listed by no tree
 --   Accepts a s r t      the verdict a as to room: refused and nothing changed, or the tree recorded
-use Rattle.std.specs.Prelude.{ℕ, ◌+◌, ◌*◌, ◌≤◌, ◌<◌, ◌≡◌, true, false, List, ◌++◌, map, eqb, length, get_or, take, if◌then◌else◌}
+use Rattle.std.specs.Prelude.{ℕ, ◌+◌, ◌*◌, ◌≤◌, ◌<◌, ◌≡◌, true, false, List, ◌++◌, map, eqb, length, get_or, take, if◌then◌else◌, Result, Option, None, Some}
 use Rattle.std.proofs.Math.Option.{none, some}
 use Rattle.std.specs.Float.{binary64}
 use Rattle.std.specs.Float.Ieee.{of_bits}
@@ -23,15 +23,14 @@ use Rattle.trees.specs.Held.{with_tree, accepted}
 use Rattle.trees.specs.Whole.{good_tree, good_length}
 use Rattle.doubles.specs.Stored.{all_ones}
 use Rattle.answers.specs.Answers.{progress_given}
-use Rattle.answers.specs.declared.Progress.{Progress}
 use Rattle.records.specs.Records.{wide, masks_of}
 use Rattle.head.specs.Head.{numbers_at, second_at, opening_at}
 use Rattle.layout.specs.Store.{size_at, Parts, parts_at, masks_in, branches_of, trees_held_at, held_at, held_in, most_splits}
 use Rattle.layout.specs.WholeStore.{place_in}
 use Rattle.layout.specs.Sound.{Sound}
 use Rattle.store.specs.Lent.{Holds}
-use Rattle.recording.specs.declared.finding.Found.{Found}
-use Rattle.recording.specs.declared.finding.Found.TheVariants.{Row, Nothing}
+use Rattle.answers.specs.declared.Refusal.{Refusal}
+use Rattle.answers.specs.declared.Tree.{Tree}
 
 pub record SplitsOf (s : List ℕ) (n : ℕ) (rs : List ℕ) : Type 0 where
   pub few : n ≤ most_splits
@@ -62,9 +61,9 @@ new_in p ms = lacking ms (masks_in p)
 abbrev pub Stands : List ℕ → ℕ → ℕ → Type 0
 Stands l k m = (k < length l) × (get_or l k 0 ≡ m)
 
-unfoldable pub FoundAs : Parts → ℕ → Found → Type 0
-FoundAs p m (Row k) = Stands p.masks k m
-FoundAs p m Nothing = member m (masks_in p) ≡ false
+unfoldable pub FoundAs : Parts → ℕ → Option ℕ → Type 0
+FoundAs p m (Some k) = Stands p.masks k m
+FoundAs p m None = member m (masks_in p) ≡ false
 
 pub record RowsOf (p : Parts) (n : ℕ) (rs rows : List ℕ) : Type 0 where
   pub reach : n ≤ length rows
@@ -79,7 +78,7 @@ pub record Grown (s ms u : List ℕ) : Type 0 where
   pub size : length u ≡ length s
   pub behind : (i : ℕ) → size_at s ≤ i → get_or u i 0 ≡ get_or s i 0
 
-unfoldable pub Accepts : Answer Branches → List ℕ → Progress → List ℕ → Type 0
+unfoldable pub Accepts : Answer Branches → List ℕ → Result (Option Tree) Refusal → List ℕ → Type 0
 unfolding progress_given held_in with_tree
 Accepts (refused k) s r t = (progress_given r ≡ refused k) × (t ≡ s)
 Accepts (gives b) s r t = (progress_given r ≡ gives (accepted (trees_held_at s))) × Holds (with_tree (held_at s) b) s t

@@ -6,15 +6,8 @@ ghost use Rattle.layout.specs.Store.{parts_at};
 ghost use Rattle.layout.specs.WholeStore.{whole_at, place_in};
 ghost use Rattle.recording.specs.Recording.{SplitsOf, new_in, FoundAs, RowsOf};
 
-// The answer of a look for a split.
-#[derive(Clone, Copy)]
-pub enum Found {
-    Row(usize),
-    Nothing,
-}
-
 // The row of the split m, along its place p.
-pub(crate) fn find_row(s: &[u8], p: u64, m: u64) -> Found
+pub(crate) fn find_row(s: &[u8], p: u64, m: u64) -> Option<usize>
     requires s_value { whole_at s.now ≡ true }
     requires p_value { p ≡ place_in s.now m }
     ensures { FoundAs (parts_at s.now) m result }
@@ -23,11 +16,11 @@ pub(crate) fn find_row(s: &[u8], p: u64, m: u64) -> Found
     while entry != 0 {
         let k = entry - 1;
         if masks::is_same(rows::mask_at(s, k), m) {
-            return Found::Row(k);
+            return Some(k);
         }
         entry = rows::link_at(s, k);
     }
-    Found::Nothing
+    None
 }
 
 // The rows of the splits in the first n records, those of new ones behind the others; answers how many are new.
@@ -40,23 +33,21 @@ pub(crate) fn find_rows(s: &[u8], n: usize, records: &[u64], rows: &mut [u64]) -
 {
     let held = layout::splits_held(s);
     let mut new = 0;
-    let mut j = 0;
-    while j < n {
+    for j in 0..n {
         let found = find_row(
             s,
             records::place_of(records, j),
             records::mask_of(records, j),
         );
         match found {
-            Found::Row(k) => {
+            Some(k) => {
                 rows[j] = k as u64;
             }
-            Found::Nothing => {
+            None => {
                 rows[j] = (held + new) as u64;
                 new += 1;
             }
         }
-        j += 1;
     }
     new
 }

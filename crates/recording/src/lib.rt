@@ -12,7 +12,7 @@ ghost use Rattle.layout.specs.Store.{parts_at, splits_held_at, held_at};
 ghost use Rattle.layout.specs.WholeStore.{whole_at};
 ghost use Rattle.recording.specs.Recording.{SplitsOf, LengthsOf, tree_given, new_in, RowsOf, Accepts, Grown};
 
-use answers::{Progress, Refusal, Tree};
+use answers::{Refusal, Tree};
 
 mod adding;
 mod finding;
@@ -20,7 +20,12 @@ mod listing;
 
 // Records the tree whose splits stand in the first n records and, where lengths are kept, its lengths, unless there is no room for it
 // (11) or for its new splits (12).
-pub fn accept(s: &mut [u8], n: usize, records: &[u64], lengths: &[u64]) -> Progress
+pub fn accept(
+    s: &mut [u8],
+    n: usize,
+    records: &[u64],
+    lengths: &[u64],
+) -> Result<Option<Tree>, Refusal>
     requires s_value { whole_at s.old ≡ true }
     requires splits_of { SplitsOf s.old n records.now }
     requires lengths_of { LengthsOf s.old n lengths.now }
@@ -28,17 +33,17 @@ pub fn accept(s: &mut [u8], n: usize, records: &[u64], lengths: &[u64]) -> Progr
 {
     let trees = layout::trees_held(s);
     if trees == head::tree_room(s) as usize {
-        return Progress::Refused(Refusal::NoTreeRoom);
+        return Err(Refusal::NoTreeRoom);
     }
     let mut rows = [0u64; 64];
     let new = finding::find_rows(s, n, records, &mut rows);
     if (head::split_room(s) as usize) < layout::splits_held(s) + new {
-        return Progress::Refused(Refusal::NoSplitRoom);
+        return Err(Refusal::NoSplitRoom);
     }
     add_new(s, n, records, &rows);
     listing::put_lengths(s, n, lengths);
     listing::list_tree(s, n, &rows);
-    Progress::Accepted(Tree(trees))
+    Ok(Some(Tree(trees)))
 }
 
 // Puts in the new ones of the first n splits: those whose rows the store does not have yet.
@@ -50,8 +55,7 @@ fn add_new(s: &mut [u8], n: usize, records: &[u64], rows: &[u64])
     ensures { Grown s.old (new_in (parts_at s.old) (masks_of n records.now)) s.new }
 {
     let held = layout::splits_held(s) as u64;
-    let mut j = 0;
-    while j < n {
+    for j in 0..n {
         if held <= rows[j] {
             let m = records::mask_of(records, j);
             adding::add_split(
@@ -61,6 +65,5 @@ fn add_new(s: &mut [u8], n: usize, records: &[u64], rows: &[u64])
                 records::identifier_of(records, j),
             );
         }
-        j += 1;
     }
 }

@@ -20,10 +20,8 @@ pub(crate) fn put_lengths(s: &mut [u8], n: usize, words: &[u64])
         return;
     }
     let from = layout::lengths_from(s, Tree(layout::trees_held(s)));
-    let mut j = 0;
-    while j < n {
+    for j in 0..n {
         fields::put64(s, from + 8 * j, words[j]);
-        j += 1;
     }
 }
 
@@ -38,13 +36,11 @@ pub(crate) fn list_tree(s: &mut [u8], n: usize, rows: &[u64])
     let trees = layout::trees_held(s);
     let from = layout::tree_from(s, Tree(trees));
     let counts = layout::counts_from(s);
-    let mut j = 0;
-    while j < n {
+    for j in 0..n {
         let row = rows[j];
         let at = counts + 4 * row as usize;
         fields::put16(s, from + 2 + 2 * j, row as u16);
         fields::put32(s, at, fields::get32(s, at) + 1);
-        j += 1;
     }
     fields::put16(s, from, n as u16);
     fields::put16(s, 10, (trees + 1) as u16);

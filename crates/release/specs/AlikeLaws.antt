@@ -1,7 +1,7 @@
 -- A release sheet goes by the taxa, the names and the trees of a collection alone. Assumes nothing.
 --
 --   release-alike     collections that are alike in these give the same sheet
-use Rattle.std.specs.Prelude.{ℕ, ◌≡◌, Bool, List, [], ◌++◌, if◌then◌else◌}
+use Rattle.std.specs.Prelude.{ℕ, ◌≡◌, Bool, List, [], ◌++◌, if◌then◌else◌, Option, None, Some}
 use Rattle.std.proofs.Math.Path.{refl}
 use Rattle.std.proofs.Math.Bool.{true, false}
 use Rattle.std.proofs.Math.Dec.{ltb}
@@ -12,12 +12,12 @@ use Rattle.putting.specs.Lines.{bytes_of}
 use Rattle.sheet.specs.Sheet.{counts_line, split_line, tree_text, tree_line, majority_line, strict_line}
 use Rattle.grouping.specs.GroupLines.{group_line, group_lines, stand_in_line, stand_in_lines}
 use Rattle.drawing.specs.DrawnLines.{drawn_lines}
-use Rattle.release.specs.declared.Apart.{Apart}
-use Rattle.release.specs.declared.Apart.TheVariants as apart
 use Rattle.release.specs.declared.Wanted.{Wanted}
 use Rattle.release.specs.Release.{newick_lines, first_lines, split_lines, apart_lines, release_lines, is_taxon, release_of}
+use Rattle.answers.specs.declared.Taxon.{Taxon}
 
 -- a collection with so many taxa, these names and these trees, and nothing else
+
 abbrev bare : ℕ → List (List ℕ) → List (List ℕ) → Held
 bare taxa ns ts =
     record {
@@ -31,10 +31,10 @@ module _ (h k : Held) (e : h.opening.numbers.taxa ≡ k.opening.numbers.taxa) (f
   same : bare h.opening.numbers.taxa h.opening.names h.trees ≡ bare k.opening.numbers.taxa k.opening.names k.trees
   same = λ z. bare (e z) (f z) (g z)
 
-  taxon-alike : (a : Apart) → is_taxon h a ≡ is_taxon k a
+  taxon-alike : (a : Option Taxon) → is_taxon h a ≡ is_taxon k a
   unfolding is_taxon
-  taxon-alike apart.Nobody = refl
-  taxon-alike (apart.Of i) = λ z. ltb i.0 (e z)
+  taxon-alike None = refl
+  taxon-alike (Some i) = λ z. ltb i.0 (e z)
 
   newick-alike : newick_lines h ≡ newick_lines k
   unfolding newick_lines
@@ -49,10 +49,10 @@ module _ (h k : Held) (e : h.opening.numbers.taxa ≡ k.opening.numbers.taxa) (f
   splits-alike true = λ z. split_lines (same z) true
   splits-alike false = refl
 
-  apart-alike : (a : Apart) → apart_lines h a ≡ apart_lines k a
+  apart-alike : (a : Option Taxon) → apart_lines h a ≡ apart_lines k a
   unfolding apart_lines stand_in_line stand_in_lines
-  apart-alike apart.Nobody = refl
-  apart-alike (apart.Of i) = λ z. stand_in_lines (same z) i.0
+  apart-alike None = refl
+  apart-alike (Some i) = λ z. stand_in_lines (same z) i.0
 
   pub release-alike : (n : ℕ) (w : Wanted) (room : ℕ) → release_of h n w room ≡ release_of k n w room
   unfolding release_of release_lines

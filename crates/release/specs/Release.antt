@@ -8,7 +8,7 @@
 --   is_taxon h apart               the taxon that is asked for is one of the collection's
 --   release_of h refused w room    what is answered: 13 for stand-ins of no such taxon; 4; or the bytes of these lines
 --   release_asked s refused w room     the same of lent bytes: 1 where they are not whole
-use Rattle.std.specs.Prelude.{ℕ, Bool, true, List, [], ◌∷◌, ◌++◌, map, ltb, eqb, length, if◌then◌else◌}
+use Rattle.std.specs.Prelude.{ℕ, Bool, true, List, [], ◌∷◌, ◌++◌, map, ltb, eqb, length, if◌then◌else◌, Option, None, Some}
 use Rattle.trees.specs.Plain.{Answer, refused}
 use Rattle.trees.specs.Consensus.{recorded, strict, majority}
 use Rattle.trees.specs.Written.{written}
@@ -19,11 +19,11 @@ use Rattle.putting.specs.Lines.{line_of, bytes_of}
 use Rattle.sheet.specs.Sheet.{counts_line, split_line, majority_line, strict_line}
 use Rattle.grouping.specs.GroupLines.{group_lines, stand_in_lines}
 use Rattle.drawing.specs.DrawnLines.{drawn_lines}
-use Rattle.release.specs.declared.Apart.{Apart}
-use Rattle.release.specs.declared.Apart.TheVariants as apart
 use Rattle.release.specs.declared.Wanted.{Wanted}
+use Rattle.answers.specs.declared.Taxon.{Taxon}
 
 -- "the two trees alone, for other programs"; of no trees there are none
+
 unfoldable pub newick_lines : Held → List (List ℕ)
 unfolding line_of written majority strict
 newick_lines h =
@@ -41,19 +41,19 @@ unfolding split_line recorded
 split_lines h wanted = if wanted then map (split_line h) (recorded h.trees) else []
 
 -- "`--apart NAME`: for one strain its stand-ins"
-unfoldable pub apart_lines : Held → Apart → List (List ℕ)
+unfoldable pub apart_lines : Held → Option Taxon → List (List ℕ)
 unfolding stand_in_lines
-apart_lines h apart.Nobody = []
-apart_lines h (apart.Of i) = stand_in_lines h i.0
+apart_lines h None = []
+apart_lines h (Some i) = stand_in_lines h i.0
 
 unfoldable pub release_lines : Held → ℕ → Wanted → List (List ℕ)
 unfolding newick_lines first_lines split_lines apart_lines
 release_lines h refused-texts w =
     if w.newick then newick_lines h else first_lines h refused-texts ++ (split_lines h w.splits ++ apart_lines h w.apart)
 
-unfoldable pub is_taxon : Held → Apart → Bool
-is_taxon h apart.Nobody = true
-is_taxon h (apart.Of i) = ltb i.0 h.opening.numbers.taxa
+unfoldable pub is_taxon : Held → Option Taxon → Bool
+is_taxon h None = true
+is_taxon h (Some i) = ltb i.0 h.opening.numbers.taxa
 
 -- 13: no such taxon
 unfoldable pub release_of : Held → ℕ → Wanted → ℕ → Answer (List ℕ)

@@ -7,7 +7,7 @@
 --   taxon-nobody, taxon-of, taxon-there     whether the taxon that is asked for is one of the collection's
 --   all-newick, all-put        all lines
 --   release-missing, release-there     what is answered of a whole store
-use Rattle.std.specs.Prelude.{ℕ, ◌+◌, ◌≤◌, ◌<◌, ◌≡◌, Bool, true, false, ltb, drop}
+use Rattle.std.specs.Prelude.{ℕ, ◌+◌, ◌≤◌, ◌<◌, ◌≡◌, Bool, true, false, ltb, drop, Option, None, Some}
 use Rattle.std.proofs.Common.{arith, sym, ap, ◌∙◌}
 use Rattle.std.proofs.Math.Path.{refl}
 use mathlib.Core.List.{List, [], ◌∷◌, ◌++◌, map, flat_map, append-nil}
@@ -36,8 +36,6 @@ use Rattle.sheet.specs.LineLaws.{majority-line, strict-line}
 use Rattle.grouping.specs.GroupLines.{group_lines, stand_in_lines}
 use Rattle.grouping.specs.LineLaws.{line-more, line-end}
 use Rattle.drawing.specs.DrawnLines.{drawn_lines}
-use Rattle.release.specs.declared.Apart.{Apart}
-use Rattle.release.specs.declared.Apart.TheVariants as apart
 use Rattle.release.specs.declared.Wanted.{Wanted}
 use Rattle.release.specs.Release.{newick_lines, first_lines, split_lines, apart_lines, release_lines, is_taxon, release_of, release_asked}
 
@@ -124,25 +122,25 @@ splits-few s w = omega (arith, (whole-at-facts s w).head.splits-fit, (opening-fa
 
 -- ---- the stand-ins
 
-module _ (h : Held) {a : Apart} where
-  pub apart_none : a ≡ apart.Nobody → (l : List ℕ) (at : ℕ) → Put l at (bytes_of (apart_lines h a)) l at
+module _ (h : Held) {a : Option Taxon} where
+  pub apart_none : a ≡ None → (l : List ℕ) (at : ℕ) → Put l at (bytes_of (apart_lines h a)) l at
   apart_none q l at = put_as (sym none-are) (put-none l at)
     where
       none-are : bytes_of (apart_lines h a) ≡ []
       none-are = unfold apart_lines bytes_of flat_map in rw q
 
-  pub apart_of : {i : Taxon} {l after : List ℕ} {at e : ℕ} → a ≡ apart.Of i → Put l at (bytes_of (stand_in_lines h i.0)) after e
+  pub apart_of : {i : Taxon} {l after : List ℕ} {at e : ℕ} → a ≡ Some i → Put l at (bytes_of (stand_in_lines h i.0)) after e
       → Put l at (bytes_of (apart_lines h a)) after e
   apart_of {i} q p = put_as those-are p
     where
       those-are : bytes_of (stand_in_lines h i.0) ≡ bytes_of (apart_lines h a)
       those-are = unfold apart_lines in rw q
 
-pub taxon-nobody : (h : Held) {a : Apart} → a ≡ apart.Nobody → true ≡ is_taxon h a
+pub taxon-nobody : (h : Held) {a : Option Taxon} → a ≡ None → true ≡ is_taxon h a
 unfolding is_taxon
 taxon-nobody h q = rw q
 
-module _ (s : List ℕ) {a : Apart} {i : Taxon} (q : a ≡ apart.Of i) where
+module _ (s : List ℕ) {a : Option Taxon} {i : Taxon} (q : a ≡ Some i) where
   pub taxon-of : {n : ℕ} → n ≡ (numbers_at s).taxa → ltb i.0 n ≡ is_taxon (held_at s) a
   unfolding is_taxon
   taxon-of e = rw (q, held-numbers s, e)

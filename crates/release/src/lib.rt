@@ -13,51 +13,44 @@ ghost use Rattle.putting.specs.Put.{Put};
 ghost use Rattle.putting.specs.Lines.{bytes_of};
 ghost use Rattle.release.specs.Release.{is_taxon, release_lines, release_asked};
 
-use answers::{Number, Refusal, Taxon};
+use answers::{Refusal, Taxon};
 
 mod parts;
-
-// The taxon whose stand-ins are asked for.
-#[derive(Clone, Copy)]
-pub enum Apart {
-    Nobody,
-    Of(Taxon),
-}
 
 // What is asked for: the two trees alone, the recorded splits too, the stand-ins of a taxon too.
 #[derive(Clone, Copy)]
 pub struct Wanted {
     pub newick: bool,
     pub splits: bool,
-    pub apart: Apart,
+    pub apart: Option<Taxon>,
 }
 
 // Writes the release sheet to the front of out. `refused` texts were refused.
-pub fn write_release(s: &[u8], refused: usize, w: Wanted, out: &mut [u8]) -> Number
+pub fn write_release(s: &[u8], refused: usize, w: Wanted, out: &mut [u8]) -> Result<usize, Refusal>
     ensures { FilledAs (release_asked s.now refused w (length out.old)) result out.old out.new }
 {
     if !store::is_whole(s) {
-        return Number::Refused(Refusal::NotWhole);
+        return Err(Refusal::NotWhole);
     }
     let apart = w.apart;
     if !is_taxon(s, apart) {
-        return Number::Refused(Refusal::NoSuchNumber);
+        return Err(Refusal::NoSuchNumber);
     }
     if out.len() < sheet_length(s, refused, w) {
-        return Number::Refused(Refusal::TooShort);
+        return Err(Refusal::TooShort);
     }
     let n = put_release(s, refused, w, out);
-    Number::Gives(n)
+    Ok(n)
 }
 
 // Whether there is such a taxon, where one is asked for.
-fn is_taxon(s: &[u8], apart: Apart) -> bool
+fn is_taxon(s: &[u8], apart: Option<Taxon>) -> bool
     requires { whole_at s.now ≡ true }
     ensures { result ≡ is_taxon (held_at s.now) apart }
 {
     match apart {
-        Apart::Nobody => true,
-        Apart::Of(i) => i.0 < head::taxa(s),
+        None => true,
+        Some(i) => i.0 < head::taxa(s),
     }
 }
 

@@ -8,8 +8,7 @@ ghost use Rattle.putting.specs.Put.{Put};
 ghost use Rattle.putting.specs.Lines.{bytes_of};
 ghost use Rattle.release.specs.Release.{is_taxon, newick_lines, first_lines, split_lines, apart_lines};
 
-use crate::Apart;
-use answers::Split;
+use answers::{Split, Taxon};
 
 // Puts the two trees alone at the front of out; nothing, where there are no trees.
 pub(crate) fn put_newick(s: &[u8], out: &mut [u8]) -> usize
@@ -48,23 +47,21 @@ pub(crate) fn put_splits(s: &[u8], wanted: bool, out: &mut [u8], at: usize) -> u
     }
     let n = layout::splits_held(s);
     let mut e = at;
-    let mut k = 0;
-    while k < n {
+    for k in 0..n {
         e = sheet::put_split(s, Split(k), out, e);
-        k += 1;
     }
     e
 }
 
 // Puts a line for each stand-in of the taxon that is asked for.
-pub(crate) fn put_apart(s: &[u8], apart: Apart, out: &mut [u8], at: usize) -> usize
+pub(crate) fn put_apart(s: &[u8], apart: Option<Taxon>, out: &mut [u8], at: usize) -> usize
     requires s_value { whole_at s.now ≡ true }
     requires apart_value { is_taxon (held_at s.now) apart ≡ true }
     requires at_bound { at ≤ 1000000 }
     ensures { Put out.old at (bytes_of (apart_lines (held_at s.now) apart)) out.new result }
 {
     match apart {
-        Apart::Nobody => at,
-        Apart::Of(i) => grouping::put_stand_ins(s, i, out, at),
+        None => at,
+        Some(i) => grouping::put_stand_ins(s, i, out, at),
     }
 }

@@ -15,7 +15,6 @@ ghost use Rattle.layout.specs.WholeFacts.{HeadAt};
 ghost use Rattle.rows.specs.Rows.{RowsAt};
 
 use answers::{Split, Tree};
-use doubles::Length;
 
 // The row of split number k.
 pub fn row_of(s: &[u8], k: Split) -> usize
@@ -103,7 +102,7 @@ pub fn row_in(s: &[u8], i: Tree, from: usize, j: usize) -> usize
 }
 
 // The length of the split that stands in place j of tree i, where lengths are kept.
-pub fn length_in(s: &[u8], i: Tree, j: usize) -> Length
+pub fn length_in(s: &[u8], i: Tree, j: usize) -> Option<f64>
     requires head_at { HeadAt s.now }
     requires i_bound { i.0 < trees_held_at s.now }
     requires j_in_bounds { j < length (branches_at s.now i.0) }
@@ -125,10 +124,8 @@ pub fn copy_tree(s: &[u8], i: Tree, masks: &mut [u64])
     let from = tree_from(s, Tree(i.0));
     let first = layout::masks_from(s);
     let n = layout::number16(s, from);
-    let mut j = 0;
-    while j < n {
+    for j in 0..n {
         let row = row_in(s, Tree(i.0), from, j);
         masks[j] = fields::get64(s, first + 8 * row);
-        j += 1;
     }
 }

@@ -6,15 +6,15 @@
 --   bytes_given a, sizes_given a         of an answer of lines: their bytes; how many bytes, and how many lines
 --   PrintsAs x r old m                 the answer x is given as r, and leaves the buffer old as m
 --   refusal_asked k room                the line for a first line that is refused with k
-use Rattle.std.specs.Prelude.{ℕ, ◌-◌, ◌≡◌, List, [], ◌∷◌, ltb, length, drop, if◌then◌else◌}
+use Rattle.std.specs.Prelude.{ℕ, ◌-◌, ◌≡◌, List, [], ◌∷◌, ltb, length, drop, if◌then◌else◌, Result}
 use Rattle.trees.specs.Plain.{Answer, refused, gives}
 use Rattle.trees.specs.Questions.{if_room}
-use Rattle.answers.specs.declared.Both.{Both}
 use Rattle.answers.specs.Answers.{both_given}
 use Rattle.answers.specs.Filled.{front}
 use Rattle.store.specs.Lent.{if_whole}
 use Rattle.putting.specs.Lines.{bytes_of}
 use Rattle.sheet.specs.Sheet.{sheet_lines, refusal_line}
+use Rattle.answers.specs.declared.Refusal.{Refusal}
 
 unfoldable pub fitted : ℕ → List (List ℕ) → List (List ℕ)
 fitted room [] = []
@@ -43,7 +43,7 @@ unfolding bytes_of
 sizes_given (refused k) = refused k
 sizes_given (gives ls) = gives (length (bytes_of ls), length ls)
 
-abbrev pub PrintsAs : Answer (List (List ℕ)) → Both → List ℕ → List ℕ → Type 0
+abbrev pub PrintsAs : Answer (List (List ℕ)) → Result (ℕ × ℕ) Refusal → List ℕ → List ℕ → Type 0
 PrintsAs x r old m = (both_given r ≡ sizes_given x) × (m ≡ front (bytes_given x) old)
 
 abbrev pub refusal_asked : ℕ → ℕ → Answer (List ℕ)

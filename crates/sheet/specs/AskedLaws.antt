@@ -2,11 +2,10 @@
 --
 --   lines-whole                            lines of the sheet of a whole store
 --   refusal-put, refusal-given             the line of a refusal
-use Rattle.std.specs.Prelude.{ℕ, ◌≡◌, refl, true, List, [], ◌∷◌, ◌++◌, length}
+use Rattle.std.specs.Prelude.{ℕ, ◌≡◌, refl, true, List, [], ◌∷◌, ◌++◌, length, Result}
 use Rattle.std.proofs.Common.{sym, ap, ◌∙◌, append_assoc, append-nil}
 use Rattle.trees.specs.Plain.{bytes}
 use Rattle.trees.specs.Questions.{if_room}
-use Rattle.answers.specs.declared.Number.{Number}
 use Rattle.answers.specs.Filled.{FilledAs}
 use Rattle.answers.specs.AnswerLaws.{filled-as}
 use Rattle.layout.specs.Store.{held_at}
@@ -18,6 +17,7 @@ use Rattle.putting.specs.Lines.{spaced, fields, line_of}
 use Rattle.trees.specs.Decimal.{digits_of}
 use Rattle.sheet.specs.Sheet.{sheet_lines, refusal_line}
 use Rattle.sheet.specs.Asked.{lines_from, lines_asked, refusal_asked}
+use Rattle.answers.specs.declared.Refusal.{Refusal}
 
 -- ---- lines of the sheet
 
@@ -40,6 +40,6 @@ pub refusal-put : (k : ℕ) {l i after : List ℕ} {a z : ℕ} → Put l 0 (110 
     → Put i a (10 ∷ []) after z → Put l 0 (refusal_line k) after z
 refusal-put k p q = put_as (refusal-text (digits_of k) ∙ refusal_is k) (put_then p q)
 
-pub refusal-given : (k : ℕ) (out line : List ℕ) → line ≡ refusal_line k → (a : Number) (after : List ℕ)
+pub refusal-given : (k : ℕ) (out line : List ℕ) → line ≡ refusal_line k → (a : Result ℕ Refusal) (after : List ℕ)
     → FilledAs (if_room (length out) line) a out after → FilledAs (refusal_asked k (length out)) a out after
 refusal-given k out line e a after f = filled-as _ out _ (ap (if_room (length out)) (sym e)) a after f

@@ -13,7 +13,7 @@ use Prim.Native.Nat.{ℕ, zero, suc, ◌+◌, ◌≤◌, ◌<◌}
 use Rattle.std.proofs.Common.{add-one, sym, ◌∙◌, take_at, le-ltb}
 use native.Mathlib.Omega.{arith}
 use Rattle.std.proofs.Math.Path.{◌≡◌, refl, ap, subst}
-use Rattle.std.specs.Prelude.{Bool, eqb, get_or, take, drop, if◌then◌else◌}
+use Rattle.std.specs.Prelude.{Bool, eqb, get_or, take, drop, if◌then◌else◌, Result, Ok, Err, ℕ}
 use Rattle.std.proofs.Math.Bool.{true, false}
 use mathlib.Core.List.{List, [], ◌∷◌, ◌++◌, map, append_assoc, append-nil}
 use Rattle.std.proofs.Math.ListN.{length, length-append, get_or-append}
@@ -27,8 +27,6 @@ use Rattle.trees.specs.Whole.{good_tree}
 use Rattle.trees.specs.Questions.{if_room, if_trees, strict_of, majority_of}
 use Rattle.theorems.specs.ConsensusLaws.{strict-good, majority-good}
 use Rattle.answers.specs.declared.Refusal.{Refusal}
-use Rattle.answers.specs.declared.Number.{Number}
-use Rattle.answers.specs.declared.Number.TheVariants as number
 use Rattle.answers.specs.Answers.{number_given}
 use Rattle.answers.specs.Filled.{length_given, front}
 use Rattle.head.specs.Head.{from_to, up_to, numbers_at}
@@ -181,27 +179,27 @@ abbrev asked : Bool → List ℕ → Answer (List ℕ)
 asked b t = if b then refused 14 else gives t
 
 module _ (t old text : List ℕ) where
-  pub answer-text : (b : Bool) (r : Number) → number_given r ≡ length_given (asked b t) → text ≡ front (asked b t) old
+  pub answer-text : (b : Bool) (r : Result ℕ Refusal) → number_given r ≡ length_given (asked b t) → text ≡ front (asked b t) old
       → answer_text r text ≡ (if b then bytes "none" else t)
   unfolding number_given length_given front answer_text
-  answer-text true (number.Refused r) e f = refl
-  answer-text true (number.Gives n) e f = absurd (no-gives n 14 e)
+  answer-text true (Err r) e f = refl
+  answer-text true (Ok n) e f = absurd (no-gives n 14 e)
     where
       no-gives : (n k : ℕ) → ◌≡◌ {A = Answer ℕ} (gives n) (refused k) → ⊥
       no-gives n k e = let z : ◌≡◌ {A = ℕ} 0 1 = cc in omega arith
-  answer-text false (number.Refused r) e f = absurd (no-refused _ (length t) e)
+  answer-text false (Err r) e f = absurd (no-refused _ (length t) e)
     where
       no-refused : (k n : ℕ) → ◌≡◌ {A = Answer ℕ} (refused k) (gives n) → ⊥
       no-refused k n e = let z : ◌≡◌ {A = ℕ} 0 1 = cc in omega arith
-  answer-text false (number.Gives n) e f = let m : n ≡ length t = cc in rw (f, m) (take_at t (drop (length t) old) (length t) refl)
+  answer-text false (Ok n) e f = let m : n ≡ length t = cc in rw (f, m) (take_at t (drop (length t) old) (length t) refl)
 
-  pub answer-shown : (word : List ℕ) → length word ≤ 2000 → length t ≤ 4349 → (b : Bool) (r : Number) → number_given r ≡ length_given (asked b t) → text ≡ front (asked b t) old
+  pub answer-shown : (word : List ℕ) → length word ≤ 2000 → length t ≤ 4349 → (b : Bool) (r : Result ℕ Refusal) → number_given r ≡ length_given (asked b t) → text ≡ front (asked b t) old
       → Shown r word text
   unfolding number_given length_given front Shown
-  answer-shown word h l true (number.Refused r) e f = h
-  answer-shown word h l true (number.Gives n) e f = absurd (let z : ◌≡◌ {A = ℕ} 0 1 = cc in omega arith)
-  answer-shown word h l false (number.Refused r) e f = absurd (let z : ◌≡◌ {A = ℕ} 0 1 = cc in omega arith)
-  answer-shown word h l false (number.Gives n) e f =
+  answer-shown word h l true (Err r) e f = h
+  answer-shown word h l true (Ok n) e f = absurd (let z : ◌≡◌ {A = ℕ} 0 1 = cc in omega arith)
+  answer-shown word h l false (Err r) e f = absurd (let z : ◌≡◌ {A = ℕ} 0 1 = cc in omega arith)
+  answer-shown word h l false (Ok n) e f =
       let m : n ≡ length t = cc in
       (h, omega arith, omega (arith, ap length f, length-append t (drop (length t) old)))
 
@@ -233,7 +231,7 @@ module _ (s : List ℕ) (w : whole_at s ≡ true) where
   unfolding if_trees if_room
   tree-asked room t h l = rw (le-ltb room (length t) (omega arith))
 
-  module _ (old text : List ℕ) (h : 4349 ≤ length old) (r : Number) (splits : List ℕ) (g : good_tree (numbers_at s).taxa splits ≡ true)
+  module _ (old text : List ℕ) (h : 4349 ≤ length old) (r : Result ℕ Refusal) (splits : List ℕ) (g : good_tree (numbers_at s).taxa splits ≡ true)
       (x : Answer (List ℕ)) (q : x ≡ if_trees (held_at s) (if_room (length old) (written (held_at s).opening.names splits)))
       (e : number_given r ≡ length_given x) (f : text ≡ front x old) where
     abbrev none : Bool
@@ -258,7 +256,7 @@ module _ (s : List ℕ) (w : whole_at s ≡ true) where
         → Put l at (word ++ (tree_text (held_at s) splits ++ 10 ∷ [])) after z
     tree-put word p = put_as (ap (λ (v : List ℕ). word ++ (v ++ 10 ∷ [])) (answer-text text_of old text none r length-asked front-asked ∙ tree-text-is (held_at s) splits)) p
 
-  module _ (old text : List ℕ) (r : Number) where
+  module _ (old text : List ℕ) (r : Result ℕ Refusal) where
     majority-asked : majority_of (held_at s) (length old) ≡ if_trees (held_at s) (if_room (length old) (written (held_at s).opening.names (majority (held_at s).trees)))
     unfolding majority_of
     majority-asked = refl
@@ -291,32 +289,32 @@ module _ (s : List ℕ) (w : whole_at s ≡ true) where
 
 -- ---- a tree as it was answered
 
-module _ (r : Number) (word text : List ℕ) where
+module _ (r : Result ℕ Refusal) (word text : List ℕ) where
   pub shown-word : Shown r word text → length word ≤ 2000
   unfolding Shown
   shown-word h = go r h
     where
-      go : (q : Number) → Shown q word text → length word ≤ 2000
-      go (number.Gives n) k = k.0
-      go (number.Refused x) k = k
+      go : (q : Result ℕ Refusal) → Shown q word text → length word ≤ 2000
+      go (Ok n) k = k.0
+      go (Err x) k = k
 
   pub shown-alone : Shown r word text → Shown r [] text
   unfolding Shown
   shown-alone h = go r h
     where
-      go : (q : Number) → Shown q word text → Shown q [] text
-      go (number.Gives n) k = (omega arith, k.1, k.2)
-      go (number.Refused x) k = omega arith
+      go : (q : Result ℕ Refusal) → Shown q word text → Shown q [] text
+      go (Ok n) k = (omega arith, k.1, k.2)
+      go (Err x) k = omega arith
 
-  pub shown-fits : (n : ℕ) → r ≡ number.Gives n → Shown r word text → (n ≤ 4352) × (n ≤ length text)
+  pub shown-fits : (n : ℕ) → r ≡ Ok n → Shown r word text → (n ≤ 4352) × (n ≤ length text)
   unfolding Shown
-  shown-fits n e h = let k = subst (λ (q : Number). Shown q word text) e h in (k.1, k.2)
+  shown-fits n e h = let k = subst (λ (q : Result ℕ Refusal). Shown q word text) e h in (k.1, k.2)
 
-module _ (r : Number) (text : List ℕ) {l after : List ℕ} {at z : ℕ} where
-  pub answer-given : (n : ℕ) → r ≡ number.Gives n → Put l at (take n text) after z → Put l at (answer_text r text) after z
+module _ (r : Result ℕ Refusal) (text : List ℕ) {l after : List ℕ} {at z : ℕ} where
+  pub answer-given : (n : ℕ) → r ≡ Ok n → Put l at (take n text) after z → Put l at (answer_text r text) after z
   unfolding answer_text
-  answer-given n e p = put_as (sym (ap (λ (q : Number). answer_text q text) e)) p
+  answer-given n e p = put_as (sym (ap (λ (q : Result ℕ Refusal). answer_text q text) e)) p
 
-  pub answer-none : (q : Refusal) → r ≡ number.Refused q → Put l at (bytes "none") after z → Put l at (answer_text r text) after z
+  pub answer-none : (q : Refusal) → r ≡ Err q → Put l at (bytes "none") after z → Put l at (answer_text r text) after z
   unfolding answer_text
-  answer-none q e p = put_as (sym (ap (λ (x : Number). answer_text x text) e)) p
+  answer-none q e p = put_as (sym (ap (λ (x : Result ℕ Refusal). answer_text x text) e)) p

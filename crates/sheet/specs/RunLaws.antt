@@ -6,7 +6,7 @@
 --   fitted-first, fitted-rest      of lines: the first, where it fits; those that fit, and the others
 --   prints-refused, prints-missing, prints-short, prints-given     what is answered: a refusal, 13, 4, or the lines
 --   one-given, one-refused         what is answered of one line alone
-use Rattle.std.specs.Prelude.{ℕ, suc, ◌+◌, ◌-◌, ◌≤◌, ◌<◌, ◌≡◌, Bool, ltb, get_or, if◌then◌else◌}
+use Rattle.std.specs.Prelude.{ℕ, suc, ◌+◌, ◌-◌, ◌≤◌, ◌<◌, ◌≡◌, Bool, ltb, get_or, if◌then◌else◌, Ok, Err}
 use native.Mathlib.Omega.{arith}
 use Rattle.std.proofs.Math.Path.{refl, ap}
 use Rattle.std.proofs.Common.{sym, ◌∙◌, length-append, length-drop, drop_of_length-le, take_at, drop-drop, drop-cons, add-one, lt-ltb, le-ltb}
@@ -18,8 +18,6 @@ use Rattle.trees.specs.Plain.{Answer, refused, gives}
 use Rattle.trees.specs.Questions.{if_room}
 use Rattle.answers.specs.declared.Refusal.{Refusal}
 use Rattle.answers.specs.declared.Refusal.TheVariants as why
-use Rattle.answers.specs.declared.Number.TheVariants as number
-use Rattle.answers.specs.declared.Both.TheVariants as both
 use Rattle.answers.specs.Answers.{refusal_number, refusing, number_given, both_given}
 use Rattle.answers.specs.Filled.{length_given, front, FilledAs}
 use Rattle.answers.specs.AnswerLaws.{gives≢refused}
@@ -126,12 +124,12 @@ module _ (ls : List (List ℕ)) (from : ℕ) (old : List ℕ) where
 -- ---- what is answered
 
 module _ (x : Answer (List (List ℕ))) (old : List ℕ) where
-  pub prints-refused : (r : Refusal) → x ≡ refusing r → PrintsAs x (both.Refused r) old old
+  pub prints-refused : (r : Refusal) → x ≡ refusing r → PrintsAs x (Err r) old old
   unfolding both_given sizes_given bytes_given front
   prints-refused r e = rw e (refl, refl)
 
   module _ (ls : List (List ℕ)) (from : ℕ) (e : x ≡ lines_from ls from (length old)) where
-    pub prints-missing : length ls ≤ from → PrintsAs x (both.Refused why.NoSuchNumber) old old
+    pub prints-missing : length ls ≤ from → PrintsAs x (Err why.NoSuchNumber) old old
     unfolding lines_from refusal_number
     prints-missing h = prints-refused why.NoSuchNumber (e ∙ rw (le-ltb from (length ls) h))
 
@@ -140,37 +138,37 @@ module _ (x : Answer (List (List ℕ))) (old : List ℕ) where
       unfolding lines_from
       there = e ∙ rw (lt-ltb from (length ls) h)
 
-      pub prints-short : lines ≡ 0 → PrintsAs x (both.Refused why.TooShort) old m
+      pub prints-short : lines ≡ 0 → PrintsAs x (Err why.TooShort) old m
       prints-short z = go (fitted (length old) (drop from ls)) r.counted there r.used r.stored
         where
           go : (fs : List (List ℕ)) → lines ≡ length fs → x ≡ if_any fs → bytes ≡ length (bytes_of fs) → m ≡ bytes_of fs ++ drop bytes old
-              → PrintsAs x (both.Refused why.TooShort) old m
+              → PrintsAs x (Err why.TooShort) old m
           go [] c d u s = unfold if_any refusal_number bytes_of flat_map in rw (s, u) (prints-refused why.TooShort d)
           go (f ∷ fs) c d u s = absurd (omega arith)
 
-      pub prints-given : (lines ≡ 0 → ⊥) → PrintsAs x (both.Gives bytes lines) old m
+      pub prints-given : (lines ≡ 0 → ⊥) → PrintsAs x (Ok (bytes, lines)) old m
       prints-given z = go (fitted (length old) (drop from ls)) r.counted there r.used r.stored
         where
           go : (fs : List (List ℕ)) → lines ≡ length fs → x ≡ if_any fs → bytes ≡ length (bytes_of fs) → m ≡ bytes_of fs ++ drop bytes old
-              → PrintsAs x (both.Gives bytes lines) old m
+              → PrintsAs x (Ok (bytes, lines)) old m
           go [] c d u s = absurd (z c)
           go (f ∷ fs) c d u s = unfold if_any both_given sizes_given bytes_given front in rw d (rw (c, u) refl, s ∙ rw u refl)
 
 -- ---- one line alone
 
 module _ (old l m : List ℕ) where
-  pub one-given : (n : ℕ) → FilledAs (if_room (length old) l) (number.Gives n) old m → PrintsAs (lines_from (l ∷ []) 0 (length old)) (both.Gives n 1) old m
+  pub one-given : (n : ℕ) → FilledAs (if_room (length old) l) (Ok n) old m → PrintsAs (lines_from (l ∷ []) 0 (length old)) (Ok (n, 1)) old m
   unfolding if_room lines_from fitted if_any number_given length_given both_given sizes_given bytes_given bytes_of flat_map front
   one-given n f = go (ltb (length old) (length l)) f
     where
-      go : (b : Bool) → FilledAs (if b then refused 4 else gives l) (number.Gives n) old m → PrintsAs (if_any (if b then [] else l ∷ [])) (both.Gives n 1) old m
+      go : (b : Bool) → FilledAs (if b then refused 4 else gives l) (Ok n) old m → PrintsAs (if_any (if b then [] else l ∷ [])) (Ok (n, 1)) old m
       go true g = absurd (gives≢refused n 4 g.0)
       go false g = let e : n ≡ length l = cc in (rw (append-nil l, e) refl, g.1 ∙ rw (append-nil l) refl)
 
-  pub one-refused : (r : Refusal) → FilledAs (if_room (length old) l) (number.Refused r) old m → PrintsAs (lines_from (l ∷ []) 0 (length old)) (both.Refused r) old m
+  pub one-refused : (r : Refusal) → FilledAs (if_room (length old) l) (Err r) old m → PrintsAs (lines_from (l ∷ []) 0 (length old)) (Err r) old m
   unfolding if_room lines_from fitted if_any number_given length_given both_given sizes_given bytes_given bytes_of flat_map front
   one-refused r f = go (ltb (length old) (length l)) f
     where
-      go : (b : Bool) → FilledAs (if b then refused 4 else gives l) (number.Refused r) old m → PrintsAs (if_any (if b then [] else l ∷ [])) (both.Refused r) old m
+      go : (b : Bool) → FilledAs (if b then refused 4 else gives l) (Err r) old m → PrintsAs (if_any (if b then [] else l ∷ [])) (Err r) old m
       go true g = let e : refusal_number r ≡ 4 = cc in (ap (λ (k : ℕ). refused k) e, g.1)
       go false g = absurd (gives≢refused (length l) (refusal_number r) (sym g.0))

@@ -9,7 +9,7 @@ ghost use Rattle.putting.specs.Put.{Put};
 ghost use Rattle.sheet.specs.Sheet.{counts_line, split_line, row_line, tree_text, sheet_lines};
 ghost use Rattle.sheet.specs.Lines.{answer_text, Shown};
 
-use answers::{Number, Split, Tree};
+use answers::{Refusal, Split, Tree};
 use putting::{put_counted, put_end, put_number, put_word};
 
 // Writes line number j of the sheet to the front of out, and answers its length.
@@ -43,7 +43,7 @@ pub fn put_counts(s: &[u8], refused: usize, out: &mut [u8], at: usize) -> usize
     ensures put { Put out.old at (counts_line (held_at s.now) refused) out.new result }
     ensures upper_bound { result ≤ at + 200 }
 {
-    let taxa = head::taxa(s) as u64;
+    let taxa = u64::from(head::taxa(s));
     let trees = layout::trees_held(s) as u64;
     let splits = layout::splits_held(s) as u64;
     let a = put_counted(out, at, b"taxa ", taxa);
@@ -79,20 +79,11 @@ fn row_line(s: &[u8], i: Tree, out: &mut [u8]) -> usize
     let trees = layout::trees_held(s);
     let mut row = [0u16; 1024];
     distances::write_row(s, Tree(i.0), &mut row);
-    let mut at = put_number(out, 0, wide(row[0]));
-    let mut j = 1;
-    while j < trees {
-        at = put_counted(out, at, b" ", wide(row[j]));
-        j += 1;
+    let mut at = put_number(out, 0, u64::from(row[0]));
+    for j in 1..trees {
+        at = put_counted(out, at, b" ", u64::from(row[j]));
     }
     put_end(out, at)
-}
-
-// The same number in 64 bits.
-fn wide(x: u16) -> u64
-    ensures { (result ≡ x) × (result < 65536) }
-{
-    x as u64
 }
 
 // Puts a word, the majority tree behind it and the line's end, and answers where that is.
@@ -122,7 +113,13 @@ pub fn put_strict(s: &[u8], word: &[u8], out: &mut [u8], at: usize) -> usize
 }
 
 // Puts a word and behind it the tree that a call answered and left in `text`; none, where it refused.
-fn tree_line(out: &mut [u8], at: usize, word: &[u8], answer: Number, text: &[u8]) -> usize
+fn tree_line(
+    out: &mut [u8],
+    at: usize,
+    word: &[u8],
+    answer: Result<usize, Refusal>,
+    text: &[u8],
+) -> usize
     requires shown { Shown answer word.now text.now }
     requires at_bound { at ≤ 1000000 }
     ensures put { Put out.old at (word.now ++ (answer_text answer text.now ++ 10 ∷ [])) out.new result }
@@ -134,14 +131,14 @@ fn tree_line(out: &mut [u8], at: usize, word: &[u8], answer: Number, text: &[u8]
 }
 
 // Puts the tree that a call answered and left in `text`; none, where it refused.
-fn put_answer(out: &mut [u8], at: usize, answer: Number, text: &[u8]) -> usize
+fn put_answer(out: &mut [u8], at: usize, answer: Result<usize, Refusal>, text: &[u8]) -> usize
     requires shown { Shown answer [] text.now }
     requires at_bound { at ≤ 1002000 }
     ensures put { Put out.old at (answer_text answer text.now) out.new result }
     ensures upper_bound { result ≤ at + 4352 }
 {
     match answer {
-        Number::Gives(n) => put_word(out, at, &text[..n]),
-        Number::Refused(_) => put_word(out, at, b"none"),
+        Ok(n) => put_word(out, at, &text[..n]),
+        Err(_) => put_word(out, at, b"none"),
     }
 }

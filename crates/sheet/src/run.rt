@@ -25,8 +25,7 @@ pub(crate) fn put_lines(s: &[u8], refused: usize, from: usize, all: usize, out: 
 {
     let mut text = [0u8; 8192];
     let mut at = 0;
-    let mut j = from;
-    while j < all {
+    for j in from..all {
         let n = line::write_line(s, refused, j, &mut text);
         if out.len() - at < n {
             return Reach {
@@ -36,10 +35,9 @@ pub(crate) fn put_lines(s: &[u8], refused: usize, from: usize, all: usize, out: 
         }
         fields::copy_from(out, at, &text, 0, n);
         at += n;
-        j += 1;
     }
     Reach {
         bytes: at,
-        lines: j - from,
+        lines: all - from,
     }
 }

@@ -8,7 +8,7 @@
 --   agreed_asked s l room    the tree of the splits l, written; 23 where two of them disagree
 --   ChosenAs l r list       the splits l are found as r, and stand at the front of the list
 --   Chose least rs list k i     the first k of the list and then those from record i on are the chosen of rs; the first k agree
-use Rattle.std.specs.Prelude.{◌≡◌, ℕ, ◌+◌, ◌/◌, ◌<◌, ◌≤◌, Bool, true, List, ◌++◌, length, take, drop, nat_le, if◌then◌else◌}
+use Rattle.std.specs.Prelude.{◌≡◌, ℕ, ◌+◌, ◌/◌, ◌<◌, ◌≤◌, Bool, true, List, ◌++◌, length, take, drop, nat_le, if◌then◌else◌, Result, Ok, Err}
 use Rattle.trees.specs.Plain.{Answer, refused, keep}
 use Rattle.trees.specs.Whole.{agree_in_pairs}
 use Rattle.trees.specs.SplitFile.{Record, masks_of, strict_in, majority_in}
@@ -17,8 +17,8 @@ use Rattle.store.specs.Lent.{if_whole}
 use Rattle.consensus.specs.Consensus.{text_asked}
 use Rattle.splitfile.specs.declared.choosing.Rule.{Rule}
 use Rattle.splitfile.specs.declared.choosing.Rule.TheVariants as rule
-use Rattle.splitfile.specs.declared.choosing.Chosen.{Chosen}
-use Rattle.splitfile.specs.declared.choosing.Chosen.TheVariants as chosen
+use Rattle.answers.specs.declared.Refusal.{Refusal}
+use Rattle.answers.specs.declared.Refusal.TheVariants as why
 
 abbrev pub enough : ℕ → Record → Bool
 enough least r = nat_le least r.count
@@ -45,10 +45,10 @@ abbrev pub agreed_asked : List ℕ → List ℕ → ℕ → Answer (List ℕ)
 agreed_asked s l room = if agree_in_pairs l then text_asked s l room else refused 23
 
 -- they disagree, or are more than the list has places for
-unfoldable pub ChosenAs : List ℕ → Chosen → List ℕ → Type 0
+unfoldable pub ChosenAs : List ℕ → Result ℕ Refusal → List ℕ → Type 0
 unfolding agree_in_pairs
-ChosenAs l (chosen.Splits k) list = (take k list ≡ l) × (k ≤ length list) × (agree_in_pairs l ≡ true)
-ChosenAs l chosen.Disagreeing list = agree_in_pairs l ≡ true → length list < length l
+ChosenAs l (Ok k) list = (take k list ≡ l) × (k ≤ length list) × (agree_in_pairs l ≡ true)
+ChosenAs l (Err r) list = (r ≡ why.Disagreeing) × (agree_in_pairs l ≡ true → length list < length l)
 
 pub record Chose (least : ℕ) (rs : List Record) (list : List ℕ) (k i : ℕ) : Type 0 where
   pub all : take k list ++ chosen_in least (drop i rs) ≡ chosen_in least rs

@@ -9,7 +9,7 @@
 -- of well-formed records:
 --   least-chosen                    those that a rule chooses are those that so many trees have
 --   chosen-good                     where they agree, they are those of a tree
-use Rattle.std.specs.Prelude.{◌≡◌, ℕ, ◌+◌, ◌*◌, ◌/◌, ◌<◌, ◌≤◌, Bool, true, false, ◌⊎◌, List, [], ◌∷◌, ◌++◌, length, take, drop, ◌≢◌, nat_eq, nat_le, nat_lt, slice_set}
+use Rattle.std.specs.Prelude.{◌≡◌, ℕ, ◌+◌, ◌*◌, ◌/◌, ◌<◌, ◌≤◌, Bool, true, false, ◌⊎◌, List, [], ◌∷◌, ◌++◌, length, take, drop, ◌≢◌, nat_eq, nat_le, nat_lt, slice_set, Ok, Err}
 use Rattle.std.proofs.Common.{add-one, arith, ◌∙◌, inl, inr, true≢false, append-nil, drop_of_length-le, take-suc-set}
 use Rattle.std.proofs.Math.Path.{refl, sym, ap}
 use Rattle.std.proofs.Math.ListN.{length-append}
@@ -25,10 +25,10 @@ use Rattle.theorems.specs.MaskLaws.{Ag, ag-self, ag-sym, agree-true, true-agree}
 use Rattle.theorems.specs.SplitLaws.{pairs-at, pairs-intro}
 use Rattle.splitfile.specs.declared.choosing.Rule.{Rule}
 use Rattle.splitfile.specs.declared.choosing.Rule.TheVariants as rule
-use Rattle.splitfile.specs.declared.choosing.Chosen.TheVariants as chosen
 use Rattle.splitfile.specs.Entries.{mask_in, count_in, record_in}
 use Rattle.splitfile.specs.EntryLaws.{records-length, record-at}
 use Rattle.splitfile.specs.Choosing.{enough, chosen_in, chosen_by, least_for, ChosenAs, Chose}
+use Rattle.answers.specs.declared.Refusal.TheVariants as why
 
 -- ---- agreement
 
@@ -83,7 +83,7 @@ module _ (least n : ℕ) (f : List ℕ) where
   choose-start list = record { all = refl; agreeing = refl }
 
   module _ {list : List ℕ} {k i : ℕ} (v : Chose least rs list k i) where
-    pub choose-end : n ≤ i → k ≤ length list → ChosenAs (chosen_in least rs) (chosen.Splits k) list
+    pub choose-end : n ≤ i → k ≤ length list → ChosenAs (chosen_in least rs) (Ok k) list
     unfolding ChosenAs
     choose-end h l =
         let e : take k list ≡ chosen_in least rs = sym (append-nil (take k list)) ∙ (rw (rest_end i h) at v.all) in
@@ -97,14 +97,17 @@ module _ (least n : ℕ) (f : List ℕ) where
         taken : take k list ++ mask_in f i ∷ rest (i + 1) ≡ chosen_in least rs
         taken = rw (rest-takes i h e) at v.all
 
-        pub choose-full : k ≡ length list → ChosenAs (chosen_in least rs) chosen.Disagreeing list
+        pub choose-full : k ≡ length list → ChosenAs (chosen_in least rs) (Err why.Disagreeing) list
         unfolding ChosenAs
-        choose-full q a =
-            omega (arith, ap length taken, length-append (take k list) (mask_in f i ∷ rest (i + 1)), length-take-le k list (omega arith))
+        choose-full q = (
+          refl,
+          λ a.
+              omega (arith, ap length taken, length-append (take k list) (mask_in f i ∷ rest (i + 1)), length-take-le k list (omega arith)),
+        )
 
-        pub choose-not : (m : ℕ) → m ≡ mask_in f i → every (agree m) (take k list) ≡ false → ChosenAs (chosen_in least rs) chosen.Disagreeing list
+        pub choose-not : (m : ℕ) → m ≡ mask_in f i → every (agree m) (take k list) ≡ false → ChosenAs (chosen_in least rs) (Err why.Disagreeing) list
         unfolding ChosenAs
-        choose-not m p q a = absurd (pairs-not (take k list) m (rest (i + 1)) q (rw (p, taken) a))
+        choose-not m p q = (refl, λ a. absurd (pairs-not (take k list) m (rest (i + 1)) q (rw (p, taken) a)))
 
         pub choose-takes : (m : ℕ) → m ≡ mask_in f i → k < length list → every (agree m) (take k list) ≡ true → Chose least rs (slice_set list k m) (k + 1) (i + 1)
         choose-takes m p l q =

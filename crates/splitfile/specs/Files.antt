@@ -8,13 +8,13 @@
 --   read_given a                      how many trees a call gives that reads a file, and how many records
 --   masks_read, counts_read            the masks and the counts that it gives
 --   ReadAs x r xs ys m n             the answer x is given as r, and leaves the buffers xs and ys as m and n
-use Rattle.std.specs.Prelude.{◌≡◌, ℕ, List, length}
+use Rattle.std.specs.Prelude.{◌≡◌, ℕ, List, length, Result}
 use Rattle.trees.specs.Plain.{Answer, refused, gives}
 use Rattle.trees.specs.SplitFileCall.{Splits, file_of, reading_of, merging_of, strict_file_of, majority_file_of}
-use Rattle.answers.specs.declared.Both.{Both}
 use Rattle.answers.specs.Answers.{both_given}
 use Rattle.answers.specs.Filled.{front}
 use Rattle.store.specs.Lent.{if_whole}
+use Rattle.answers.specs.declared.Refusal.{Refusal}
 
 abbrev pub file_asked : List ℕ → ℕ → Answer (List ℕ)
 file_asked s room = if_whole s (λ h. file_of h room)
@@ -44,5 +44,5 @@ unfoldable pub counts_read : Answer Splits → Answer (List ℕ)
 counts_read (refused k) = refused k
 counts_read (gives x) = gives x.counts
 
-abbrev pub ReadAs : Answer Splits → Both → List ℕ → List ℕ → List ℕ → List ℕ → Type 0
+abbrev pub ReadAs : Answer Splits → Result (ℕ × ℕ) Refusal → List ℕ → List ℕ → List ℕ → List ℕ → Type 0
 ReadAs x r xs ys m n = (both_given r ≡ read_given x) × ((m ≡ front (masks_read x) xs) × (n ≡ front (counts_read x) ys))

@@ -1,29 +1,20 @@
 -- Whether a file is well formed, as a walk over its records finds it.
 --
---   form_given r             a form of the code, as the answer that it stands for: how many records, or 19 or 20
 --   FormAs x r              the records x that a file gives, or its refusal, are found as r
 --   counted_record t r       the record r is of t trees, and its count is from 1 to them
 --   next_record t m r        such a record, whose mask is above m and has two taxa
 --   rising_from t u m rs     the records rs are such, each above the one before and the first above m, and none has taxon 0, nor has u
-use Rattle.std.specs.Prelude.{◌≡◌, ℕ, Bool, not, ◌&&◌, List, [], ◌∷◌, ◌==◌, bit_or, count_ones, nat_le, nat_lt}
-use Rattle.trees.specs.Plain.{Answer, refused, gives}
+use Rattle.std.specs.Prelude.{◌≡◌, ℕ, Bool, not, ◌&&◌, List, [], ◌∷◌, ◌==◌, bit_or, count_ones, nat_le, nat_lt, Result}
+use Rattle.trees.specs.Plain.{Answer}
 use Rattle.trees.specs.Mask.{has}
 use Rattle.trees.specs.SplitFile.{Record}
-use Rattle.answers.specs.declared.Refusal.TheVariants as why
-use Rattle.answers.specs.Answers.{refusal_number}
+use Rattle.answers.specs.Answers.{number_given}
 use Rattle.answers.specs.Filled.{length_given}
-use Rattle.splitfile.specs.declared.form.Form.{Form}
-use Rattle.splitfile.specs.declared.form.Form.TheVariants as form
+use Rattle.answers.specs.declared.Refusal.{Refusal}
 
--- "19 length no multiple of 16, 20 record improper or out of order"
-unfoldable pub form_given : Form → Answer ℕ
-unfolding refusal_number
-form_given (form.Good n) = gives n
-form_given form.BadLength = refused (refusal_number why.BadLength)
-form_given form.BadRecord = refused (refusal_number why.BadRecord)
-
-abbrev pub FormAs : Answer (List Record) → Form → Type 0
-FormAs x r = form_given r ≡ length_given x
+-- how many records they are, or the number of the refusal
+abbrev pub FormAs : Answer (List Record) → Result ℕ Refusal → Type 0
+FormAs x r = number_given r ≡ length_given x
 
 -- "counts are from 1 to the trees", and the trees "the same in all"
 unfoldable pub counted_record : ℕ → Record → Bool

@@ -11,9 +11,9 @@
 --   formed-last, formed-rising     a last mask that is improper; else what the walk over all records finds
 -- of what is found:
 --   form-bad-length, form-bad-record, form-good     each answer
---   if-bad-length, if-bad-record, if-good     what a caller makes of each: 19, 20, or what is asked of the records
+--   if-refused, if-good     what a caller makes of each: the refusal, or what is asked of the records
 --   good_length, good-formed        so many records are all of the file, and are well formed
-use Rattle.std.specs.Prelude.{◌≡◌, ℕ, zero, suc, ◌+◌, ◌-◌, ◌*◌, ◌/◌, ◌%◌, ◌^◌, ◌<◌, ◌≤◌, Bool, true, false, not, ◌&&◌, ltb, ◌⊎◌, List, [], ◌∷◌, length, drop, ◌==◌, ◌≢◌, bit_or, count_ones, nat_eq, nat_le, nat_lt, slice_index, slice_index_or, if◌then◌else◌}
+use Rattle.std.specs.Prelude.{◌≡◌, ℕ, zero, suc, ◌+◌, ◌-◌, ◌*◌, ◌/◌, ◌%◌, ◌^◌, ◌<◌, ◌≤◌, Bool, true, false, not, ◌&&◌, ltb, ◌⊎◌, List, [], ◌∷◌, length, drop, ◌==◌, ◌≢◌, bit_or, count_ones, nat_eq, nat_le, nat_lt, slice_index, slice_index_or, if◌then◌else◌, Result, Ok, Err}
 use Rattle.std.proofs.Common.{pow-suc, mod-eq_of_lt, add-one, ◌∙◌, inl, inr, true≢false, drop_of_length-le}
 use Rattle.std.proofs.Math.Nat.{mod-eq-sub-mod, mod-le}
 use native.Mathlib.Omega.{arith}
@@ -35,7 +35,7 @@ use Rattle.theorems.specs.ProperLaws.{proper-even, proper-two, proper-most, prop
 use Rattle.theorems.specs.RisingLaws.{Rising, rising-true, true-rising}
 use Rattle.theorems.specs.SplitFileLaws.{mem-masks}
 use Rattle.answers.specs.declared.Refusal.TheVariants as why
-use Rattle.answers.specs.Answers.{refusal_number, refusing}
+use Rattle.answers.specs.Answers.{refusal_number, refusing, number_given}
 use Rattle.answers.specs.Filled.{length_given}
 use Rattle.answers.specs.AnswerLaws.{gives≢refused}
 use Rattle.masks.specs.MaskLaws.{two-less, proper-others}
@@ -45,13 +45,13 @@ use Rattle.layout.specs.Store.{held_in, held_at}
 use Rattle.store.specs.SplitLaws.{proper-some}
 use Rattle.splitfile.specs.Entries.{mask_in, count_in, trees_in, record_in}
 use Rattle.splitfile.specs.EntryLaws.{records-length, record-at, masks-length, mask_at, trees-first}
-use Rattle.splitfile.specs.declared.form.Form.{Form}
-use Rattle.splitfile.specs.declared.form.Form.TheVariants as form
-use Rattle.splitfile.specs.Form.{form_given, FormAs, counted_record, next_record, rising_from}
+use Rattle.splitfile.specs.Form.{FormAs, counted_record, next_record, rising_from}
+use Rattle.answers.specs.declared.Refusal.{Refusal}
 
 -- ---- one record
 
 -- a sum that wraps falls below both of its parts
+
 not-wrapped : (b d k w : ℕ) → d < b → k ≤ w → (d + k) % b ≡ w → d + k ≡ w
 not-wrapped b d k w l h e = go (less-or-not (d + k) b)
   where
@@ -269,17 +269,17 @@ module _ (n k : ℕ) (f : List ℕ) where
 -- ---- what is found
 
 module _ (n : ℕ) (f : List ℕ) where
-  pub form-bad-length : (length f % record_bytes ≢ 0) → FormAs (records_from n f) form.BadLength
-  unfolding records_from form_given length_given refusal_number
+  pub form-bad-length : (length f % record_bytes ≢ 0) → FormAs (records_from n f) (Err why.BadLength)
+  unfolding records_from number_given length_given refusal_number
   form-bad-length z = rw (ne_eqb (length f % record_bytes) 0 z)
 
   module _ (k : ℕ) (z : length f % record_bytes ≡ 0) (q : k ≡ length f / record_bytes) where
-    pub form-bad-record : well_formed n (records_in k f) ≡ false → FormAs (records_from n f) form.BadRecord
-    unfolding records_from form_given length_given refusal_number
+    pub form-bad-record : well_formed n (records_in k f) ≡ false → FormAs (records_from n f) (Err why.BadRecord)
+    unfolding records_from number_given length_given refusal_number
     form-bad-record w = rw (eq-eqb (length f % record_bytes) 0 z, ← q, w)
 
-    pub form-good : well_formed n (records_in k f) ≡ true → FormAs (records_from n f) (form.Good k)
-    unfolding records_from form_given length_given
+    pub form-good : well_formed n (records_in k f) ≡ true → FormAs (records_from n f) (Ok k)
+    unfolding records_from number_given length_given
     form-good w = rw (eq-eqb (length f % record_bytes) 0 z, ← q, w, records-length k f)
 
 -- ---- what a caller makes of it
@@ -294,9 +294,9 @@ module _ (n : ℕ) (f : List ℕ) where
   found = records_in (length f / record_bytes) f
 
   -- the records, where they are given
-  found-good : (k : ℕ) → FormAs (records_from n f) (form.Good k)
+  found-good : (k : ℕ) → FormAs (records_from n f) (Ok k)
       → (records_from n f ≡ gives (records_in k f)) × (record_bytes * k ≡ length f) × (well_formed n (records_in k f) ≡ true)
-  unfolding records_from form_given length_given
+  unfolding records_from number_given length_given
   found-good k e = go (length f % record_bytes == 0) (well_formed n found) refl refl e
     where
       go : (b w : Bool) → (length f % record_bytes == 0) ≡ b → well_formed n found ≡ w → gives k ≡ length_given (if b then (if w then gives found else refused 20) else refused 19)
@@ -310,14 +310,14 @@ module _ (n : ℕ) (f : List ℕ) where
       go false true z w d = absurd (gives≢refused k 19 d)
       go false false z w d = absurd (gives≢refused k 19 d)
 
-module _ (n : ℕ) (f : List ℕ) (r : Form) (q : FormAs (records_from n f) r) (k : ℕ) (d : r ≡ form.Good k) where
+module _ (n : ℕ) (f : List ℕ) (r : Result ℕ Refusal) (q : FormAs (records_from n f) r) (k : ℕ) (d : r ≡ Ok k) where
   pub good_length : record_bytes * k ≡ length f
   good_length = (found-good n f k (rw d at q)).1
 
   pub good-formed : well_formed n (records_in k f) ≡ true
   good-formed = (found-good n f k (rw d at q)).2
 
-module _ {A : Type 0} (s f : List ℕ) (make : List Record → Answer A) (n : ℕ) (e : n ≡ (numbers_at s).taxa) (r : Form) (q : FormAs (records_from n f) r) where
+module _ {A : Type 0} (s f : List ℕ) (make : List Record → Answer A) (n : ℕ) (e : n ≡ (numbers_at s).taxa) (r : Result ℕ Refusal) (q : FormAs (records_from n f) r) where
   abbrev taxa : ℕ
   taxa = (held_at s).opening.numbers.taxa
 
@@ -325,18 +325,10 @@ module _ {A : Type 0} (s f : List ℕ) (make : List Record → Answer A) (n : �
   unfolding held_in opening_at
   held-taxa x p = ap (λ (m : ℕ). records_from m f) (sym e) ∙ p
 
-  if-refused : (k : ℕ) → form_given r ≡ refused k → if_records (held_at s) f make ≡ refused k
-  unfolding if_records
-  if-refused k d = rw (held-taxa (refused k) (refused-length (records_from n f) k (sym d ∙ q)), if_records)
+  pub if-refused : (w : Refusal) → r ≡ Err w → if_records (held_at s) f make ≡ refusing w
+  unfolding if_records number_given
+  if-refused w d = rw (held-taxa (refusing w) (refused-length (records_from n f) (refusal_number w) (sym (ap number_given d) ∙ q)), if_records)
 
-  pub if-bad-length : r ≡ form.BadLength → if_records (held_at s) f make ≡ refusing why.BadLength
-  unfolding form_given
-  if-bad-length d = if-refused (refusal_number why.BadLength) (rw d)
-
-  pub if-bad-record : r ≡ form.BadRecord → if_records (held_at s) f make ≡ refusing why.BadRecord
-  unfolding form_given
-  if-bad-record d = if-refused (refusal_number why.BadRecord) (rw d)
-
-  pub if-good : (k : ℕ) → r ≡ form.Good k → if_records (held_at s) f make ≡ make (records_in k f)
+  pub if-good : (k : ℕ) → r ≡ Ok k → if_records (held_at s) f make ≡ make (records_in k f)
   unfolding if_records
   if-good k d = rw (held-taxa (gives (records_in k f)) (found-good n f k (rw d at q)).0, if_records)

@@ -4,7 +4,7 @@
 --   splits-length           as many records as there are splits
 --   split-record            record k, as it is read of split number k
 --   file-short, file-given     4 where the buffer is too short, else the file at its front
-use Rattle.std.specs.Prelude.{◌≡◌, ℕ, ◌*◌, ◌<◌, ◌≤◌, true, List, length, get_or, slice_index_or}
+use Rattle.std.specs.Prelude.{◌≡◌, ℕ, ◌*◌, ◌<◌, ◌≤◌, true, List, length, get_or, slice_index_or, Ok, Err}
 use Rattle.std.proofs.Common.{arith, sym, ◌∙◌}
 use Rattle.std.proofs.Math.Path.{ap}
 use Rattle.std.proofs.Math.ListN.{length-map, get_or-map}
@@ -13,7 +13,6 @@ use Rattle.trees.specs.Questions.{if_room}
 use Rattle.trees.specs.SplitFile.{Record, record_bytes, bytes_of, splits_of}
 use Rattle.trees.specs.SplitFileCall.{file_of}
 use Rattle.answers.specs.declared.Refusal.TheVariants as why
-use Rattle.answers.specs.declared.Number.TheVariants as number
 use Rattle.answers.specs.Filled.{FilledAs}
 use Rattle.answers.specs.AnswerLaws.{filled-short, filled-given}
 use Rattle.layout.specs.Store.{trees_held_at, splits_held_at, mask_at, count_at, order_at, split_at, held_at}
@@ -56,10 +55,10 @@ module _ (s : List ℕ) (w : whole_at s ≡ true) where
       bytes : length (bytes_of splits) ≡ record_bytes * n
       bytes = bytes-length splits ∙ rw (splits-length, e)
 
-      pub file-short : length out < record_bytes * n → FilledAs (file_asked s (length out)) (number.Refused why.TooShort) out out
+      pub file-short : length out < record_bytes * n → FilledAs (file_asked s (length out)) (Err why.TooShort) out out
       file-short h = filled-short (file_asked s (length out)) out (bytes_of splits) asked (omega (arith, bytes))
 
       pub file-given : (m : List ℕ) → record_bytes * n ≤ length out → m ≡ with_records splits out
-          → FilledAs (file_asked s (length out)) (number.Gives (record_bytes * n)) out m
+          → FilledAs (file_asked s (length out)) (Ok (record_bytes * n)) out m
       file-given m h q =
           filled-given (file_asked s (length out)) out (bytes_of splits) asked (record_bytes * n) m (sym bytes) h (rw bytes-length q)

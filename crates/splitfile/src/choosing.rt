@@ -15,10 +15,8 @@ ghost use Rattle.layout.specs.WholeStore.{whole_at};
 ghost use Rattle.splitfile.specs.Files.{strict_file_asked, majority_file_asked};
 ghost use Rattle.splitfile.specs.Choosing.{chosen_in, chosen_by, least_for, tree_asked, agreed_asked, ChosenAs};
 
-use crate::form::Form;
 use crate::{entries, form};
-use answers::{Number, Refusal};
-use writer::Text;
+use answers::Refusal;
 
 // Which splits are chosen: those of all trees, or those of more than half of them.
 #[derive(Clone, Copy)]
@@ -27,50 +25,46 @@ pub(crate) enum Rule {
     Majority,
 }
 
-// What is found when splits are chosen: so many, or that two of them disagree.
-#[derive(Clone, Copy)]
-pub(crate) enum Chosen {
-    Splits(usize),
-    Disagreeing,
-}
-
 // Writes the strict tree of a file to the front of out.
-pub fn strict_tree(s: &[u8], file: &[u8], out: &mut [u8]) -> Number
+pub fn strict_tree(s: &[u8], file: &[u8], out: &mut [u8]) -> Result<usize, Refusal>
     ensures { FilledAs (strict_file_asked s.now file.now (length out.old)) result out.old out.new }
 {
     write_by(s, file, Rule::Strict, out)
 }
 
 // Writes the majority tree of a file to the front of out.
-pub fn majority_tree(s: &[u8], file: &[u8], out: &mut [u8]) -> Number
+pub fn majority_tree(s: &[u8], file: &[u8], out: &mut [u8]) -> Result<usize, Refusal>
     ensures { FilledAs (majority_file_asked s.now file.now (length out.old)) result out.old out.new }
 {
     write_by(s, file, Rule::Majority, out)
 }
 
 // Writes the tree of the splits of a file that a rule chooses to the front of out.
-fn write_by(s: &[u8], file: &[u8], rule: Rule, out: &mut [u8]) -> Number
+fn write_by(s: &[u8], file: &[u8], rule: Rule, out: &mut [u8]) -> Result<usize, Refusal>
     ensures { FilledAs (tree_asked rule s.now file.now (length out.old)) result out.old out.new }
 {
     if !store::is_whole(s) {
-        return Number::Refused(Refusal::NotWhole);
+        return Err(Refusal::NotWhole);
     }
-    match form::form_of(file, head::taxa(s)) {
-        Form::Good(n) => write_records(s, file, n, rule, out),
-        Form::BadLength => Number::Refused(Refusal::BadLength),
-        Form::BadRecord => Number::Refused(Refusal::BadRecord),
-    }
+    let n = form::form_of(file, head::taxa(s))?;
+    write_records(s, file, n, rule, out)
 }
 
 // Writes that of a file's first n records.
-fn write_records(s: &[u8], file: &[u8], n: usize, rule: Rule, out: &mut [u8]) -> Number
+fn write_records(
+    s: &[u8],
+    file: &[u8],
+    n: usize,
+    rule: Rule,
+    out: &mut [u8],
+) -> Result<usize, Refusal>
     requires s_value { whole_at s.now ≡ true }
     requires n_in_bounds { record_bytes * n ≤ length file.now }
     requires file_value { well_formed (numbers_at s.now).taxa (records_in n file.now) ≡ true }
     ensures { FilledAs (chosen_tree (held_at s.now) (records_in n file.now) (chosen_by rule (records_in n file.now)) (length out.old)) result out.old out.new }
 {
     if n == 0 {
-        return Number::Refused(Refusal::NoTrees);
+        return Err(Refusal::NoTrees);
     }
     let least = least_count(rule, entries::known_trees(file, n));
     write_chosen(s, file, n, least, out)
@@ -87,47 +81,46 @@ fn least_count(rule: Rule, trees: u32) -> u32
 }
 
 // Writes the tree of the splits of the first n records that at least `least` trees have, unless two of them disagree.
-fn write_chosen(s: &[u8], file: &[u8], n: usize, least: u32, out: &mut [u8]) -> Number
+fn write_chosen(
+    s: &[u8],
+    file: &[u8],
+    n: usize,
+    least: u32,
+    out: &mut [u8],
+) -> Result<usize, Refusal>
     requires s_value { whole_at s.now ≡ true }
     requires n_in_bounds { record_bytes * n ≤ length file.now }
     requires file_value { well_formed (numbers_at s.now).taxa (records_in n file.now) ≡ true }
     ensures { FilledAs (agreed_asked s.now (chosen_in least (records_in n file.now)) (length out.old)) result out.old out.new }
 {
     let mut list = [0; 64];
-    match choose(file, n, least, &mut list) {
-        Chosen::Splits(k) => match writer::write_tree(s, &list, k, out) {
-            Text::Bytes(bytes) => Number::Gives(bytes),
-            Text::TooShort => Number::Refused(Refusal::TooShort),
-        },
-        Chosen::Disagreeing => Number::Refused(Refusal::Disagreeing),
-    }
+    let k = choose(file, n, least, &mut list)?;
+    writer::write_tree(s, &list, k, out).ok_or(Refusal::TooShort)
 }
 
 // Puts the splits of the first n records that at least `least` trees have at the front of the list. Where the list is full,
 // two of them disagree, as no tree over at most 64 taxa has as many.
-fn choose(file: &[u8], n: usize, least: u32, list: &mut [u64; 64]) -> Chosen
+fn choose(file: &[u8], n: usize, least: u32, list: &mut [u64; 64]) -> Result<usize, Refusal>
     requires n_in_bounds { record_bytes * n ≤ length file.now }
     requires list_len { length list.old ≡ 64 }
     ensures chosen_as { ChosenAs (chosen_in least (records_in n file.now)) result list.new }
     ensures list_len_2 { length list.new ≡ 64 }
 {
     let mut k = 0;
-    let mut i = 0;
-    while i < n {
+    for i in 0..n {
         if least <= entries::count_of(file, i) {
             let m = entries::mask_of(file, i);
             if k == 64 {
-                return Chosen::Disagreeing;
+                return Err(Refusal::Disagreeing);
             }
             if !agrees_with(m, list, k) {
-                return Chosen::Disagreeing;
+                return Err(Refusal::Disagreeing);
             }
             list[k] = m;
             k += 1;
         }
-        i += 1;
     }
-    Chosen::Splits(k)
+    Ok(k)
 }
 
 // Whether m agrees with each of the first k masks of the list.
@@ -136,12 +129,10 @@ fn agrees_with(m: u64, list: &[u64; 64], k: usize) -> bool
     requires k_bound { k ≤ 64 }
     ensures { result ≡ every (agree m) (take k list.now) }
 {
-    let mut j = 0;
-    while j < k {
+    for j in 0..k {
         if !masks::agree(m, list[j]) {
             return false;
         }
-        j += 1;
     }
     true
 }

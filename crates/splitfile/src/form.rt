@@ -9,28 +9,20 @@ ghost use Rattle.splitfile.specs.Form.{FormAs, counted_record, next_record, risi
 
 use crate::entries;
 use crate::entries::RECORD_BYTES;
-use answers::Taxon;
-
-// What a file is found to be: so many records, or which refusal.
-#[derive(Clone, Copy)]
-pub(crate) enum Form {
-    Good(usize),
-    BadLength,
-    BadRecord,
-}
+use answers::{Refusal, Taxon};
 
 // Looks through a file over so many taxa.
-pub(crate) fn form_of(file: &[u8], taxa: u32) -> Form
+pub(crate) fn form_of(file: &[u8], taxa: u32) -> Result<usize, Refusal>
     ensures { FormAs (records_from taxa file.now) result }
 {
     if file.len() % RECORD_BYTES != 0 {
-        return Form::BadLength;
+        return Err(Refusal::BadLength);
     }
     let n = file.len() / RECORD_BYTES;
     if !is_formed(file, n, taxa) {
-        return Form::BadRecord;
+        return Err(Refusal::BadRecord);
     }
-    Form::Good(n)
+    Ok(n)
 }
 
 // Whether the first n records are those of a file. As masks rise, the last alone is asked whether it is too high.
@@ -56,14 +48,12 @@ fn are_rising(file: &[u8], n: usize, trees: u32) -> bool
     let mut before = 0;
     // taxon 0 is looked for once, in all masks together
     let mut seen = 0;
-    let mut i = 0;
-    while i < n {
+    for i in 0..n {
         if !is_next(file, i, before, trees) {
             return false;
         }
         before = entries::mask_of(file, i);
         seen = masks::union_of(seen, before);
-        i += 1;
     }
     !masks::has_taxon(seen, Taxon(0))
 }
@@ -88,9 +78,9 @@ fn is_counted(file: &[u8], i: usize, trees: u32) -> bool
     requires { record_bytes * i + record_bytes ≤ length file.now }
     ensures { result ≡ counted_record trees (record_in file.now i) }
 {
-    let count = entries::count_of(file, i) as u64;
-    let of = entries::trees_of(file, i) as u64;
-    let all = trees as u64;
+    let count = u64::from(entries::count_of(file, i));
+    let of = u64::from(entries::trees_of(file, i));
+    let all = u64::from(trees);
     let least = 4294967296 * all + 1;
     std::num::wrapping_sub_u64(4294967296 * of + count, least) < all
 }

@@ -12,21 +12,21 @@ ghost use Rattle.splitfile.specs.Files.{file_asked};
 
 use crate::entries;
 use crate::entries::RECORD_BYTES;
-use answers::{Number, Refusal, Split};
+use answers::{Refusal, Split};
 
 // Writes the collection's splits as a file to the front of out.
-pub fn write_splits(s: &[u8], out: &mut [u8]) -> Number
+pub fn write_splits(s: &[u8], out: &mut [u8]) -> Result<usize, Refusal>
     ensures { FilledAs (file_asked s.now (length out.old)) result out.old out.new }
 {
     if !store::is_whole(s) {
-        return Number::Refused(Refusal::NotWhole);
+        return Err(Refusal::NotWhole);
     }
     let bytes = RECORD_BYTES * layout::splits_held(s);
     if out.len() < bytes {
-        return Number::Refused(Refusal::TooShort);
+        return Err(Refusal::TooShort);
     }
     put_splits(s, out);
-    Number::Gives(bytes)
+    Ok(bytes)
 }
 
 // Writes a record for each recorded split, in order of mask, to the front of out.
@@ -37,11 +37,9 @@ fn put_splits(s: &[u8], out: &mut [u8])
 {
     let held = layout::splits_held(s);
     let trees = layout::trees_held(s) as u32;
-    let mut k = 0;
-    while k < held {
+    for k in 0..held {
         let row = rows::row_of(s, Split(k));
         let m = rows::mask_at(s, row);
         entries::put_record(out, k, m, rows::count_at(s, row) as u32, trees);
-        k += 1;
     }
 }

@@ -1,44 +1,41 @@
 // What the program's arguments ask for. The first is its own name.
+ghost use Rattle.std.specs.Prelude.{◌≤◌};
+
 use filing::STDERR_FILENO;
 use std::rt::Env;
 
 // Which use is asked for.
-pub(crate) const NONE: u32 = 0;
-
-pub(crate) const WRITE: u32 = 1;
-
-pub(crate) const MERGE: u32 = 2;
-
-pub(crate) const SHOW: u32 = 3;
+#[derive(Clone, Copy, PartialEq, Eq)]
+pub(crate) enum Use {
+    Write,
+    Merge,
+    Show,
+}
 
 // The most arguments that a use has.
 const MOST: usize = 6;
 
-// The use that the arguments ask for.
-pub(crate) fn asked(rt: &impl Env) -> u32 {
+// The use that the arguments ask for, if any.
+pub(crate) fn asked(rt: &impl Env) -> Option<Use> {
     let mut word = io::buffer();
     let n = filing::argument(rt, 1, &mut word);
-    use_of(&word[..n], filing::arguments_within(rt, MOST + 1))
-}
-
-// The use of this word with so many arguments.
-fn use_of(word: &[u8], count: usize) -> u32 {
-    match count {
-        4 => if_same(word, b"show", SHOW),
-        5 => if_same(word, b"write", WRITE),
-        6 => if_same(word, b"merge", MERGE),
-        _ => NONE,
+    let count = filing::arguments_within(rt, MOST + 1);
+    match (count, &word[..n]) {
+        (4, b"show") => Some(Use::Show),
+        (5, b"write") => Some(Use::Write),
+        (6, b"merge") => Some(Use::Merge),
+        _ => None,
     }
 }
 
-// The use k, where the word is the one wanted.
-fn if_same(word: &[u8], wanted: &[u8], k: u32) -> u32 {
-    if filing::same(word, wanted) { k } else { NONE }
-}
-
 // Which argument names the file of names in this use. The first file stands behind it.
-pub(crate) fn names_of(kind: u32) -> usize {
-    if kind == SHOW { 2 } else { 3 }
+pub(crate) fn names_of(asked: Use) -> usize
+    ensures { result ≤ 3 }
+{
+    match asked {
+        Use::Show => 2,
+        Use::Write | Use::Merge => 3,
+    }
 }
 
 // Says on standard error how the program is used.

@@ -17,6 +17,8 @@ mod writing;
 
 ghost use Rattle.std.specs.Prelude.{◌≤◌, IfOk};
 
+use arguments::Use;
+use filing::Done;
 use std::alloc::AllocError;
 use std::process::ExitCode;
 use std::rt::{Env, Files};
@@ -32,13 +34,13 @@ const COLLECTION: usize = 1048576;
 // What cannot be done without memory is not begun.
 fn main(rt: HostRuntime) -> ExitCode {
     match run(&rt) {
-        Ok(status) => ExitCode::from(status as u8),
+        Ok(status) => ExitCode::from(status),
         Err(_) => ExitCode::from(2),
     }
 }
 
 // Lends the memory.
-fn run<R: Env + Files + Input + AllocGlobal>(rt: &R) -> Result<u32, AllocError>
+fn run<R: Env + Files + Input + AllocGlobal>(rt: &R) -> Result<u8, AllocError>
     ensures { IfOk result (λ status. status ≤ 2) }
 {
     let mut first = vec![in rt.alloc(); 0u8; LONGEST + 1]?;
@@ -69,47 +71,32 @@ pub fn splitfiles_main<R: Env + Files + Input>(
     masks: &mut [u64],
     numbers: &mut [u32],
     file: &mut [u8],
-) -> u32
+) -> u8
     ensures { result ≤ 2 }
 {
-    let kind = arguments::asked(rt);
-    let begun = beginning::begin(rt, kind, first, lent);
-    if begun.taxa == 0 {
-        return 2;
-    }
-    let n = filing::within(begun.bytes, first);
-    go_on(
-        rt,
-        kind,
-        begun.taxa,
-        &first[..n],
-        second,
-        lent,
-        masks,
-        numbers,
-        file,
-    )
+    let done = go_on(rt, first, second, lent, masks, numbers, file);
+    filing::exit_status(done)
 }
 
-// The same with an open collection and the bytes of the first file.
+// The same, and answers what was done; none, where nothing could be.
 fn go_on<R: Env + Files + Input>(
     rt: &R,
-    kind: u32,
-    taxa: u32,
-    first: &[u8],
+    first: &mut [u8],
     second: &mut [u8],
     lent: &mut [u8],
     masks: &mut [u64],
     numbers: &mut [u32],
     file: &mut [u8],
-) -> u32
-    ensures { result ≤ 2 }
-{
-    if kind == arguments::WRITE {
-        return writing::write(rt, first, lent, numbers, second);
+) -> Option<Done> {
+    let Some(asked) = arguments::asked(rt) else {
+        arguments::tell_use();
+        return None;
+    };
+    let begun = beginning::begin(rt, asked, first, lent)?;
+    let first = &first[..begun.bytes];
+    match asked {
+        Use::Write => writing::write(rt, first, lent, numbers, second),
+        Use::Merge => merging::merge(rt, first, lent, second, file),
+        Use::Show => showing::show(rt, begun.taxa, first, lent, masks, numbers),
     }
-    if kind == arguments::MERGE {
-        return merging::merge(rt, first, lent, second, file);
-    }
-    showing::show(rt, taxa, first, lent, masks, numbers)
 }

@@ -1,7 +1,6 @@
 // `splitfiles write OUT NAMES TREES`.
-ghost use Rattle.std.specs.Prelude.{◌≤◌};
-
 use crate::candidates;
+use filing::Done;
 use std::rt::{Env, Files};
 
 // The arguments.
@@ -16,16 +15,8 @@ pub(crate) fn write<R: Env + Files>(
     lent: &mut [u8],
     verdicts: &mut [u32],
     file: &mut [u8],
-) -> u32
-    ensures { result ≤ 2 }
-{
-    let status = candidates::feed_all(rt, TREES, trees, lent, verdicts);
-    if status == 2 {
-        return 2;
-    }
+) -> Option<Done> {
+    let done = candidates::feed_all(rt, TREES, trees, lent, verdicts)?;
     let answer = splitfile::write_splits(lent, file);
-    if filing::save_answer(rt, b"splitfiles", OUT, b"write", answer, file) {
-        return status;
-    }
-    2
+    filing::save_answer(rt, b"splitfiles", OUT, b"write", answer, file).then_some(done)
 }

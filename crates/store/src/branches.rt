@@ -18,12 +18,10 @@ pub(crate) fn branches_good(s: &[u8]) -> bool
         return true;
     }
     let trees = layout::trees_held(s);
-    let mut i = 0;
-    while i < trees {
+    for i in 0..trees {
         if !lengths_good(s, i) {
             return false;
         }
-        i += 1;
     }
     true
 }
@@ -38,12 +36,10 @@ fn lengths_good(s: &[u8], i: usize) -> bool
 {
     let from = layout::lengths_from(s, Tree(i));
     let n = rows::splits_in(s, Tree(i));
-    let mut j = 0;
-    while j < n {
+    for j in 0..n {
         if !doubles::holds_length(s, from + 8 * j) {
             return false;
         }
-        j += 1;
     }
     true
 }

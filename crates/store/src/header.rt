@@ -83,13 +83,11 @@ fn constants_good(s: &[u8]) -> bool
     ensures { result ≡ good_constants (numbers_at s.now) (first_at s.now) (second_at s.now) }
 {
     let taxa = head::taxa(s);
-    let places = head::places(s) as u64;
-    let mut i = 0u32;
-    while i < taxa {
+    let places = u64::from(head::places(s));
+    for i in 0u32..taxa {
         if places <= head::first_constant(s, Taxon(i)) {
             return false;
         }
-        i += 1;
     }
     true
 }

@@ -36,12 +36,10 @@ fn lists_good(s: &[u8], counts: &mut [u16; MOST_ROOM]) -> bool
 {
     let trees = layout::trees_held(s);
     let mut outer = [0; 65];
-    let mut i = 0;
-    while i < trees {
+    for i in 0..trees {
         if !list_good(s, i, &mut outer, counts) {
             return false;
         }
-        i += 1;
     }
     true
 }
@@ -69,8 +67,7 @@ fn list_good(s: &[u8], i: usize, outer: &mut [u64; 65], counts: &mut [u16; MOST_
     let mut heads = 0;
     let mut covered = 0;
     let mut last = 0;
-    let mut j = 0;
-    while j < n {
+    for j in 0..n {
         let k = rows::row_in(s, Tree(i), from, j);
         if held <= k {
             return false;
@@ -82,13 +79,12 @@ fn list_good(s: &[u8], i: usize, outer: &mut [u64; 65], counts: &mut [u16; MOST_
         if !agrees(outer, heads, covered, x) {
             return false;
         }
-        counts[k] = counts[k] + 1;
+        counts[k] += 1;
         let at = masks::lowest_taxon(x).0 as usize;
         outer[at] = x;
         heads = heads_with(heads, x);
         covered = masks::union_of(covered, x);
         last = x;
-        j += 1;
     }
     true
 }
@@ -162,16 +158,14 @@ fn counts_match(s: &[u8], counts: &[u16; MOST_ROOM]) -> bool
     ensures { result ≡ all_below (good_count s.now) (splits_held_at s.now) }
 {
     let splits = layout::splits_held(s);
-    let mut k = 0;
-    while k < splits {
+    for k in 0..splits {
         let count = rows::count_at(s, k);
         if count == 0 {
             return false;
         }
-        if count != wide16(counts[k]) {
+        if count != usize::from(counts[k]) {
             return false;
         }
-        k += 1;
     }
     true
 }
@@ -182,20 +176,11 @@ pub(crate) fn lanes_good(s: &[u8]) -> bool
     ensures { result ≡ all_below (good_lane_at s.now) (numbers_at s.now).lanes }
 {
     let lanes = head::lanes(s) as usize;
-    let mut l = 0;
-    while l < lanes {
+    for l in 0..lanes {
         let from = layout::lane_from(Lane(l));
         if RAN_OVER_OPEN < layout::number16(s, from) {
             return false;
         }
-        l += 1;
     }
     true
-}
-
-// A count as a number to compare.
-pub(crate) fn wide16(x: u16) -> usize
-    ensures { result ≡ x }
-{
-    x as usize
 }

@@ -11,7 +11,6 @@ ghost use Rattle.layout.specs.WholeFacts.{HeadAt};
 ghost use Rattle.store.specs.Splits.{good_mask, Highest};
 ghost use Rattle.store.specs.Sums.{constants_at, Sums};
 
-use crate::lists::wide16;
 use crate::sums::sum_over;
 use answers::Split;
 
@@ -37,8 +36,7 @@ fn masks_good(s: &[u8]) -> bool
     let n = head::taxa(s);
     let held = layout::splits_held(s);
     let mut last = 0u64;
-    let mut k = 0;
-    while k < held {
+    for k in 0..held {
         let row = rows::row_of(s, Split(k));
         if held <= row {
             return false;
@@ -51,7 +49,6 @@ fn masks_good(s: &[u8]) -> bool
             return false;
         }
         last = m;
-        k += 1;
     }
     true
 }
@@ -63,13 +60,11 @@ fn identifiers_good(s: &[u8], sums: &[u64; 2048]) -> bool
     ensures { result ≡ all_below (good_identifier s.now) (splits_held_at s.now) }
 {
     let held = layout::splits_held(s);
-    let mut k = 0;
-    while k < held {
+    for k in 0..held {
         let m = rows::mask_at(s, k);
         if rows::identifier_at(s, k) != sum_over(sums, m) {
             return false;
         }
-        k += 1;
     }
     true
 }
@@ -83,14 +78,12 @@ pub(crate) fn chains_good(s: &[u8], sums: &[u64; 2048]) -> bool
 {
     let held = layout::splits_held(s);
     let mut highest = [0u16; 8192];
-    let mut k = 0;
-    while k < held {
+    for k in 0..held {
         let p = place_of(s, sums, rows::mask_at(s, k));
-        if rows::link_at(s, k) != wide16(highest[p]) {
+        if rows::link_at(s, k) != usize::from(highest[p]) {
             return false;
         }
-        k += 1;
-        highest[p] = k as u16;
+        highest[p] = (k + 1) as u16;
     }
     starts_good(s, &highest)
 }
@@ -111,12 +104,10 @@ fn starts_good(s: &[u8], highest: &[u16; 8192]) -> bool
     ensures { result ≡ all_below (good_start s.now) (numbers_at s.now).places }
 {
     let n = head::places(s) as usize;
-    let mut p = 0;
-    while p < n {
-        if rows::start_at(s, p) != wide16(highest[p]) {
+    for p in 0..n {
+        if rows::start_at(s, p) != usize::from(highest[p]) {
             return false;
         }
-        p += 1;
     }
     true
 }

@@ -15,17 +15,16 @@ pub(crate) fn sum_over(sums: &[u64; 2048], m: u64) -> u64
 {
     let mut sum = 0u64;
     let mut rest = m;
-    let mut b = 0;
-    while b < 8 {
+    for b in 0..8 {
         let v = (rest % 256) as usize;
-        sum = std::num::wrapping_add_u64(sum, sums[256 * b + v]);
+        sum = sum.wrapping_add(sums[256 * b + v]);
         rest /= 256;
-        b += 1;
     }
     sum
 }
 
-// Makes the table of the second constants, or of the first, in one that is blank or has the other's. For
+// Makes the table of the second constants, or of the first, in one that is blank or has the other's: `second` says which, as in
+// `constants_at` of specs/Sums.antt. For
 // the bytes that the taxa do not reach it stays blank.
 pub(crate) fn fill_sums(s: &[u8], second: bool, sums: &mut [u64; 2048])
     requires head_at { HeadAt s.now }
@@ -34,10 +33,8 @@ pub(crate) fn fill_sums(s: &[u8], second: bool, sums: &mut [u64; 2048])
     ensures blank_2 { Blank (numbers_at s.now).taxa sums.new }
 {
     let taxa = head::taxa(s) as usize;
-    let mut b = 0;
-    while 8 * b < taxa {
+    for b in 0..taxa.div_ceil(8) {
         fill_byte(s, second, b, sums);
-        b += 1;
     }
 }
 
@@ -50,12 +47,10 @@ fn fill_byte(s: &[u8], second: bool, b: usize, sums: &mut [u64; 2048])
 {
     sums[256 * b] = 0;
     let mut width = 1;
-    let mut i = 0;
-    while i < 8 {
+    for i in 0..8 {
         let c = constant(s, second, Taxon((8 * b + i) as u32));
         double(sums, 256 * b, width, c);
         width *= 2;
-        i += 1;
     }
 }
 
@@ -65,10 +60,8 @@ fn double(sums: &mut [u64; 2048], at: usize, width: usize, c: u64)
     requires width_bound { at + 2 * width ≤ 2048 }
     ensures { Doubled at width c width sums.old sums.new }
 {
-    let mut v = 0;
-    while v < width {
-        sums[at + width + v] = std::num::wrapping_add_u64(sums[at + v], c);
-        v += 1;
+    for v in 0..width {
+        sums[at + width + v] = sums[at + v].wrapping_add(c);
     }
 }
 

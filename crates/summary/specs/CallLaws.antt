@@ -10,21 +10,15 @@
 --   finished-line, finished-texts, finished-refused     finishing
 --   refusal-past, refusal-given, refusal-short     the one line behind a refusal
 --   printed-sheet, printed-refusal     giving lines
-use Rattle.std.specs.Prelude.{ℕ, suc, ◌-◌, ◌≤◌, ◌<◌, ◌≡◌, Bool, ◌||◌, ◌&&◌, List, [], ◌∷◌, eqb, leb, length, take, drop, if◌then◌else◌}
+use Rattle.std.specs.Prelude.{ℕ, suc, ◌-◌, ◌≤◌, ◌<◌, ◌≡◌, Bool, ◌||◌, ◌&&◌, List, [], ◌∷◌, eqb, leb, length, take, drop, if◌then◌else◌, Result, Ok, Err}
 use Rattle.std.proofs.Common.{arith, ap, subst, ◌∙◌, true≢false, length-drop, take_all}
 use Rattle.std.proofs.Math.Path.{refl, sym}
 use Rattle.std.proofs.Math.Bool.{true, false}
 use Rattle.std.proofs.lemmas.Bool.{lt-leb}
 use Rattle.trees.specs.Plain.{member}
 use Rattle.trees.specs.Questions.{if_room}
-use Rattle.answers.specs.declared.Finish.{Finish}
-use Rattle.answers.specs.declared.Finish.TheVariants as finish
-use Rattle.answers.specs.declared.Number.{Number}
-use Rattle.answers.specs.declared.Number.TheVariants as number
 use Rattle.answers.specs.declared.Refusal.{Refusal}
 use Rattle.answers.specs.declared.Refusal.TheVariants as why
-use Rattle.answers.specs.declared.Both.{Both}
-use Rattle.answers.specs.declared.Both.TheVariants as both
 use Rattle.answers.specs.Answers.{refusal_number}
 use Rattle.answers.specs.Filled.{FilledAs}
 use Rattle.table.specs.Promises.{OpenedAs}
@@ -63,36 +57,36 @@ module _ (names lent : List ℕ) where
 
 -- ---- texts
 
-module _ (s : List ℕ) (n : ℕ) (q : List ℕ) (a : Number) (t : List ℕ) (f : TextsAs s n q a t) where
-  pub feeds-given : (m : ℕ) → a ≡ number.Gives m → FeedsAs s n q (summing.Texts m) t
+module _ (s : List ℕ) (n : ℕ) (q : List ℕ) (a : Result ℕ Refusal) (t : List ℕ) (f : TextsAs s n q a t) where
+  pub feeds-given : (m : ℕ) → a ≡ Ok m → FeedsAs s n q (summing.Texts m) t
   unfolding fed_state
   feeds-given m e = record { answer = a; fed = f; state = sym (ap fed_state e) }
 
-  pub feeds-refused : (w : Refusal) → a ≡ number.Refused w → FeedsAs s n q (summing.Refused w) t
+  pub feeds-refused : (w : Refusal) → a ≡ Err w → FeedsAs s n q (summing.Refused w) t
   unfolding fed_state
   feeds-refused w e = record { answer = a; fed = f; state = sym (ap fed_state e) }
 
 -- ---- the first line has ended
 
-module _ (k : Kept) (s : List ℕ) (f : Finish) (u : List ℕ) (o : OpenedAs (kept_opening k (length s)) f s u) where
-  opened-as : (g : Finish) → f ≡ g → OpenedAs (kept_opening k (length s)) g s u
-  opened-as g e = subst (λ (x : Finish). OpenedAs (kept_opening k (length s)) x s u) e o
+module _ (k : Kept) (s : List ℕ) (f : Result (Unit {0}) Refusal) (u : List ℕ) (o : OpenedAs (kept_opening k (length s)) f s u) where
+  opened-as : (g : Result (Unit {0}) Refusal) → f ≡ g → OpenedAs (kept_opening k (length s)) g s u
+  opened-as g e = subst (λ (x : Result (Unit {0}) Refusal). OpenedAs (kept_opening k (length s)) x s u) e o
 
-  pub opens-refused : (w : Refusal) → f ≡ finish.Refused w → (q : List ℕ) → OpensAs k s q (summing.Refused w) u
+  pub opens-refused : (w : Refusal) → f ≡ Err w → (q : List ℕ) → OpensAs k s q (summing.Refused w) u
   unfolding BehindAs
-  opens-refused w e q = record { answer = finish.Refused w; store = u; opens = opened-as (finish.Refused w) e; behind = (refl, refl) }
+  opens-refused w e q = record { answer = Err w; store = u; opens = opened-as (Err w) e; behind = (refl, refl) }
 
-  pub opens-done : f ≡ finish.Done → (q : List ℕ) (r : Summing) (t : List ℕ) → FeedsAs u 0 q r t → OpensAs k s q r t
+  pub opens-done : f ≡ Ok tt → (q : List ℕ) (r : Summing) (t : List ℕ) → FeedsAs u 0 q r t → OpensAs k s q r t
   unfolding BehindAs
-  opens-done e q r t g = record { answer = finish.Done; store = u; opens = opened-as finish.Done e; behind = g }
+  opens-done e q r t g = record { answer = (Ok tt); store = u; opens = opened-as (Ok tt) e; behind = g }
 
-  pub closes-refused : (w : Refusal) → f ≡ finish.Refused w → ClosesAs k s (number.Refused w) u
+  pub closes-refused : (w : Refusal) → f ≡ Err w → ClosesAs k s (Err w) u
   unfolding EndsAs
-  closes-refused w e = record { answer = finish.Refused w; store = u; opens = opened-as (finish.Refused w) e; ends = (refl, refl) }
+  closes-refused w e = record { answer = Err w; store = u; opens = opened-as (Err w) e; ends = (refl, refl) }
 
-  pub closes-done : f ≡ finish.Done → (r : Number) (t : List ℕ) → ClosedAs u 0 r t → ClosesAs k s r t
+  pub closes-done : f ≡ Ok tt → (r : Result ℕ Refusal) (t : List ℕ) → ClosedAs u 0 r t → ClosesAs k s r t
   unfolding EndsAs
-  closes-done e r t g = record { answer = finish.Done; store = u; opens = opened-as finish.Done e; ends = g }
+  closes-done e r t g = record { answer = (Ok tt); store = u; opens = opened-as (Ok tt) e; ends = g }
 
 -- ---- a piece of the first line
 
@@ -150,26 +144,26 @@ module _ (state : Summing) (names s p : List ℕ) where
 -- ---- finishing
 
 module _ (state : Summing) (names s : List ℕ) where
-  finished-by : (x : Summing) → state ≡ x → (r : Number) (t : List ℕ) → FinishSteps x names s r t → FinishedAs state names s r t
+  finished-by : (x : Summing) → state ≡ x → (r : Result ℕ Refusal) (t : List ℕ) → FinishSteps x names s r t → FinishedAs state names s r t
   finished-by x e r t c = subst (λ (y : Summing). FinishedAs y names s r t) (sym e) (finished_as x names s r t c)
 
-  pub finished-line : (line : LinePart) → state ≡ summing.Line line → (r : Number) (t : List ℕ) → ClosesAs (kept_of line names) s r t → FinishedAs state names s r t
+  pub finished-line : (line : LinePart) → state ≡ summing.Line line → (r : Result ℕ Refusal) (t : List ℕ) → ClosesAs (kept_of line names) s r t → FinishedAs state names s r t
   finished-line line e r t c = finished-by (summing.Line line) e r t (unfold FinishSteps in c)
 
-  pub finished-texts : (n : ℕ) → state ≡ summing.Texts n → (r : Number) (t : List ℕ) → ClosedAs s n r t → FinishedAs state names s r t
+  pub finished-texts : (n : ℕ) → state ≡ summing.Texts n → (r : Result ℕ Refusal) (t : List ℕ) → ClosedAs s n r t → FinishedAs state names s r t
   finished-texts n e r t c = finished-by (summing.Texts n) e r t (unfold FinishSteps in c)
 
-  pub finished-refused : (w : Refusal) → state ≡ summing.Refused w → FinishedAs state names s (number.Refused w) s
-  finished-refused w e = finished-by (summing.Refused w) e (number.Refused w) s (unfold FinishSteps in (refl, refl))
+  pub finished-refused : (w : Refusal) → state ≡ summing.Refused w → FinishedAs state names s (Err w) s
+  finished-refused w e = finished-by (summing.Refused w) e (Err w) s (unfold FinishSteps in (refl, refl))
 
 -- ---- giving lines
 
 module _ (w : Refusal) (from : ℕ) (out : List ℕ) where
-  pub refusal-past : (from ≡ 0 → ⊥) → PrintsAs (lines_from (refusal_lines w) from (length out)) (both.Refused why.NoSuchNumber) out out
+  pub refusal-past : (from ≡ 0 → ⊥) → PrintsAs (lines_from (refusal_lines w) from (length out)) (Err why.NoSuchNumber) out out
   unfolding refusal_lines
   refusal-past h = prints-missing _ out (refusal_lines w) from refl (omega (arith, h))
 
-  module _ (e : from ≡ 0) (k : ℕ) (d : k ≡ refusal_number w) (r : Number) (after : List ℕ) (f : FilledAs (refusal_asked k (length out)) r out after) where
+  module _ (e : from ≡ 0) (k : ℕ) (d : k ≡ refusal_number w) (r : Result ℕ Refusal) (after : List ℕ) (f : FilledAs (refusal_asked k (length out)) r out after) where
     -- the one line, in a buffer of its own or not at all
     abbrev line : List ℕ
     line = refusal_line (refusal_number w)
@@ -177,21 +171,21 @@ module _ (w : Refusal) (from : ℕ) (out : List ℕ) where
     one_line : FilledAs (if_room (length out) line) r out after
     one_line = subst (λ (x : ℕ). FilledAs (refusal_asked x (length out)) r out after) d f
 
-    pub refusal-given : (n : ℕ) → r ≡ number.Gives n → PrintsAs (lines_from (refusal_lines w) from (length out)) (both.Gives n 1) out after
+    pub refusal-given : (n : ℕ) → r ≡ Ok n → PrintsAs (lines_from (refusal_lines w) from (length out)) (Ok (n, 1)) out after
     unfolding refusal_lines
-    refusal-given n q = rw e (one-given out line after n (subst (λ (x : Number). FilledAs (if_room (length out) line) x out after) q one_line))
+    refusal-given n q = rw e (one-given out line after n (subst (λ (x : Result ℕ Refusal). FilledAs (if_room (length out) line) x out after) q one_line))
 
-    pub refusal-short : (x : Refusal) → r ≡ number.Refused x → PrintsAs (lines_from (refusal_lines w) from (length out)) (both.Refused x) out after
+    pub refusal-short : (x : Refusal) → r ≡ Err x → PrintsAs (lines_from (refusal_lines w) from (length out)) (Err x) out after
     unfolding refusal_lines
-    refusal-short x q = rw e (one-refused out line after x (subst (λ (y : Number). FilledAs (if_room (length out) line) y out after) q one_line))
+    refusal-short x q = rw e (one-refused out line after x (subst (λ (y : Result ℕ Refusal). FilledAs (if_room (length out) line) y out after) q one_line))
 
-module _ (answer : Number) (s : List ℕ) (from : ℕ) (r : Both) (out after : List ℕ) where
-  printed-by : (x : Number) → answer ≡ x → PrintsAs (sheet_asked x s from (length out)) r out after → PrintedAs answer s from r out after
-  printed-by x e f = subst (λ (y : Number). PrintedAs y s from r out after) (sym e) (printed-as x s from r out after f)
+module _ (answer : Result ℕ Refusal) (s : List ℕ) (from : ℕ) (r : Result (ℕ × ℕ) Refusal) (out after : List ℕ) where
+  printed-by : (x : Result ℕ Refusal) → answer ≡ x → PrintsAs (sheet_asked x s from (length out)) r out after → PrintedAs answer s from r out after
+  printed-by x e f = subst (λ (y : Result ℕ Refusal). PrintedAs y s from r out after) (sym e) (printed-as x s from r out after f)
 
-  pub printed-sheet : (n : ℕ) → answer ≡ number.Gives n → PrintsAs (lines_asked s n from (length out)) r out after → PrintedAs answer s from r out after
-  printed-sheet n e f = printed-by (number.Gives n) e (unfold sheet_asked in f)
+  pub printed-sheet : (n : ℕ) → answer ≡ Ok n → PrintsAs (lines_asked s n from (length out)) r out after → PrintedAs answer s from r out after
+  printed-sheet n e f = printed-by (Ok n) e (unfold sheet_asked in f)
 
-  pub printed-refusal : (w : Refusal) → answer ≡ number.Refused w → PrintsAs (lines_from (refusal_lines w) from (length out)) r out after
+  pub printed-refusal : (w : Refusal) → answer ≡ Err w → PrintsAs (lines_from (refusal_lines w) from (length out)) r out after
       → PrintedAs answer s from r out after
-  printed-refusal w e f = printed-by (number.Refused w) e (unfold sheet_asked in f)
+  printed-refusal w e f = printed-by (Err w) e (unfold sheet_asked in f)

@@ -6,7 +6,7 @@
 --   closed_on          the closing leaves what the sheet of the texts is of
 --   closed-never       and is not refused
 --   refused-most       the refused texts are at most one more than the bytes
-use Rattle.std.specs.Prelude.{ℕ, suc, ◌+◌, ◌≤◌, ◌<◌, true, false, length}
+use Rattle.std.specs.Prelude.{ℕ, suc, ◌+◌, ◌≤◌, ◌<◌, true, false, length, Result, Ok, Err}
 use native.Mathlib.Omega.{arith}
 use Rattle.std.proofs.Math.Path.{◌≡◌, refl, ap, subst}
 use Rattle.std.proofs.Common.{sym, ap₂, ◌∙◌}
@@ -19,8 +19,6 @@ use Rattle.trees.specs.Held.{Held, holding, Fed, opened, lane_of, with_lane, ope
 use Rattle.trees.specs.Batch.{texts_in, is_refusal, Batched, batching, refused_in, refused_after}
 use Rattle.theorems.specs.ListLaws.{keep-most}
 use Rattle.theorems.specs.PieceLaws.{set-replicate, get_d-all}
-use Rattle.answers.specs.declared.Number.{Number}
-use Rattle.answers.specs.declared.Number.TheVariants as number
 use Rattle.answers.specs.declared.Refusal.{Refusal}
 use Rattle.answers.specs.Answers.{number_given}
 use Rattle.layout.specs.Store.{held_at}
@@ -90,7 +88,7 @@ module _ (o : Opening) (v s : List ℕ) (n : ℕ) (g : FedSoFar o v s n) where
         ap (λ (k : ℕ). capped (k + refused_in b.verdicts)) g.count ∙ capped-more (refused_in (all_fed o v).verdicts) (refused_in b.verdicts)
         ∙ ap capped (sym (refused-append (all_fed o v).verdicts b.verdicts)) ∙ ap (λ (y : Batched). capped (refused_in y.verdicts)) (sym both)
 
-    texts-on : (m : ℕ) (u : List ℕ) → TextsAs s n p (number.Gives m) u → FedSoFar o (v ++ p) u m
+    texts-on : (m : ℕ) (u : List ℕ) → TextsAs s n p (Ok m) u → FedSoFar o (v ++ p) u m
     unfolding joined number_given
     texts-on m u q =
         let x = q.holds g.whole in
@@ -98,16 +96,16 @@ module _ (o : Opening) (v s : List ℕ) (n : ℕ) (g : FedSoFar o v s n) where
         let f : m ≡ capped (n + refused_in b.verdicts) = cc e in
         record { whole = x.whole; held = x.held ∙ ap (λ (y : Batched). y.after) (sym both); count = f ∙ both-refused }
 
-    texts-never : (w : Refusal) (u : List ℕ) → TextsAs s n p (number.Refused w) u → ⊥
+    texts-never : (w : Refusal) (u : List ℕ) → TextsAs s n p (Err w) u → ⊥
     unfolding number_given
     texts-never w u q = let e = q.answer ∙ counted s n p g.whole in let z : ◌≡◌ {A = ℕ} 0 1 = cc e in omega arith
 
     pub feeds-on : (r : Summing) (t : List ℕ) → FeedsAs s n p r t → (m : ℕ) × (r ≡ summing.Texts m) × FedSoFar o (v ++ p) t m
     feeds-on r t f = go f.answer f.state f.fed
       where
-        go : (a : Number) → r ≡ fed_state a → TextsAs s n p a t → (m : ℕ) × (r ≡ summing.Texts m) × FedSoFar o (v ++ p) t m
-        go (number.Gives m) e q = unfold fed_state in (m, e, texts-on m t q)
-        go (number.Refused w) e q = absurd (texts-never w t q)
+        go : (a : Result ℕ Refusal) → r ≡ fed_state a → TextsAs s n p a t → (m : ℕ) × (r ≡ summing.Texts m) × FedSoFar o (v ++ p) t m
+        go (Ok m) e q = unfold fed_state in (m, e, texts-on m t q)
+        go (Err w) e q = absurd (texts-never w t q)
 
 -- ---- how many texts are refused
 
@@ -142,7 +140,7 @@ module _ (o : Opening) (v s : List ℕ) (n : ℕ) (g : FedSoFar o v s n) where
       ∙ ap gives (ap₂ (λ (k : ℕ) (h : Held). capped (refused_after k (closing h 0).answer)) g.count g.held
       ∙ capped-after (refused_in (all_fed o v).verdicts) (closing (all_fed o v).after 0).answer)
 
-  pub closed_on : (m : ℕ) (t : List ℕ) → ClosedAs s n (number.Gives m) t
+  pub closed_on : (m : ℕ) (t : List ℕ) → ClosedAs s n (Ok m) t
       → (whole_at t ≡ true) × (held_at t ≡ (closing (all_fed o v).after 0).after) × (m ≡ capped (refused_texts o v))
   unfolding number_given
   closed_on m t c =
@@ -151,6 +149,6 @@ module _ (o : Opening) (v s : List ℕ) (n : ℕ) (g : FedSoFar o v s n) where
       let f : m ≡ capped (refused_texts o v) = cc e in
       (x.whole, x.held ∙ ap (λ (h : Held). (closing h 0).after) g.held, f)
 
-  pub closed-never : (w : Refusal) (t : List ℕ) → ClosedAs s n (number.Refused w) t → ⊥
+  pub closed-never : (w : Refusal) (t : List ℕ) → ClosedAs s n (Err w) t → ⊥
   unfolding number_given
   closed-never w t c = let e = c.answer ∙ closed-count in let z : ◌≡◌ {A = ℕ} 0 1 = cc e in omega arith

@@ -6,7 +6,7 @@
 --   opened_out, opened-kept, opened-names     what each return of the code promises
 --   enough-lent                        with 22,024 lent bytes or more, the opening is that of the summary
 --   two-or-three                       a first line that is refused then is refused with 2 or 3
-use Rattle.std.specs.Prelude.{ℕ, zero, suc, ◌+◌, ◌≤◌, ◌<◌, ◌≡◌, ◌⊎◌, Bool, true, false, ◌&&◌, List, ◌∷◌, ◌++◌, length, set, take, drop, if◌then◌else◌}
+use Rattle.std.specs.Prelude.{ℕ, zero, suc, ◌+◌, ◌≤◌, ◌<◌, ◌≡◌, ◌⊎◌, Bool, true, false, ◌&&◌, List, ◌∷◌, ◌++◌, length, set, take, drop, if◌then◌else◌, Result, Err}
 use Rattle.std.proofs.Common.{add-one, arith, sym, ap, subst, ◌∙◌, inl, inr, append-nil, drop_of_length-le, take_all}
 use Rattle.std.proofs.Math.Path.{refl}
 use borrow.Author.Tests.{le-leb, lt-leb}
@@ -14,8 +14,6 @@ use Rattle.theorems.specs.ListLaws.{less-or-not}
 use Rattle.trees.specs.Plain.{Answer, refused, gives}
 use Rattle.trees.specs.Names.{names_in, good_names, name_count}
 use Rattle.trees.specs.Opening.{Opening, store_size, between, in_range, good_constants, opening}
-use Rattle.answers.specs.declared.Finish.{Finish}
-use Rattle.answers.specs.declared.Finish.TheVariants as finish
 use Rattle.answers.specs.declared.Refusal.TheVariants as why
 use Rattle.answers.specs.Answers.{refusal_number}
 use Rattle.answers.specs.FrontLaws.{copied_more, copied_all}
@@ -28,6 +26,7 @@ use Rattle.answers.specs.FrontLaws.{copied_more, copied_all}
 use Rattle.table.specs.OpenLaws.{not-in-range, refused_as}
 use Rattle.summary.specs.Summary.{summary_numbers, first_constant, second_constant, names_opening, summary_opening, summary_bytes}
 use Rattle.summary.specs.FirstLine.{Kept, kept_opening}
+use Rattle.answers.specs.declared.Refusal.{Refusal}
 
 -- ---- constants
 
@@ -66,7 +65,7 @@ many-names n list lent h =
     outside : between 4 64 (summary_numbers n).taxa ≡ false
     outside = unfold summary_numbers in rw (le-leb 4 n (omega arith), lt-leb n 64 h)
 
-pub opened_out : (k : Kept) (lent : ℕ) (s : List ℕ) → 63 < k.spaces → OpenedAs (kept_opening k lent) (finish.Refused why.OutOfRange) s s
+pub opened_out : (k : Kept) (lent : ℕ) (s : List ℕ) → 63 < k.spaces → OpenedAs (kept_opening k lent) (Err why.OutOfRange) s s
 unfolding refusal_number
 opened_out k lent s h = refused_as (kept_opening k lent) 2 why.OutOfRange s many refl
   where
@@ -87,10 +86,10 @@ module _ (k : Kept) (lent m n : ℕ) (e : n ≡ k.spaces + 1) (a : m ≤ k.used)
       kept-names : kept_opening k lent ≡ names_opening (suc k.spaces) (take k.used k.bytes) lent
       kept-names = unfold kept_opening in refl
 
-  pub opened-kept : (r : Finish) (s t : List ℕ) → OpenedAs (names_opening n (take m k.bytes) lent) r s t → OpenedAs (kept_opening k lent) r s t
+  pub opened-kept : (r : Result (Unit {0}) Refusal) (s t : List ℕ) → OpenedAs (names_opening n (take m k.bytes) lent) r s t → OpenedAs (kept_opening k lent) r s t
   opened-kept r s t p = subst (λ (x : Answer Opening). OpenedAs x r s t) kept-is p
 
-pub opened-names : (n lent : ℕ) (list first second : List ℕ) (r : Finish) (s t : List ℕ) → n ≤ 64 → first ≡ up_to first_constant 64 → second ≡ up_to second_constant 64
+pub opened-names : (n lent : ℕ) (list first second : List ℕ) (r : Result (Unit {0}) Refusal) (s t : List ℕ) → n ≤ 64 → first ≡ up_to first_constant 64 → second ≡ up_to second_constant 64
     → OpenedAs (opening (numbers_of n 1 48 256 512 false) list (take n first) (take n second) lent) r s t → OpenedAs (names_opening n list lent) r s t
 opened-names n lent list first second r s t h e f p = subst (λ (x : Answer Opening). OpenedAs x r s t) same p
   where

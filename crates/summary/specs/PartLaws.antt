@@ -11,7 +11,7 @@
 --   texts-size                       the lent bytes stay as many
 --   Rest ..                          part after part: what is left of the piece decides
 --   rest-none, rest_more, rest-refused, rest-last     no part yet, one more, a refusal, and the last
-use Rattle.std.specs.Prelude.{ℕ, suc, ◌+◌, ◌-◌, ◌≤◌, ◌<◌, Bool, List, [], ◌∷◌, ◌++◌, get_or, drop, if◌then◌else◌}
+use Rattle.std.specs.Prelude.{ℕ, suc, ◌+◌, ◌-◌, ◌≤◌, ◌<◌, Bool, List, [], ◌∷◌, ◌++◌, get_or, drop, if◌then◌else◌, Result, Ok, Err}
 use Rattle.std.proofs.Common.{arith, subst, ◌∙◌, true≢false, length-drop, take-append-drop, take_at, take_all, drop-drop}
 use Rattle.std.proofs.Math.Path.{◌≡◌, refl, sym, ap}
 use Rattle.std.proofs.Math.Bool.{true, false}
@@ -23,8 +23,6 @@ use Rattle.trees.specs.Text.{turned, ends_text, open_after}
 use Rattle.trees.specs.Held.{Held, lane_of, open_in}
 use Rattle.trees.specs.Batch.{texts_in, is_refusal, Batched, batching, batch, refused_in}
 use Rattle.theorems.specs.ListLaws.{keep_append}
-use Rattle.answers.specs.declared.Number.{Number}
-use Rattle.answers.specs.declared.Number.TheVariants as number
 use Rattle.answers.specs.declared.Refusal.{Refusal}
 use Rattle.answers.specs.Answers.{refusal_number, number_given}
 use Rattle.text.specs.EndLaws.{texts-append}
@@ -66,7 +64,7 @@ module _ (s : List ℕ) (n : ℕ) (p : List ℕ) (e : whole_at s ≡ false) wher
   unfolding texts_count refusal_number
   not-counted = not-whole s (λ h. gives (capped (n + refused_in (texts_fed h p).verdicts))) e
 
-  texts-not-whole : (r : Number) (t : List ℕ) → number_given r ≡ refused 1 → t ≡ s → TextsAs s n p r t
+  texts-not-whole : (r : Result ℕ Refusal) (t : List ℕ) → number_given r ≡ refused 1 → t ≡ s → TextsAs s n p r t
   texts-not-whole r t a f = record {
     answer = a ∙ sym not-counted;
     found = λ g. f;
@@ -89,20 +87,20 @@ module _ (s p : List ℕ) (room : ℕ) (e : room ≡ part) (few : length p ≤ p
   unfolding refusal_number
   batch-refused w = not-whole s (λ h. batch h 0 p room) w
 
-  module _ (n : ℕ) (r : Number) (v t w : List ℕ) (b : BatchedAs (batch_of s 0 p room) 0 r s v t w) where
-    pub part-refused : (k : Refusal) → r ≡ number.Refused k → TextsAs s n p (number.Refused k) t
+  module _ (n : ℕ) (r : Result ℕ Refusal) (v t w : List ℕ) (b : BatchedAs (batch_of s 0 p room) 0 r s v t w) where
+    pub part-refused : (k : Refusal) → r ≡ Err k → TextsAs s n p (Err k) t
     unfolding BatchedAs number_given
-    part-refused k f = go (whole_at s) refl (subst (λ (q : Number). BatchedAs (batch_of s 0 p room) 0 q s v t w) f b)
+    part-refused k f = go (whole_at s) refl (subst (λ (q : Result ℕ Refusal). BatchedAs (batch_of s 0 p room) 0 q s v t w) f b)
       where
-        go : (x : Bool) → whole_at s ≡ x → BatchedAs (batch_of s 0 p room) 0 (number.Refused k) s v t w → TextsAs s n p (number.Refused k) t
-        go false g q = let z = rw (batch-refused g) at q in texts-not-whole s n p g (number.Refused k) t z.0 z.1
+        go : (x : Bool) → whole_at s ≡ x → BatchedAs (batch_of s 0 p room) 0 (Err k) s v t w → TextsAs s n p (Err k) t
+        go false g q = let z = rw (batch-refused g) at q in texts-not-whole s n p g (Err k) t z.0 z.1
         go true g q = let z = rw (batch-whole g) at q in absurd (let y : ◌≡◌ {A = ℕ} 0 1 = cc z.0 in omega arith)
 
-    pub part-given : (m c : ℕ) → r ≡ number.Gives m → c ≡ refused_in (take m w) → (x : ℕ) → x ≡ capped (n + c) → TextsAs s n p (number.Gives x) t
+    pub part-given : (m c : ℕ) → r ≡ Ok m → c ≡ refused_in (take m w) → (x : ℕ) → x ≡ capped (n + c) → TextsAs s n p (Ok x) t
     unfolding BatchedAs number_given
-    part-given m c f d x y = go (whole_at s) refl (subst (λ (q : Number). BatchedAs (batch_of s 0 p room) 0 q s v t w) f b)
+    part-given m c f d x y = go (whole_at s) refl (subst (λ (q : Result ℕ Refusal). BatchedAs (batch_of s 0 p room) 0 q s v t w) f b)
       where
-        go : (o : Bool) → whole_at s ≡ o → BatchedAs (batch_of s 0 p room) 0 (number.Gives m) s v t w → TextsAs s n p (number.Gives x) t
+        go : (o : Bool) → whole_at s ≡ o → BatchedAs (batch_of s 0 p room) 0 (Ok m) s v t w → TextsAs s n p (Ok x) t
         go false g q = let z = rw (batch-refused g) at q in absurd (let y : ◌≡◌ {A = ℕ} 0 1 = cc z.0 in omega arith)
         go true g q =
             let z = rw (batch-whole g) at q in
@@ -117,11 +115,11 @@ module _ (s p : List ℕ) (room : ℕ) (e : room ≡ part) (few : length p ≤ p
             }
 
     -- the verdicts that are counted are there
-    pub verdicts-there : (m : ℕ) → r ≡ number.Gives m → m ≤ length w
+    pub verdicts-there : (m : ℕ) → r ≡ Ok m → m ≤ length w
     unfolding BatchedAs number_given
-    verdicts-there m f = go (batch_of s 0 p room) (subst (λ (q : Number). BatchedAs (batch_of s 0 p room) 0 q s v t w) f b)
+    verdicts-there m f = go (batch_of s 0 p room) (subst (λ (q : Result ℕ Refusal). BatchedAs (batch_of s 0 p room) 0 q s v t w) f b)
       where
-        go : (y : Answer Batched) → BatchedAs y 0 (number.Gives m) s v t w → m ≤ length w
+        go : (y : Answer Batched) → BatchedAs y 0 (Ok m) s v t w → m ≤ length w
         go (refused k) q = absurd (let z : ◌≡◌ {A = ℕ} 0 1 = cc q.0 in omega arith)
         go (gives y) q =
             let l : m ≡ length y.verdicts = cc q.0 in
@@ -149,7 +147,7 @@ holds_then h k s t u e a b = record {
   behind = λ i l. b.behind i l ∙ a.behind i (rw (← e) l);
 }
 
-module _ (s : List ℕ) (n : ℕ) (p : List ℕ) (m : ℕ) (u : List ℕ) (a : TextsAs s n p (number.Gives m) u) where
+module _ (s : List ℕ) (n : ℕ) (p : List ℕ) (m : ℕ) (u : List ℕ) (a : TextsAs s n p (Ok m) u) where
   pub given-whole : whole_at s ≡ true
   unfolding number_given
   given-whole = go (whole_at s) refl
@@ -168,7 +166,7 @@ module _ (s : List ℕ) (n : ℕ) (p : List ℕ) (m : ℕ) (u : List ℕ) (a : T
         fed-more (held_at s) (lane-there s given-whole) p q
         ∙ ap (λ (h : Held). joined (texts_fed (held_at s) p) (texts_fed h q)) (sym (a.holds given-whole).held)
 
-    pub texts-join : (r : Number) (t : List ℕ) → TextsAs u m q r t → TextsAs s n (p ++ q) r t
+    pub texts-join : (r : Result ℕ Refusal) (t : List ℕ) → TextsAs u m q r t → TextsAs s n (p ++ q) r t
     unfolding joined
     texts-join r t b =
         let g = a.holds given-whole in
@@ -186,16 +184,16 @@ module _ (s : List ℕ) (n : ℕ) (p : List ℕ) (m : ℕ) (u : List ℕ) (a : T
           outside = λ e i h. let z = rw both at e in b.outside (none-back v w z) i h ∙ a.outside (none-front v w z) i h;
         }
 
-texts-stuck : (s : List ℕ) (n : ℕ) (p : List ℕ) (k : Refusal) (t : List ℕ) → TextsAs s n p (number.Refused k) t → (q : List ℕ) → TextsAs s n q (number.Refused k) t
+texts-stuck : (s : List ℕ) (n : ℕ) (p : List ℕ) (k : Refusal) (t : List ℕ) → TextsAs s n p (Err k) t → (q : List ℕ) → TextsAs s n q (Err k) t
 unfolding number_given
 texts-stuck s n p k t a q = go (whole_at s) refl
   where
-    go : (x : Bool) → whole_at s ≡ x → TextsAs s n q (number.Refused k) t
-    go false e = texts-not-whole s n q e (number.Refused k) t (a.answer ∙ not-counted s n p e) (a.found e)
+    go : (x : Bool) → whole_at s ≡ x → TextsAs s n q (Err k) t
+    go false e = texts-not-whole s n q e (Err k) t (a.answer ∙ not-counted s n p e) (a.found e)
     go true e = absurd (let f = a.answer ∙ counted s n p e in let z : ◌≡◌ {A = ℕ} 0 1 = cc f in omega arith)
 
 -- the lent bytes are as many as before
-pub texts-size : (s : List ℕ) (n : ℕ) (p : List ℕ) (r : Number) (t : List ℕ) → TextsAs s n p r t → length t ≡ length s
+pub texts-size : (s : List ℕ) (n : ℕ) (p : List ℕ) (r : Result ℕ Refusal) (t : List ℕ) → TextsAs s n p r t → length t ≡ length s
 texts-size s n p r t a = go (whole_at s) refl
   where
     go : (x : Bool) → whole_at s ≡ x → length t ≡ length s
@@ -208,31 +206,31 @@ texts-size s n p r t a = go (whole_at s) refl
 pub record Rest (s₀ : List ℕ) (n₀ : ℕ) (p s : List ℕ) (n at : ℕ) : Type 0 where
   pub reach : at ≤ length p
   pub size : length s ≡ length s₀
-  pub decides : (r : Number) (t : List ℕ) → TextsAs s n (drop at p) r t → TextsAs s₀ n₀ p r t
+  pub decides : (r : Result ℕ Refusal) (t : List ℕ) → TextsAs s n (drop at p) r t → TextsAs s₀ n₀ p r t
 
 pub rest-none : (s : List ℕ) (n : ℕ) (p : List ℕ) → Rest s n p s n 0
 rest-none s n p = record { reach = omega arith; size = refl; decides = λ r t a. a }
 
-module _ (s₀ : List ℕ) (n₀ : ℕ) (p s : List ℕ) (n at k : ℕ) (g : Rest s₀ n₀ p s n at) (r : Number) (u : List ℕ) (a : TextsAs s n (take k (drop at p)) r u) where
+module _ (s₀ : List ℕ) (n₀ : ℕ) (p s : List ℕ) (n at k : ℕ) (g : Rest s₀ n₀ p s n at) (r : Result ℕ Refusal) (u : List ℕ) (a : TextsAs s n (take k (drop at p)) r u) where
   parts : take k (drop at p) ++ drop (at + k) p ≡ drop at p
   parts = ap (λ (v : List ℕ). take k (drop at p) ++ v) (sym (drop-drop k at p)) ∙ take-append-drop k (drop at p)
 
-  pub rest_more : (m : ℕ) → r ≡ number.Gives m → (z : ℕ) → z ≡ at + k → z ≤ length p → Rest s₀ n₀ p u m z
+  pub rest_more : (m : ℕ) → r ≡ Ok m → (z : ℕ) → z ≡ at + k → z ≤ length p → Rest s₀ n₀ p u m z
   rest_more m e z f h = rw f (record {
     reach = rw (← f) h;
     size = texts-size s n (take k (drop at p)) r u a ∙ g.size;
     decides = λ q t b. g.decides q t (rw parts at (texts-join s n (take k (drop at p)) m u given (drop (at + k) p) q t b));
   })
     where
-      given : TextsAs s n (take k (drop at p)) (number.Gives m) u
-      given = subst (λ (x : Number). TextsAs s n (take k (drop at p)) x u) e a
+      given : TextsAs s n (take k (drop at p)) (Ok m) u
+      given = subst (λ (x : Result ℕ Refusal). TextsAs s n (take k (drop at p)) x u) e a
 
-  pub rest-refused : (w : Refusal) → r ≡ number.Refused w → TextsAs s₀ n₀ p (number.Refused w) u
+  pub rest-refused : (w : Refusal) → r ≡ Err w → TextsAs s₀ n₀ p (Err w) u
   rest-refused w e =
-      g.decides (number.Refused w) u
-      (texts-stuck s n (take k (drop at p)) w u (subst (λ (x : Number). TextsAs s n (take k (drop at p)) x u) e a) (drop at p))
+      g.decides (Err w) u
+      (texts-stuck s n (take k (drop at p)) w u (subst (λ (x : Result ℕ Refusal). TextsAs s n (take k (drop at p)) x u) e a) (drop at p))
 
-pub rest-last : (s₀ : List ℕ) (n₀ : ℕ) (p s : List ℕ) (n at : ℕ) → Rest s₀ n₀ p s n at → (r : Number) (t : List ℕ)
+pub rest-last : (s₀ : List ℕ) (n₀ : ℕ) (p s : List ℕ) (n at : ℕ) → Rest s₀ n₀ p s n at → (r : Result ℕ Refusal) (t : List ℕ)
     → TextsAs s n (take (length p - at) (drop at p)) r t → TextsAs s₀ n₀ p r t
 rest-last s₀ n₀ p s n at g r t a =
     g.decides r t (subst (λ (q : List ℕ). TextsAs s n q r t) (take_all (length p - at) (drop at p) (omega (arith, length-drop at p))) a)

@@ -6,7 +6,7 @@
 --   finish-stands, finished_as     finishing
 --   sheet-counted, sheet-is, refusal_is     the lines of the summary, behind an answer of finishing
 --   lines-stand, printed-as     lines
-use Rattle.std.specs.Prelude.{ℕ, ◌^◌, ◌≤◌, ◌<◌, Bool, false, leb, drop}
+use Rattle.std.specs.Prelude.{ℕ, ◌^◌, ◌≤◌, ◌<◌, Bool, false, leb, drop, Result, Ok, Err}
 use Rattle.std.proofs.Common.{arith, sym, ap₂, ◌∙◌, true≢false}
 use Rattle.std.proofs.Math.Path.{◌≡◌, refl, ap, subst}
 use Rattle.std.proofs.Math.Bool.{true}
@@ -18,11 +18,6 @@ use Rattle.trees.specs.Opening.{Opening}
 use Rattle.trees.specs.Held.{opened, closing}
 use Rattle.trees.specs.Batch.{texts_in, batching}
 use Rattle.theorems.specs.ListLaws.{and_left, and_right}
-use Rattle.answers.specs.declared.Finish.{Finish}
-use Rattle.answers.specs.declared.Finish.TheVariants as finish
-use Rattle.answers.specs.declared.Number.{Number}
-use Rattle.answers.specs.declared.Number.TheVariants as number
-use Rattle.answers.specs.declared.Both.{Both}
 use Rattle.answers.specs.declared.Refusal.{Refusal}
 use Rattle.answers.specs.Answers.{refusal_number, finish_given}
 use Rattle.layout.specs.Store.{held_at}
@@ -67,38 +62,38 @@ module _ (room : ℕ) (k : Kept) (v lent : List ℕ) (g : Keeps room (first_line
   asks-same : kept_opening k (length lent) ≡ asks_for v
   asks-same = line-decides room (first_line v) k g (length lent) a ∙ enough-lent (first_line v) (length lent) b
 
-  opened-same : (f : Finish) (s : List ℕ) → OpenedAs (kept_opening k (length lent)) f lent s → OpenedAs (asks_for v) f lent s
+  opened-same : (f : Result (Unit {0}) Refusal) (s : List ℕ) → OpenedAs (kept_opening k (length lent)) f lent s → OpenedAs (asks_for v) f lent s
   opened-same f s c = subst (λ (x : Answer Opening). OpenedAs x f lent s) asks-same c
 
   pub opens-stands : member 10 v ≡ true → (names : List ℕ) (r : Summing) (t : List ℕ) → OpensAs k lent (behind_line v) r t → StandsFor r names t v
   unfolding StandsFor OpenedAs finish_given BehindAs
   opens-stands m names r t c = go (asks_for v) refl c.answer (opened-same c.answer c.store c.opens) c.behind
     where
-      go : (x : Answer Opening) → asks_for v ≡ x → (f : Finish) → OpenedAs x f lent c.store → BehindAs f c.store (behind_line v) r t → StandsFor r names t v
-      go (refused j) e finish.Done p q = absurd (let z : ◌≡◌ {A = ℕ} 0 1 = cc p.0 in omega arith)
-      go (refused j) e (finish.Refused w) p q =
+      go : (x : Answer Opening) → asks_for v ≡ x → (f : Result (Unit {0}) Refusal) → OpenedAs x f lent c.store → BehindAs f c.store (behind_line v) r t → StandsFor r names t v
+      go (refused j) e (Ok tt) p q = absurd (let z : ◌≡◌ {A = ℕ} 0 1 = cc p.0 in omega arith)
+      go (refused j) e (Err w) p q =
           let d : refusal_number w ≡ j = cc p.0 in
           subst (λ (y : Summing). StandsFor y names t v) (sym q.0) (m, e ∙ ap refused (sym d))
-      go (gives o) e (finish.Refused w) p q = absurd (let z : ◌≡◌ {A = ℕ} 0 1 = cc p.0 in omega arith)
-      go (gives o) e finish.Done p q =
+      go (gives o) e (Err w) p q = absurd (let z : ◌≡◌ {A = ℕ} 0 1 = cc p.0 in omega arith)
+      go (gives o) e (Ok tt) p q =
           let z = feeds-on o [] c.store 0 (texts-none o lent c.store p.1) (behind_line v) r t q in
           subst (λ (y : Summing). StandsFor y names t v) (sym z.1) (m, o, e, z.2)
 
-  pub closes-stands : behind_line v ≡ [] → (r : Number) (t : List ℕ) → ClosesAs k lent r t → SheetOf r t v
+  pub closes-stands : behind_line v ≡ [] → (r : Result ℕ Refusal) (t : List ℕ) → ClosesAs k lent r t → SheetOf r t v
   unfolding SheetOf OpenedAs finish_given EndsAs
   closes-stands m r t c = go (asks_for v) refl c.answer (opened-same c.answer c.store c.opens) c.ends
     where
-      closes : (o : Opening) → asks_for v ≡ gives o → FedSoFar o [] c.store 0 → (y : Number) → ClosedAs c.store 0 y t → SheetOf y t v
-      closes o e f (number.Refused w) q = absurd (closed-never o [] c.store 0 f w t q)
-      closes o e f (number.Gives n) q = let z = closed_on o [] c.store 0 f n t q in (o, e, z.0, rw m z.1, rw m z.2)
+      closes : (o : Opening) → asks_for v ≡ gives o → FedSoFar o [] c.store 0 → (y : Result ℕ Refusal) → ClosedAs c.store 0 y t → SheetOf y t v
+      closes o e f (Err w) q = absurd (closed-never o [] c.store 0 f w t q)
+      closes o e f (Ok n) q = let z = closed_on o [] c.store 0 f n t q in (o, e, z.0, rw m z.1, rw m z.2)
 
-      go : (x : Answer Opening) → asks_for v ≡ x → (f : Finish) → OpenedAs x f lent c.store → EndsAs f c.store r t → SheetOf r t v
-      go (refused j) e finish.Done p q = absurd (let z : ◌≡◌ {A = ℕ} 0 1 = cc p.0 in omega arith)
-      go (refused j) e (finish.Refused w) p q =
+      go : (x : Answer Opening) → asks_for v ≡ x → (f : Result (Unit {0}) Refusal) → OpenedAs x f lent c.store → EndsAs f c.store r t → SheetOf r t v
+      go (refused j) e (Ok tt) p q = absurd (let z : ◌≡◌ {A = ℕ} 0 1 = cc p.0 in omega arith)
+      go (refused j) e (Err w) p q =
           let d : refusal_number w ≡ j = cc p.0 in
-          subst (λ (y : Number). SheetOf y t v) (sym q.0) (e ∙ ap refused (sym d))
-      go (gives o) e (finish.Refused w) p q = absurd (let z : ◌≡◌ {A = ℕ} 0 1 = cc p.0 in omega arith)
-      go (gives o) e finish.Done p q = closes o e (texts-none o lent c.store p.1) r q
+          subst (λ (y : Result ℕ Refusal). SheetOf y t v) (sym q.0) (e ∙ ap refused (sym d))
+      go (gives o) e (Err w) p q = absurd (let z : ◌≡◌ {A = ℕ} 0 1 = cc p.0 in omega arith)
+      go (gives o) e (Ok tt) p q = closes o e (texts-none o lent c.store p.1) r q
 
 roomy-names : (names lent : List ℕ) → roomy names lent ≡ true → 4288 ≤ length names
 unfolding roomy
@@ -166,21 +161,21 @@ took-as state names lent p r after t c = record { steps = c; carries = take-stan
 -- ---- finishing
 
 module _ (n : ℕ) (lent : List ℕ) (v : List ℕ) (o : Opening) (e : asks_for v ≡ gives o) (g : FedSoFar o (behind_line v) lent n) where
-  texts-finish : (r : Number) (t : List ℕ) → ClosedAs lent n r t → SheetOf r t v
+  texts-finish : (r : Result ℕ Refusal) (t : List ℕ) → ClosedAs lent n r t → SheetOf r t v
   unfolding SheetOf
-  texts-finish (number.Refused w) t c = absurd (closed-never o (behind_line v) lent n g w t c)
-  texts-finish (number.Gives m) t c = let z = closed_on o (behind_line v) lent n g m t c in (o, e, z.0, z.1, z.2)
+  texts-finish (Err w) t c = absurd (closed-never o (behind_line v) lent n g w t c)
+  texts-finish (Ok m) t c = let z = closed_on o (behind_line v) lent n g m t c in (o, e, z.0, z.1, z.2)
 
-pub finish-stands : (state : Summing) (names lent : List ℕ) (r : Number) (t : List ℕ) → FinishSteps state names lent r t
+pub finish-stands : (state : Summing) (names lent : List ℕ) (r : Result ℕ Refusal) (t : List ℕ) → FinishSteps state names lent r t
     → (v : List ℕ) → StandsFor state names lent v → SheetOf r t v
 unfolding FinishSteps StandsFor SheetOf
 finish-stands (summing.Line line) names lent r t c v g =
     closes-stands (length names) (kept_of line names) v lent (rw (no_end v g.1) g.2) (roomy-names names lent g.0) (roomy-lent names lent g.0)
     (nothing-behind v g.1) r t c
 finish-stands (summing.Texts n) names lent r t c v g = texts-finish n lent v g.1 g.2 g.3 r t c
-finish-stands (summing.Refused w) names lent r t c v g = subst (λ (y : Number). SheetOf y t v) (sym c.0) g.1
+finish-stands (summing.Refused w) names lent r t c v g = subst (λ (y : Result ℕ Refusal). SheetOf y t v) (sym c.0) g.1
 
-pub finished_as : (state : Summing) (names lent : List ℕ) (r : Number) (t : List ℕ) → FinishSteps state names lent r t → FinishedAs state names lent r t
+pub finished_as : (state : Summing) (names lent : List ℕ) (r : Result ℕ Refusal) (t : List ℕ) → FinishSteps state names lent r t → FinishedAs state names lent r t
 finished_as state names lent r t c = record { steps = c; carries = finish-stands state names lent r t c }
 
 -- ---- lines
@@ -194,30 +189,30 @@ unfolding printed_lines summary_lines closed_sheet refused_texts
 lines_of o q = ap (λ (b : Bool). closed_sheet (batching (texts_in b q) (opened o) 0 q)) (sym (none_open o))
 
 -- the answer counts the refused texts
-pub sheet-counted : (n : ℕ) (s v : List ℕ) → SheetOf (number.Gives n) s v → CountedIn v → n < 2 ^ 64
+pub sheet-counted : (n : ℕ) (s v : List ℕ) → SheetOf (Ok n) s v → CountedIn v → n < 2 ^ 64
 unfolding SheetOf CountedIn
 sheet-counted n s v g small =
     let c = small g.0 g.1 in
     omega (arith, c, g.4 ∙ sym (capped_small (refused_texts g.0 (behind_line v)) c))
 
 -- the lines of the summary: those of the sheet of the store, or that of the refusal
-pub sheet-is : (n : ℕ) (s v : List ℕ) → SheetOf (number.Gives n) s v → CountedIn v → lines_for v ≡ sheet_lines (held_at s) n
+pub sheet-is : (n : ℕ) (s v : List ℕ) → SheetOf (Ok n) s v → CountedIn v → lines_for v ≡ sheet_lines (held_at s) n
 unfolding SheetOf CountedIn
 sheet-is n s v g small =
     let c : n ≡ refused_texts g.0 (behind_line v) = g.4 ∙ sym (capped_small (refused_texts g.0 (behind_line v)) (small g.0 g.1)) in
     lines_are v (gives g.0) g.1 ∙ lines_of g.0 (behind_line v) ∙ sym (ap₂ sheet_lines g.3 c)
 
-pub refusal_is : (w : Refusal) (s v : List ℕ) → SheetOf (number.Refused w) s v → lines_for v ≡ refusal_lines w
+pub refusal_is : (w : Refusal) (s v : List ℕ) → SheetOf (Err w) s v → lines_for v ≡ refusal_lines w
 unfolding SheetOf printed_lines refusal_lines
 refusal_is w s v g = lines_are v (refused (refusal_number w)) g
 
-pub lines-stand : (a : Number) (s v : List ℕ) → SheetOf a s v → CountedIn v → (from room : ℕ) → sheet_asked a s from room ≡ lines_from (lines_for v) from room
+pub lines-stand : (a : Result ℕ Refusal) (s v : List ℕ) → SheetOf a s v → CountedIn v → (from room : ℕ) → sheet_asked a s from room ≡ lines_from (lines_for v) from room
 unfolding SheetOf sheet_asked
-lines-stand (number.Gives n) s v g small from room =
+lines-stand (Ok n) s v g small from room =
     when_whole s (λ h. lines_from (sheet_lines h n) from room) g.2 ∙ ap (λ (ls : List (List ℕ)). lines_from ls from room) (sym (sheet-is n s v g small))
-lines-stand (number.Refused w) s v g small from room = ap (λ (ls : List (List ℕ)). lines_from ls from room) (sym (refusal_is w s v g))
+lines-stand (Err w) s v g small from room = ap (λ (ls : List (List ℕ)). lines_from ls from room) (sym (refusal_is w s v g))
 
-pub printed-as : (a : Number) (s : List ℕ) (from : ℕ) (r : Both) (out after : List ℕ) → PrintsAs (sheet_asked a s from (length out)) r out after
+pub printed-as : (a : Result ℕ Refusal) (s : List ℕ) (from : ℕ) (r : Result (ℕ × ℕ) Refusal) (out after : List ℕ) → PrintsAs (sheet_asked a s from (length out)) r out after
     → PrintedAs a s from r out after
 printed-as a s from r out after f = record {
   prints = f;

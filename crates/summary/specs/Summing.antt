@@ -15,16 +15,11 @@
 --   refusal_lines w               the lines behind the refusal w
 --   sheet_asked answer s from room     the lines from number `from` on behind an answer of finishing, into a buffer of `room` bytes
 --   PrintedAs ..                 giving lines
-use Rattle.std.specs.Prelude.{ℕ, ◌^◌, ◌≤◌, ◌<◌, ◌≡◌, Bool, true, false, ◌&&◌, List, [], ◌∷◌, ◌++◌, leb, length, drop}
+use Rattle.std.specs.Prelude.{ℕ, ◌^◌, ◌≤◌, ◌<◌, ◌≡◌, Bool, true, false, ◌&&◌, List, [], ◌∷◌, ◌++◌, leb, length, drop, Result, Ok, Err}
 use Rattle.trees.specs.Plain.{member, byte, Answer, refused, gives}
 use Rattle.trees.specs.Opening.{Opening}
 use Rattle.trees.specs.Held.{opened, lane_of, open_in, closing}
 use Rattle.trees.specs.Batch.{texts_in, batching, Batched, refused_in, refused_after}
-use Rattle.answers.specs.declared.Finish.{Finish}
-use Rattle.answers.specs.declared.Finish.TheVariants as finish
-use Rattle.answers.specs.declared.Number.{Number}
-use Rattle.answers.specs.declared.Number.TheVariants as number
-use Rattle.answers.specs.declared.Both.{Both}
 use Rattle.answers.specs.declared.Refusal.{Refusal}
 use Rattle.answers.specs.declared.Refusal.TheVariants as why
 use Rattle.answers.specs.Answers.{refusal_number}
@@ -71,15 +66,15 @@ StandsFor (summing.Texts n) names lent v =
     (member (byte "\n") v ≡ true) × (o : Opening) × (asks_for v ≡ gives o) × FedSoFar o (behind_line v) lent n
 StandsFor (summing.Refused w) names lent v = (member (byte "\n") v ≡ true) × (asks_for v ≡ refused (refusal_number w))
 
-unfoldable pub SheetOf : Number → List ℕ → List ℕ → Type 0
+unfoldable pub SheetOf : Result ℕ Refusal → List ℕ → List ℕ → Type 0
 unfolding first_line behind_line summary_opening refusal_number refused_texts capped
-SheetOf (number.Gives n) lent v =
+SheetOf (Ok n) lent v =
     (o : Opening)
     × (asks_for v ≡ gives o)
     × (whole_at lent ≡ true)
     × (held_at lent ≡ (closing (all_fed o (behind_line v)).after 0).after)
     × (n ≡ capped (refused_texts o (behind_line v)))
-SheetOf (number.Refused w) lent v = asks_for v ≡ refused (refusal_number w)
+SheetOf (Err w) lent v = asks_for v ≡ refused (refusal_number w)
 
 unfoldable pub CountedIn : List ℕ → Type 0
 unfolding first_line behind_line summary_opening refused_texts
@@ -98,21 +93,21 @@ pub record BegunAs (names lent : List ℕ) (r : Summing) : Type 0 where
 
 -- ---- taking a piece
 
-unfoldable pub fed_state : Number → Summing
-fed_state (number.Gives n) = summing.Texts n
-fed_state (number.Refused w) = summing.Refused w
+unfoldable pub fed_state : Result ℕ Refusal → Summing
+fed_state (Ok n) = summing.Texts n
+fed_state (Err w) = summing.Refused w
 
 pub record FeedsAs (s : List ℕ) (n : ℕ) (q : List ℕ) (r : Summing) (t : List ℕ) : Type 0 where
-  pub answer : Number
+  pub answer : Result ℕ Refusal
   pub fed : TextsAs s n q answer t
   pub state : r ≡ fed_state answer
 
-unfoldable pub BehindAs : Finish → List ℕ → List ℕ → Summing → List ℕ → Type 0
-BehindAs (finish.Refused w) s q r t = (r ≡ summing.Refused w) × (t ≡ s)
-BehindAs finish.Done s q r t = FeedsAs s 0 q r t
+unfoldable pub BehindAs : Result (Unit {0}) Refusal → List ℕ → List ℕ → Summing → List ℕ → Type 0
+BehindAs (Err w) s q r t = (r ≡ summing.Refused w) × (t ≡ s)
+BehindAs (Ok tt) s q r t = FeedsAs s 0 q r t
 
 pub record OpensAs (k : Kept) (s q : List ℕ) (r : Summing) (t : List ℕ) : Type 0 where
-  pub answer : Finish
+  pub answer : Result (Unit {0}) Refusal
   pub store : List ℕ
   pub opens : OpenedAs (kept_opening k (length s)) answer s store
   pub behind : BehindAs answer store q r t
@@ -136,23 +131,23 @@ pub record TookAs (state : Summing) (names s p : List ℕ) (r : Summing) (after 
 
 -- ---- finishing
 
-unfoldable pub EndsAs : Finish → List ℕ → Number → List ℕ → Type 0
-EndsAs (finish.Refused w) s r t = (r ≡ number.Refused w) × (t ≡ s)
-EndsAs finish.Done s r t = ClosedAs s 0 r t
+unfoldable pub EndsAs : Result (Unit {0}) Refusal → List ℕ → Result ℕ Refusal → List ℕ → Type 0
+EndsAs (Err w) s r t = (r ≡ Err w) × (t ≡ s)
+EndsAs (Ok tt) s r t = ClosedAs s 0 r t
 
-pub record ClosesAs (k : Kept) (s : List ℕ) (r : Number) (t : List ℕ) : Type 0 where
-  pub answer : Finish
+pub record ClosesAs (k : Kept) (s : List ℕ) (r : Result ℕ Refusal) (t : List ℕ) : Type 0 where
+  pub answer : Result (Unit {0}) Refusal
   pub store : List ℕ
   pub opens : OpenedAs (kept_opening k (length s)) answer s store
   pub ends : EndsAs answer store r t
 
-unfoldable pub FinishSteps : Summing → List ℕ → List ℕ → Number → List ℕ → Type 0
+unfoldable pub FinishSteps : Summing → List ℕ → List ℕ → Result ℕ Refusal → List ℕ → Type 0
 FinishSteps (summing.Line line) names s r t = ClosesAs (kept_of line names) s r t
 FinishSteps (summing.Texts n) names s r t = ClosedAs s n r t
-FinishSteps (summing.Refused w) names s r t = (r ≡ number.Refused w) × (t ≡ s)
+FinishSteps (summing.Refused w) names s r t = (r ≡ Err w) × (t ≡ s)
 
 -- what it does in any state; and where that stands for v, the answer is the sheet of v
-pub record FinishedAs (state : Summing) (names s : List ℕ) (r : Number) (t : List ℕ) : Type 0 where
+pub record FinishedAs (state : Summing) (names s : List ℕ) (r : Result ℕ Refusal) (t : List ℕ) : Type 0 where
   pub steps : FinishSteps state names s r t
   pub carries : (v : List ℕ) → StandsFor state names s v → SheetOf r t v
 
@@ -163,12 +158,12 @@ unfoldable pub refusal_lines : Refusal → List (List ℕ)
 unfolding refusal_line refusal_number
 refusal_lines w = refusal_line (refusal_number w) ∷ []
 
-unfoldable pub sheet_asked : Number → List ℕ → ℕ → ℕ → Answer (List (List ℕ))
+unfoldable pub sheet_asked : Result ℕ Refusal → List ℕ → ℕ → ℕ → Answer (List (List ℕ))
 unfolding if_whole lines_from refusal_lines
-sheet_asked (number.Gives n) s from room = lines_asked s n from room
-sheet_asked (number.Refused w) s from room = lines_from (refusal_lines w) from room
+sheet_asked (Ok n) s from room = lines_asked s n from room
+sheet_asked (Err w) s from room = lines_from (refusal_lines w) from room
 
 -- what it gives behind any answer; and where that is the sheet of v, it is the lines of the summary of v
-pub record PrintedAs (answer : Number) (s : List ℕ) (from : ℕ) (r : Both) (out after : List ℕ) : Type 0 where
+pub record PrintedAs (answer : Result ℕ Refusal) (s : List ℕ) (from : ℕ) (r : Result (ℕ × ℕ) Refusal) (out after : List ℕ) : Type 0 where
   pub prints : PrintsAs (sheet_asked answer s from (length out)) r out after
   pub carries : (v : List ℕ) → SheetOf answer s v → CountedIn v → PrintsAs (lines_from (lines_for v) from (length out)) r out after

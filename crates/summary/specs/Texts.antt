@@ -7,17 +7,17 @@
 --   TextsAs s n p r t      feeding answers r and leaves the lent bytes t, which were s
 --   closed_count s n        the answer of the closing, behind n refused texts
 --   ClosedAs s n r t       closing answers r and leaves the lent bytes t, which were s
-use Rattle.std.specs.Prelude.{ℕ, ◌+◌, ◌≡◌, true, false, List, ltb, if◌then◌else◌}
+use Rattle.std.specs.Prelude.{ℕ, ◌+◌, ◌≡◌, true, false, List, ltb, if◌then◌else◌, Result}
 use Rattle.trees.specs.Plain.{Answer, gives}
 use Rattle.trees.specs.Held.{Held, lane_of, open_in, closing}
 use Rattle.trees.specs.Batch.{texts_in, none_accepted, Batched, batching, refused_in, refused_after}
-use Rattle.answers.specs.declared.Number.{Number}
 use Rattle.answers.specs.Answers.{number_given}
 use Rattle.layout.specs.Store.{held_at}
 use Rattle.layout.specs.WholeStore.{whole_at}
 use Rattle.store.specs.Lent.{if_whole, Holds}
 use Rattle.feeding.specs.Feeding.{SameOutside}
 use Rattle.feeding.specs.Texts.{texts_at}
+use Rattle.answers.specs.declared.Refusal.{Refusal}
 
 abbrev pub part : ℕ
 part = 4096
@@ -35,7 +35,7 @@ unfolding if_whole capped refused_in batching texts_in open_in lane_of
 texts_count s n p = if_whole s (λ h. gives (capped (n + refused_in (texts_fed h p).verdicts)))
 
 -- "All lent memory stays as found, save the lane emptied by a verdict"
-pub record TextsAs (s : List ℕ) (n : ℕ) (p : List ℕ) (r : Number) (t : List ℕ) : Type 0 where
+pub record TextsAs (s : List ℕ) (n : ℕ) (p : List ℕ) (r : Result ℕ Refusal) (t : List ℕ) : Type 0 where
   pub answer : number_given r ≡ texts_count s n p
   pub found : whole_at s ≡ false → t ≡ s
   pub holds : whole_at s ≡ true → Holds (texts_fed (held_at s) p).after s t
@@ -47,7 +47,7 @@ unfolding if_whole capped refused_after closing
 closed_count s n = if_whole s (λ h. gives (capped (refused_after n (closing h 0).answer)))
 
 -- "All lent memory stays as found, save the lane emptied by .. a closing"
-pub record ClosedAs (s : List ℕ) (n : ℕ) (r : Number) (t : List ℕ) : Type 0 where
+pub record ClosedAs (s : List ℕ) (n : ℕ) (r : Result ℕ Refusal) (t : List ℕ) : Type 0 where
   pub answer : number_given r ≡ closed_count s n
   pub found : whole_at s ≡ false → t ≡ s
   pub holds : whole_at s ≡ true → Holds (closing (held_at s) 0).after s t

@@ -4,7 +4,7 @@
 --   capped_small, capped-large       a sum that 64 bits can count, and one that they cannot
 --   capped-more                      a capped number and a further one, capped
 --   closed-refused, closed-given     what each return of the closing promises
-use Rattle.std.specs.Prelude.{ℕ, suc, ◌+◌, ◌≤◌, ◌<◌, ◌≡◌, ◌⊎◌, true, false, List, ◌∷◌, length, get_or, drop, if◌then◌else◌}
+use Rattle.std.specs.Prelude.{ℕ, suc, ◌+◌, ◌≤◌, ◌<◌, ◌≡◌, ◌⊎◌, true, false, List, ◌∷◌, length, get_or, drop, if◌then◌else◌, Result, Ok, Err}
 use Rattle.std.proofs.Math.Numerals.{add-one}
 use native.Mathlib.Omega.{arith}
 use Rattle.std.proofs.Math.Path.{refl, sym, ap, subst}
@@ -14,9 +14,7 @@ use Rattle.theorems.specs.ListLaws.{less-or-not}
 use Rattle.trees.specs.Plain.{keep, Answer, refused, gives}
 use Rattle.trees.specs.Held.{Closed, closing}
 use Rattle.trees.specs.Batch.{is_refusal, refused_in, refused_after}
-use Rattle.answers.specs.declared.Number.TheVariants as number
 use Rattle.answers.specs.declared.Refusal.TheVariants as why
-use Rattle.answers.specs.declared.Finish.{Finish}
 use Rattle.answers.specs.Answers.{number_given, finish_given}
 use Rattle.head.specs.Head.{numbers_at}
 use Rattle.layout.specs.Store.{held_at}
@@ -28,6 +26,7 @@ use Rattle.store.specs.LentLaws.{not-whole, when_whole}
 use Rattle.feeding.specs.Feeding.{reached, closed_of}
 use Rattle.feeding.specs.Feeding as feeding
 use Rattle.summary.specs.Texts.{capped, closed_count, ClosedAs}
+use Rattle.answers.specs.declared.Refusal.{Refusal}
 
 -- ---- one verdict after another
 
@@ -75,7 +74,7 @@ capped-more n m = go (less-or-not n 18446744073709551616)
 
 -- ---- the closing
 
-pub closed-refused : (s : List ℕ) (n : ℕ) → whole_at s ≡ false → ClosedAs s n (number.Refused why.NotWhole) s
+pub closed-refused : (s : List ℕ) (n : ℕ) → whole_at s ≡ false → ClosedAs s n (Err why.NotWhole) s
 unfolding number_given closed_count
 closed-refused s n e = record {
   answer = sym (not-whole s (λ h. gives (capped (refused_after n (closing h 0).answer))) e);
@@ -100,8 +99,8 @@ module _ (s : List ℕ) (w : whole_at s ≡ true) where
   one_more n (refused k) = omega arith
   one_more n (gives x) = omega arith
 
-  pub closed-given : (n : ℕ) (r : Finish) (t : List ℕ) → feeding.ClosedAs s 0 r t → (k x : ℕ) → k ≡ refused_after 0 (finish_given r) → x ≡ capped (n + k)
-      → ClosedAs s n (number.Gives x) t
+  pub closed-given : (n : ℕ) (r : Result (Unit {0}) Refusal) (t : List ℕ) → feeding.ClosedAs s 0 r t → (k x : ℕ) → k ≡ refused_after 0 (finish_given r) → x ≡ capped (n + k)
+      → ClosedAs s n (Ok x) t
   unfolding number_given closed_count
   closed-given n r t p k x e f = record {
     answer = ap gives (f ∙ ap capped (ap (λ (m : ℕ). n + m) (e ∙ ap (refused_after 0) (p.answer ∙ ap (λ (q : Closed). q.answer) closed-whole)) ∙ one_more n (closing (held_at s) 0).answer)) ∙ sym (when_whole s (λ h. gives (capped (refused_after n (closing h 0).answer))) w);

@@ -9,7 +9,7 @@ ghost use Rattle.summary.specs.Summary.{first_line, first_constant, second_const
 ghost use Rattle.summary.specs.FirstLine.{kept_of, kept_after, spaces_with, used_with, TakenAs, kept_opening};
 
 use crate::{LinePart, Taken};
-use answers::{Finish, Refusal, Taxon};
+use answers::{Refusal, Taxon};
 
 // Takes a piece up to its line end, and keeps what fits into the buffer.
 pub(crate) fn take_line(line: LinePart, out: &mut [u8], piece: &[u8]) -> Taken
@@ -36,14 +36,12 @@ fn line_end(piece: &[u8]) -> usize
     ensures value { result ≡ length (first_line piece.now) }
     ensures upper_bound { result ≤ length piece.now }
 {
-    let mut i = 0;
-    while i < piece.len() {
+    for i in 0..piece.len() {
         if piece[i] == 10 {
             return i;
         }
-        i += 1;
     }
-    i
+    piece.len()
 }
 
 // Keeps the bytes of a piece that has no line end.
@@ -53,13 +51,10 @@ fn keep_bytes(line: LinePart, out: &mut [u8], piece: &[u8]) -> LinePart
     let mut used = line.used;
     let mut spaces = line.spaces;
     let mut quoted = line.quoted;
-    let mut i = 0;
-    while i < piece.len() {
-        let b = piece[i];
-        spaces = count_space(spaces, quoted, b);
-        quoted = turn_quotes(quoted, b);
-        used = keep_byte(out, used, b);
-        i += 1;
+    for b in piece {
+        spaces = count_space(spaces, quoted, *b);
+        quoted = turn_quotes(quoted, *b);
+        used = keep_byte(out, used, *b);
     }
     LinePart {
         used,
@@ -107,26 +102,25 @@ fn keep_byte(out: &mut [u8], used: usize, b: u8) -> usize
 }
 
 // Opens the collection that the line asks for in the lent bytes s.
-pub(crate) fn open_line(s: &mut [u8], line: LinePart, out: &[u8]) -> Finish
+pub(crate) fn open_line(s: &mut [u8], line: LinePart, out: &[u8]) -> Result<(), Refusal>
     ensures { OpenedAs (kept_opening (kept_of line out.now) (length s.old)) result s.old s.new }
 {
     let spaces = line.spaces;
     if 63 < spaces {
-        return Finish::Refused(Refusal::OutOfRange);
+        return Err(Refusal::OutOfRange);
     }
-    let used = least(line.used, out.len());
+    let used = line.used.min(out.len());
     open_names(s, spaces + 1, &out[..used])
 }
 
 // Opens a collection of n names, which keeps no lengths.
-fn open_names(s: &mut [u8], n: usize, list: &[u8]) -> Finish
+fn open_names(s: &mut [u8], n: usize, list: &[u8]) -> Result<(), Refusal>
     requires { n ≤ 64 }
     ensures { OpenedAs (names_opening n list.now (length s.old)) result s.old s.new }
 {
     let mut first = [0u64; 64];
     let mut second = [0u64; 64];
-    fill_first(&mut first);
-    fill_second(&mut second);
+    fill_constants(&mut first, &mut second);
     table::open(
         s,
         n as u32,
@@ -141,22 +135,15 @@ fn open_names(s: &mut [u8], n: usize, list: &[u8]) -> Finish
     )
 }
 
-fn least(a: usize, b: usize) -> usize
-    ensures { (result ≤ a) × (result ≤ b) × (result < a → result ≡ b) }
+// Puts the constants of every taxon.
+fn fill_constants(first: &mut [u64], second: &mut [u64])
+    requires { (length first.old ≡ 64) × (length second.old ≡ 64) }
+    ensures first_after { first.new ≡ up_to first_constant 64 }
+    ensures second_after { second.new ≡ up_to second_constant 64 }
 {
-    if a < b { a } else { b }
-}
-
-// Puts the first constants.
-fn fill_first(list: &mut [u64])
-    requires { length list.old ≤ 64 }
-    ensures { list.new ≡ up_to first_constant (length list.old) }
-{
-    let n = list.len();
-    let mut i = 0;
-    while i < n {
-        list[i] = first_constant(i as u64);
-        i += 1;
+    for i in 0..64 {
+        first[i] = first_constant(i as u64);
+        second[i] = masks::only_taxon(Taxon(i as u32));
     }
 }
 
@@ -166,17 +153,4 @@ fn first_constant(i: u64) -> u64
     ensures { result ≡ first_constant i }
 {
     37 * (i * i) % 512
-}
-
-// Puts the second constants.
-fn fill_second(list: &mut [u64])
-    requires { length list.old ≤ 64 }
-    ensures { list.new ≡ up_to second_constant (length list.old) }
-{
-    let n = list.len();
-    let mut i = 0;
-    while i < n {
-        list[i] = masks::only_taxon(Taxon(i as u32));
-        i += 1;
-    }
 }

@@ -11,7 +11,7 @@ ghost use Rattle.summary.specs.FirstLine.{kept_of};
 ghost use Rattle.summary.specs.Summing.{BegunAs, FeedsAs, OpensAs, NamesAs, TookAs, ClosesAs, FinishedAs, refusal_lines, PrintedAs};
 ghost use Rattle.sheet.specs.Asked.{lines_from, PrintsAs};
 
-use answers::{Both, Finish, Number, Refusal};
+use answers::Refusal;
 
 mod first_line;
 mod texts;
@@ -89,8 +89,8 @@ fn open_texts(line: LinePart, names: &[u8], lent: &mut [u8], rest: &[u8]) -> Sum
 {
     let answer = first_line::open_line(lent, line, names);
     match answer {
-        Finish::Refused(why) => Summing::Refused(why),
-        Finish::Done => feed(lent, 0, rest),
+        Err(why) => Summing::Refused(why),
+        Ok(()) => feed(lent, 0, rest),
     }
 }
 
@@ -100,53 +100,53 @@ fn feed(lent: &mut [u8], refused: usize, piece: &[u8]) -> Summing
 {
     let answer = texts::take_texts(lent, refused, piece);
     match answer {
-        Number::Gives(n) => Summing::Texts(n),
-        Number::Refused(why) => Summing::Refused(why),
+        Ok(n) => Summing::Texts(n),
+        Err(why) => Summing::Refused(why),
     }
 }
 
 // Finishes: closes the lane, and answers how many texts were refused, or with what the first line or a call was.
-pub fn finish(state: Summing, names: &[u8], lent: &mut [u8]) -> Number
+pub fn finish(state: Summing, names: &[u8], lent: &mut [u8]) -> Result<usize, Refusal>
     ensures { FinishedAs state names.now lent.old result lent.new }
 {
     match state {
         Summing::Line(line) => finish_names(line, names, lent),
         Summing::Texts(refused) => texts::close_texts(lent, refused),
-        Summing::Refused(why) => Number::Refused(why),
+        Summing::Refused(why) => Err(why),
     }
 }
 
 // Finishes an input that is all first line.
-fn finish_names(line: LinePart, names: &[u8], lent: &mut [u8]) -> Number
+fn finish_names(line: LinePart, names: &[u8], lent: &mut [u8]) -> Result<usize, Refusal>
     ensures { ClosesAs (kept_of line names.now) lent.old result lent.new }
 {
-    let answer = first_line::open_line(lent, line, names);
-    match answer {
-        Finish::Refused(why) => Number::Refused(why),
-        Finish::Done => texts::close_texts(lent, 0),
-    }
+    first_line::open_line(lent, line, names)?;
+    texts::close_texts(lent, 0)
 }
 
 // Writes the lines from number `from` on, as many whole ones as fit, to the front of out, where `answer` is that of
 // finishing.
-pub fn lines(answer: Number, lent: &[u8], from: usize, out: &mut [u8]) -> Both
+pub fn lines(
+    answer: Result<usize, Refusal>,
+    lent: &[u8],
+    from: usize,
+    out: &mut [u8],
+) -> Result<(usize, usize), Refusal>
     ensures { PrintedAs answer lent.now from result out.old out.new }
 {
     match answer {
-        Number::Gives(refused) => sheet::lines(lent, refused, from, out),
-        Number::Refused(why) => line_of_refusal(why, from, out),
+        Ok(refused) => sheet::lines(lent, refused, from, out),
+        Err(why) => line_of_refusal(why, from, out),
     }
 }
 
 // Writes the one line that there is behind a refusal.
-fn line_of_refusal(why: Refusal, from: usize, out: &mut [u8]) -> Both
+fn line_of_refusal(why: Refusal, from: usize, out: &mut [u8]) -> Result<(usize, usize), Refusal>
     ensures { PrintsAs (lines_from (refusal_lines why) from (length out.old)) result out.old out.new }
 {
     if from != 0 {
-        return Both::Refused(Refusal::NoSuchNumber);
+        return Err(Refusal::NoSuchNumber);
     }
-    match sheet::refusal_line(answers::refusal_number(why), out) {
-        Number::Gives(n) => Both::Gives(n, 1),
-        Number::Refused(r) => Both::Refused(r),
-    }
+    let n = sheet::refusal_line(answers::refusal_number(why), out)?;
+    Ok((n, 1))
 }

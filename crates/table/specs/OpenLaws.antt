@@ -7,7 +7,7 @@
 --   refused_as, done-as          the answers of `open`
 --   lent-head, lent-rest         the head is lent, and the store that it tells of
 --   head-then-rest               the head is written and the rest emptied: the lent bytes hold what was opened
-use Rattle.std.specs.Prelude.{ℕ, ◌+◌, ◌-◌, ◌≤◌, ◌<◌, ◌≡◌, refl, true, false, List, length, get_or, drop}
+use Rattle.std.specs.Prelude.{ℕ, ◌+◌, ◌-◌, ◌≤◌, ◌<◌, ◌≡◌, refl, true, false, List, length, get_or, drop, Ok, Err}
 use Rattle.std.proofs.Common.{arith, ◌∙◌, get_or-drop}
 use Rattle.std.proofs.Math.Path.{ap}
 use borrow.Author.Tests.{le-leb, lt-leb}
@@ -19,8 +19,6 @@ use Rattle.trees.specs.Whole.{good_opening}
 use Rattle.theorems.specs.ListLaws.{and-true}
 use Rattle.answers.specs.declared.Refusal.{Refusal}
 use Rattle.answers.specs.declared.Refusal.TheVariants as why
-use Rattle.answers.specs.declared.Finish.TheVariants as finish
-use Rattle.answers.specs.declared.Number.TheVariants as answer
 use Rattle.answers.specs.Answers.{refusal_number, finish_given, number_given}
 use Rattle.fields.specs.Field.{number}
 use Rattle.head.specs.Head.{opening_at}
@@ -36,11 +34,11 @@ use Rattle.table.specs.EmptiedLaws.{emptied-whole, emptied-held}
 
 -- ---- the size
 
-pub size-refused : (x : Numbers) → in_range x ≡ false → number_given (answer.Refused why.OutOfRange) ≡ sizing x
+pub size-refused : (x : Numbers) → in_range x ≡ false → number_given (Err why.OutOfRange) ≡ sizing x
 unfolding number_given sizing
 size-refused x e = rw e
 
-pub size-given : (x : Numbers) (n : ℕ) → in_range x ≡ true → n ≡ store_size x → number_given (answer.Gives n) ≡ sizing x
+pub size-given : (x : Numbers) (n : ℕ) → in_range x ≡ true → n ≡ store_size x → number_given (Ok n) ≡ sizing x
 unfolding number_given sizing
 size-given x n e h = rw (e, h)
 
@@ -82,11 +80,11 @@ names-given x list first second t ns q e = e ∙ ap (λ (ws : List (List ℕ)). 
 
 -- ---- the answers of `open`
 
-pub refused_as : (a : Answer Opening) (k : ℕ) (r : Refusal) (s : List ℕ) → a ≡ refused k → refusal_number r ≡ k → OpenedAs a (finish.Refused r) s s
+pub refused_as : (a : Answer Opening) (k : ℕ) (r : Refusal) (s : List ℕ) → a ≡ refused k → refusal_number r ≡ k → OpenedAs a (Err r) s s
 unfolding OpenedAs finish_given
 refused_as a k r s e h = rw e (ap refused h, refl)
 
-pub done-as : (a : Answer Opening) (o : Opening) (s t : List ℕ) → a ≡ gives o → Holds (opened o) s t → OpenedAs a finish.Done s t
+pub done-as : (a : Answer Opening) (o : Opening) (s t : List ℕ) → a ≡ gives o → Holds (opened o) s t → OpenedAs a (Ok tt) s t
 unfolding OpenedAs finish_given
 done-as a o s t e h = rw e (refl, h)
 

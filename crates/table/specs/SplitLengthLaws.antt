@@ -6,7 +6,7 @@
 --   few-splits, branch-good, by_rows     of whole bytes: a tree's list fits its place, its lengths are good, a split in it by its row
 --   tree-lacking, tree-absent, tree-given, trees-over     the trees, one after another
 --   lengths-missing, lengths-not-kept, lengths-found      one split: 13, 18, or what is answered of its row
-use Rattle.std.specs.Prelude.{ℕ, ◌+◌, ◌≤◌, ◌<◌, ◌≡◌, Bool, true, false, List, [], ◌∷◌, map, eqb, Float, length, get_or, drop, if◌then◌else◌}
+use Rattle.std.specs.Prelude.{ℕ, ◌+◌, ◌≤◌, ◌<◌, ◌≡◌, Bool, true, false, List, [], ◌∷◌, map, eqb, Float, length, get_or, drop, if◌then◌else◌, None, Some, Option as CodeOption}
 use Rattle.std.proofs.Common.{add-one, arith, sym, ap, ◌∙◌, inl, inr, drop_of_length-le}
 use Rattle.std.proofs.Math.Path.{refl}
 use Rattle.std.proofs.Math.Option.{Option, none, some}
@@ -21,8 +21,6 @@ use Rattle.theorems.specs.ListLaws.{Mem, same_bool}
 use Rattle.theorems.specs.OpeningLaws.{every-get_d}
 use Rattle.answers.specs.declared.Refusal.TheVariants as why
 use Rattle.answers.specs.Answers.{refusal_number, refusing}
-use Rattle.doubles.specs.declared.Length as code
-use Rattle.doubles.specs.declared.Length.TheVariants.{Absent, Given}
 use Rattle.doubles.specs.Stored.{branch_given}
 use Rattle.weighing.specs.Summed.{with_length}
 use Rattle.weighing.specs.SummedLaws.{in_order, sums-in_order}
@@ -35,8 +33,6 @@ use Rattle.layout.specs.OrderLaws.{mask-same}
 use Rattle.store.specs.RecordedAtLaws.{trees-length, tree-at, member-at, recorded-length, recorded-mask}
 use Rattle.store.specs.LentLaws.{when_whole}
 use Rattle.table.specs.Asked.{split_lengths_asked}
-use Rattle.table.specs.declared.branches.Branch.{Branch}
-use Rattle.table.specs.declared.branches.Branch.TheVariants.{Lacking, Having}
 use Rattle.table.specs.SplitLengths.{branch_found, in_tree, go_on, lengths_left, row_lengths}
 
 -- ---- what is left of the lengths
@@ -143,23 +139,23 @@ module _ (s : List ℕ) (row i : ℕ) where
   unfolding go_on lengths_for
   trees-over b z h = rw (drop_of_length-le (held_at s).trees {i = i} (omega (arith, trees-length s)))
 
-  module _ (h : i < trees_held_at s) (f : Branch) (e : branch_found f ≡ in_tree (mask_at s row) (tree_at s i) (branches_at s i)) where
+  module _ (h : i < trees_held_at s) (f : CodeOption (CodeOption Float)) (e : branch_found f ≡ in_tree (mask_at s row) (tree_at s i) (branches_at s i)) where
     in-next : lengths_left s row i ≡ with_tree (branch_found f) (lengths_left s row (i + 1))
     in-next =
         tree-next (mask_at s row) (held_at s).trees (held_at s).lengths i (omega (arith, trees-length s)) (omega (arith, branches-count))
         ∙ rw (e, tree-at s i h, branches-here)
 
-    pub tree-lacking : f ≡ Lacking → lengths_left s row i ≡ lengths_left s row (i + 1)
+    pub tree-lacking : f ≡ None → lengths_left s row i ≡ lengths_left s row (i + 1)
     unfolding with_tree branch_found
     tree-lacking q = in-next ∙ rw q
 
-    module _ (x : code.Length) (q : f ≡ Having x) (b : Bool) (z : Sums) where
+    module _ (x : CodeOption Float) (q : f ≡ Some x) (b : Bool) (z : Sums) where
       -- 18
-      pub tree-absent : x ≡ Absent → go_on b z (lengths_left s row i) ≡ refusing why.NoLength
+      pub tree-absent : x ≡ None → go_on b z (lengths_left s row i) ≡ refusing why.NoLength
       unfolding go_on with_tree branch_found branch_given refusal_number
       tree-absent a = rw (in-next, q, a)
 
-      pub tree-given : (y : Float) → x ≡ Given y → go_on b z (lengths_left s row i) ≡ go_on true (if b then with_length z y else sums (y ∷ [])) (lengths_left s row (i + 1))
+      pub tree-given : (y : Float) → x ≡ Some y → go_on b z (lengths_left s row i) ≡ go_on true (if b then with_length z y else sums (y ∷ [])) (lengths_left s row (i + 1))
       unfolding go_on with_tree branch_found branch_given
       tree-given y a = rw (in-next, q, a)
 

@@ -5,7 +5,7 @@
 --   go_on met z xs         what is answered where the lengths xs are left; z has the three of those that were met
 --   lengths_left s row i   the lengths of the split in a row, in the trees from i on that have it
 --   row_lengths s row      what is answered of the split in a row
-use Rattle.std.specs.Prelude.{ℕ, Bool, true, List, [], ◌∷◌, drop, if◌then◌else◌}
+use Rattle.std.specs.Prelude.{ℕ, Bool, true, List, [], ◌∷◌, drop, if◌then◌else◌, None, Some, Option as CodeOption, Float}
 use Rattle.std.proofs.Math.Option.{Option, none, some}
 use Rattle.trees.specs.Plain.{member, Answer, refused, gives}
 use Rattle.trees.specs.Value.{Length}
@@ -14,13 +14,11 @@ use Rattle.trees.specs.Questions.{if_given, length_for, lengths_for}
 use Rattle.doubles.specs.Stored.{branch_given}
 use Rattle.weighing.specs.Summed.{with_length}
 use Rattle.layout.specs.Store.{mask_at, held_at}
-use Rattle.table.specs.declared.branches.Branch.{Branch}
-use Rattle.table.specs.declared.branches.Branch.TheVariants.{Lacking, Having}
 
-unfoldable pub branch_found : Branch → Option Length
+unfoldable pub branch_found : CodeOption (CodeOption Float) → Option Length
 unfolding branch_given
-branch_found Lacking = none
-branch_found (Having x) = some (branch_given x)
+branch_found None = none
+branch_found (Some x) = some (branch_given x)
 
 unfoldable pub in_tree : ℕ → List ℕ → List Length → Option Length
 unfolding member length_for

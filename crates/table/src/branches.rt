@@ -12,35 +12,27 @@ ghost use Rattle.layout.specs.WholeStore.{whole_at};
 ghost use Rattle.table.specs.Asked.{split_lengths_asked};
 ghost use Rattle.table.specs.SplitLengths.{branch_found, in_tree, row_lengths};
 
-use answers::{Lengths, Refusal, Split, SplitLengths, Tree};
-use doubles::Length;
-
-// A split in a tree: the tree lacks it, or has it with its length.
-#[derive(Clone, Copy)]
-pub enum Branch {
-    Lacking,
-    Having(Length),
-}
+use answers::{Lengths, Refusal, Split, Tree};
 
 // The shortest, longest and summed length of split number k, over the trees having it.
-pub fn split_lengths(s: &[u8], k: Split) -> SplitLengths
+pub fn split_lengths(s: &[u8], k: Split) -> Result<Lengths, Refusal>
     ensures { split_lengths_given result ≡ split_lengths_asked s.now k.0 }
 {
     if !store::is_whole(s) {
-        return SplitLengths::Refused(Refusal::NotWhole);
+        return Err(Refusal::NotWhole);
     }
     if layout::splits_held(s) <= k.0 {
-        return SplitLengths::Refused(Refusal::NoSuchNumber);
+        return Err(Refusal::NoSuchNumber);
     }
     if head::kept(s) == 0 {
-        return SplitLengths::Refused(Refusal::NoLength);
+        return Err(Refusal::NoLength);
     }
-    let row = rows::row_of(s, Split(k.0));
+    let row = rows::row_of(s, k);
     row_lengths(s, row)
 }
 
 // Those of the split in a row, added in tree order; 18 where one of its lengths is absent.
-fn row_lengths(s: &[u8], row: usize) -> SplitLengths
+fn row_lengths(s: &[u8], row: usize) -> Result<Lengths, Refusal>
     requires s_value { whole_at s.now ≡ true }
     requires row_bound { row < splits_held_at s.now }
     requires bound { 1 ≤ (numbers_at s.now).kept }
@@ -53,23 +45,20 @@ fn row_lengths(s: &[u8], row: usize) -> SplitLengths
         sum: 0.0,
     };
     let mut met = false;
-    let mut i = 0;
-    while i < trees {
-        let b = branch_of(s, Tree(i), row);
-        i += 1;
-        if let Branch::Having(x) = b {
-            let Length::Given(y) = x else {
-                return SplitLengths::Refused(Refusal::NoLength);
+    for i in 0..trees {
+        if let Some(x) = branch_of(s, Tree(i), row) {
+            let Some(y) = x else {
+                return Err(Refusal::NoLength);
             };
             lengths = with_length(met, lengths, y);
             met = true;
         }
     }
-    SplitLengths::Gives(lengths)
+    Ok(lengths)
 }
 
 // The split in a row, in tree i.
-fn branch_of(s: &[u8], i: Tree, row: usize) -> Branch
+fn branch_of(s: &[u8], i: Tree, row: usize) -> Option<Option<f64>>
     requires s_value { whole_at s.now ≡ true }
     requires row_bound { row < splits_held_at s.now }
     requires bound { 1 ≤ (numbers_at s.now).kept }
@@ -78,14 +67,12 @@ fn branch_of(s: &[u8], i: Tree, row: usize) -> Branch
 {
     let from = rows::tree_from(s, Tree(i.0));
     let n = rows::splits_in(s, Tree(i.0));
-    let mut j = 0;
-    while j < n {
+    for j in 0..n {
         if rows::row_in(s, Tree(i.0), from, j) == row {
-            return Branch::Having(rows::length_in(s, Tree(i.0), j));
+            return Some(rows::length_in(s, Tree(i.0), j));
         }
-        j += 1;
     }
-    Branch::Lacking
+    None
 }
 
 // The three with one length more; of that length alone, where none was met before.

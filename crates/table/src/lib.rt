@@ -6,9 +6,13 @@
 #![tactic(auto)]
 
 mod branches;
+mod numbered;
 mod opening_calls;
 mod questions;
+mod sizing;
 
 pub use branches::split_lengths;
-pub use opening_calls::{open, size};
-pub use questions::{one_split, split_count, split_list, tree_count, tree_splits};
+pub use numbered::one_split;
+pub use opening_calls::open;
+pub use questions::{split_count, split_list, tree_count, tree_splits};
+pub use sizing::size;

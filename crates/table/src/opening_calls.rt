@@ -1,4 +1,4 @@
-// Opening a collection in lent bytes, and how many bytes it takes.
+// Opening a collection in lent bytes.
 //
 // Crate trees, `specs/Opening.antt`, says what is refused; `specs/Emptied.antt` says what is left of
 // the bytes behind the head.
@@ -11,25 +11,8 @@ ghost use Rattle.layout.specs.Store.{size_at};
 ghost use Rattle.table.specs.Promises.{OpenedAs};
 ghost use Rattle.table.specs.Emptied.{LanesEmptied, Emptied};
 
-use answers::{Finish, Lane, Number, Refusal};
+use answers::{Lane, Refusal};
 use layout::HEAD_BYTES;
-
-// How many bytes must be lent for a collection of these numbers, where lengths are kept or not.
-pub fn size(
-    taxa: u32,
-    lanes: u32,
-    tree_room: u32,
-    split_room: u32,
-    places: u32,
-    kept: bool,
-) -> Number
-    ensures { number_given result ≡ sizing (numbers_of taxa lanes tree_room split_room places kept) }
-{
-    if !opening::numbers_in_range(taxa, lanes, tree_room, split_room, places) {
-        return Number::Refused(Refusal::OutOfRange);
-    }
-    Number::Gives(opening::store_size(taxa, lanes, tree_room, split_room, places, kept))
-}
 
 // Opens a collection in the lent bytes s, whatever they held. The names are read beside it first, as a refusal leaves it as it was.
 pub fn open(
@@ -43,27 +26,27 @@ pub fn open(
     list: &[u8],
     first: &[u64],
     second: &[u64],
-) -> Finish
+) -> Result<(), Refusal>
     ensures { OpenedAs (opening (numbers_of taxa lanes tree_room split_room places kept) list.now first.now second.now (length s.old)) result s.old s.new }
 {
     if !opening::numbers_in_range(taxa, lanes, tree_room, split_room, places) {
-        return Finish::Refused(Refusal::OutOfRange);
+        return Err(Refusal::OutOfRange);
     }
     if !opening::constants_good(places, taxa, first, second) {
-        return Finish::Refused(Refusal::OutOfRange);
+        return Err(Refusal::OutOfRange);
     }
     let mut names = [0u8; HEAD_BYTES];
     if !opening::read_names(list, taxa, &mut names) {
-        return Finish::Refused(Refusal::BadNames);
+        return Err(Refusal::BadNames);
     }
     if s.len() < opening::store_size(taxa, lanes, tree_room, split_room, places, kept) {
-        return Finish::Refused(Refusal::TooShort);
+        return Err(Refusal::TooShort);
     }
     opening::write_head(
         s, taxa, lanes, tree_room, split_room, places, kept, &names, first, second,
     );
     clear_rest(s);
-    Finish::Done
+    Ok(())
 }
 
 // Makes every lane empty, and the chain of every place.
@@ -83,9 +66,7 @@ fn clear_lanes(s: &mut [u8])
     ensures { LanesEmptied s.old (numbers_at s.old).lanes s.new }
 {
     let n = head::lanes(s) as usize;
-    let mut l = 0;
-    while l < n {
+    for l in 0..n {
         fields::put16(s, layout::lane_from(Lane(l)), 0);
-        l += 1;
     }
 }

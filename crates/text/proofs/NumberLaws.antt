@@ -7,13 +7,13 @@ use native.Mathlib.Nat.{add-zero, eq-or-lt_of_le}
 use native.Mathlib.Omega.{arith}
 use mathlib.Core.Path.{◌≡◌, refl, ap, sym, ◌∙◌, subst}
 use mathlib.Core.Logic.{◌⊎◌, inl, inr, ⊎_elim}
-use mathlib.Core.Bool.{Bool, true, false, ◌&&◌, ◌||◌, not}
+use mathlib.Core.Bool.{Bool, true, false, ◌||◌, not}
 use mathlib.Core.List.{List, [], ◌∷◌, ◌++◌}
 use mathlib.Core.Option.{none, some}
 use lib.Dec.{T, leb, eqb, ltb}
 use lib.ListN.{length, get_or, drop}
 use lib.Seq.{slice, slice_empty}
-use borrow.Author.Tests.{leb-true, le-leb, lt-leb, eqb-true, eqb-false, ltb-true, ltb-false, ne_eqb}
+use borrow.Author.Tests.{leb-true, eqb-true, eqb-false, ltb-true, ltb-false, ne_eqb}
 use Rattle.std.specs.Prelude.{if◌then◌else◌}
 use Rattle.trees.specs.Text.{Symbol, label, kind, kind_in, apostrophe, is_label_byte, open_after, is_label, colon, stray, token, symbols_after, ended}
 use Rattle.trees.specs.Length.{is_digit}
@@ -35,14 +35,6 @@ use Rattle.text.proofs.AutomatonLaws.{run_length, quote-length}
 
 last : (b : ℕ) → b < 58 → b ≤ 57
 last b h = omega arith
-
-pub digit-tests : (b : ℕ) → 48 ≤ b → ltb b 58 ≡ is_digit b
-unfolding is_digit
-digit-tests b h = go (ltb b 58) refl
-  where
-    go : (t : Bool) → ltb b 58 ≡ t → t ≡ (leb 48 b && leb b 57)
-    go true e = sym (simp (le-leb 48 b h, le-leb b 57 (last b (ltb-true b 58 e))))
-    go false e = sym (simp (le-leb 48 b h, lt-leb b 57 (ltb-false b 58 e)))
 
 digit-label : (x : ℕ) → is_digit x ≡ true → is_label_byte x ≡ true
 unfolding is_digit is_label_byte

@@ -9,10 +9,10 @@ ghost use Rattle.text.specs.Ends.{block_bytes};
 use crate::turned;
 
 // The byte that ends a text.
-const SEMICOLON: u8 = 59;
+const SEMICOLON: u8 = b';';
 
 // The quote.
-const APOSTROPHE: u8 = 39;
+const APOSTROPHE: u8 = b'\'';
 
 // How many bytes are looked at together: `block_bytes` of specs/Ends.antt.
 const BLOCK: usize = 64;
@@ -24,15 +24,16 @@ pub fn text_end(piece: &[u8], q: bool) -> usize
     ensures upper_bound { result ≤ length piece.now }
 {
     let mut quoted = q;
-    let mut at = 0;
-    while BLOCK <= piece.len() - at {
+    let blocks = piece.len() / BLOCK;
+    for k in 0..blocks {
+        let at = BLOCK * k;
         let n = end_in_block(&piece[at..at + BLOCK], quoted);
         if n < BLOCK {
             return at + n;
         }
         quoted = open_after(&piece[at..at + BLOCK], quoted);
-        at += BLOCK;
     }
+    let at = BLOCK * blocks;
     let last = first_end(&piece[at..], quoted);
     at + last
 }
@@ -54,15 +55,13 @@ fn first_end(piece: &[u8], q: bool) -> usize
     ensures upper_bound { result ≤ length piece.now }
 {
     let mut quoted = q;
-    let mut i = 0;
-    while i < piece.len() {
+    for i in 0..piece.len() {
         if ends_text(quoted, piece[i]) {
             return i;
         }
         quoted = turned(quoted, piece[i]);
-        i += 1;
     }
-    i
+    piece.len()
 }
 
 // How many texts a piece ends.
@@ -71,13 +70,14 @@ pub fn count_texts(piece: &[u8], q: bool) -> usize
 {
     let mut quoted = q;
     let mut n = 0;
-    let mut at = 0;
-    while BLOCK <= piece.len() - at {
+    let blocks = piece.len() / BLOCK;
+    for k in 0..blocks {
+        let at = BLOCK * k;
         let more = count_block(&piece[at..at + BLOCK], quoted);
         quoted = open_after(&piece[at..at + BLOCK], quoted);
         n += more;
-        at += BLOCK;
     }
+    let at = BLOCK * blocks;
     let last = count_block(&piece[at..], quoted);
     n + last
 }
@@ -105,14 +105,12 @@ fn count_quoted(block: &[u8], q: bool) -> usize
 {
     let mut quoted = q;
     let mut n = 0;
-    let mut i = 0;
-    while i < block.len() {
+    for i in 0..block.len() {
         let ends = ends_text(quoted, block[i]);
         if ends {
             n += 1;
         }
         quoted = turned(quoted, block[i]);
-        i += 1;
     }
     n
 }
@@ -125,14 +123,12 @@ fn count_plain(block: &[u8]) -> usize
     ensures upper_bound { result ≤ length block.now }
 {
     let mut n = 0u8;
-    let mut i = 0;
-    while i < block.len() {
+    for i in 0..block.len() {
         if block[i] == SEMICOLON {
             n += 1;
         }
-        i += 1;
     }
-    n as usize
+    usize::from(n)
 }
 
 // Whether quotes are open behind a piece.
@@ -140,10 +136,8 @@ pub fn open_after(piece: &[u8], q: bool) -> bool
     ensures { result ≡ open_after q piece.now }
 {
     let mut inside = q;
-    let mut i = 0;
-    while i < piece.len() {
+    for i in 0..piece.len() {
         inside = turned(inside, piece[i]);
-        i += 1;
     }
     inside
 }
@@ -153,12 +147,10 @@ fn holds(block: &[u8], b: u8) -> bool
     ensures { result ≡ member b block.now }
 {
     let mut found = false;
-    let mut i = 0;
-    while i < block.len() {
+    for i in 0..block.len() {
         if block[i] == b {
             found = true;
         }
-        i += 1;
     }
     found
 }

@@ -45,12 +45,10 @@ pub fn is_plain_label(text: &[u8], b: usize, e: usize) -> bool
     if opens_quotes(text, b, e) {
         return false;
     }
-    let mut i = b;
-    while i < e {
+    for i in b..e {
         if text[i] == b'_' {
             return false;
         }
-        i += 1;
     }
     true
 }
@@ -74,17 +72,13 @@ fn read_unquoted(text: &[u8], b: usize, e: usize, out: &mut [u8], at: usize, mos
     requires most_in_bounds { at + most ≤ length out.old }
     ensures { ReadUpTo most out.old at (map spacedByte (slice b e text.now)) result out.new }
 {
-    let mut n = 0;
-    let mut i = b;
-    while i < e {
+    for n in 0..e - b {
         if n == most {
             return most + 1;
         }
-        out[at + n] = spaced(text[i]);
-        n += 1;
-        i += 1;
+        out[at + n] = spaced(text[b + n]);
     }
-    n
+    e - b
 }
 
 // Reads a label in quotes, from behind the first of them on.
@@ -96,10 +90,8 @@ fn read_quoted(text: &[u8], b: usize, e: usize, out: &mut [u8], at: usize, most:
 {
     let mut inside = true;
     let mut n = 0;
-    let mut i = b;
-    while i < e {
+    for i in b..e {
         let x = text[i];
-        i += 1;
         if closes(inside, x) {
             inside = false;
             continue;

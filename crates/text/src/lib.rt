@@ -64,14 +64,12 @@ pub fn skip_blanks(text: &[u8], from: usize) -> usize
     requires { from ≤ length text.now }
     ensures { Skipped text.now from result }
 {
-    let mut at = from;
-    while at < text.len() {
+    for at in from..text.len() {
         if !is_blank(text[at]) {
             return at;
         }
-        at += 1;
     }
-    at
+    text.len()
 }
 
 // Past the label bytes from `from` on.
@@ -79,14 +77,12 @@ pub fn token_end(text: &[u8], from: usize) -> usize
     requires { from ≤ length text.now }
     ensures { RunEnd text.now from result }
 {
-    let mut end = from;
-    while end < text.len() {
+    for end in from..text.len() {
         if !is_label_byte(text[end]) {
             return end;
         }
-        end += 1;
     }
-    end
+    text.len()
 }
 
 // Whether the byte b stands at `at`.
@@ -116,10 +112,7 @@ pub fn quoted_end(text: &[u8], from: usize) -> usize
 {
     let mut end = from;
     let mut q = false;
-    loop {
-        if !has_quoted_byte(text, end, q) {
-            break;
-        }
+    while has_quoted_byte(text, end, q) {
         q = turned(q, text[end]);
         end += 1;
     }
@@ -228,10 +221,7 @@ fn past_number(text: &[u8], from: usize) -> usize
 {
     let mut q = 0u8;
     let mut i = from;
-    loop {
-        if !has_label_byte(text, i) {
-            break;
-        }
+    while has_label_byte(text, i) {
         let k = class_of(text[i]);
         q = move_of(q, k);
         i = past_digits(text, i + 1, k);
@@ -259,40 +249,36 @@ fn past_digits(text: &[u8], from: usize, k: u8) -> usize
     if k != 0 {
         return from;
     }
-    let mut d = from;
-    while d < text.len() {
+    for d in from..text.len() {
         if !is_digit(text[d]) {
             return d;
         }
-        d += 1;
     }
-    d
+    text.len()
 }
 
 // Whether b is a digit.
 fn is_digit(b: u8) -> bool
     ensures { result ≡ is_digit b }
 {
-    if b < 48 {
-        return false;
-    }
-    b < 58
+    b.is_ascii_digit()
 }
 
-// The class of a byte in a length: 0 a digit, 1 a sign, 2 the point, 3 e or E, 4 any other.
+// The class of a byte in a length: 0 a digit, 1 a sign, 2 the point, 3 e or E, 4 any other. Classes and what a length comes to are
+// numbers, as the definitions of specs/Automaton.antt number them.
 fn class_of(b: u8) -> u8
     ensures { (result ≡ byte_class b) × (result < 5) }
 {
-    if b < 48 {
+    if b < b'0' {
         return sign_or_point(b);
     }
     if b < 58 {
         return 0;
     }
-    if b == 69 {
+    if b == b'E' {
         return 3;
     }
-    if b == 101 {
+    if b == b'e' {
         return 3;
     }
     4
@@ -303,13 +289,13 @@ fn sign_or_point(b: u8) -> u8
     requires { b < 48 }
     ensures { (result ≡ byte_class b) × (result < 5) }
 {
-    if b == 46 {
+    if b == b'.' {
         return 2;
     }
-    if b == 43 {
+    if b == b'+' {
         return 1;
     }
-    if b == 45 {
+    if b == b'-' {
         return 1;
     }
     4

@@ -1,6 +1,6 @@
 // What the calls answer, in a few numbers and the two consensus trees.
 use crate::{files, measured, opened};
-use answers::{Both, Number};
+use answers::Refusal;
 use std::time::CpuClock;
 
 // The number that the system gives standard output.
@@ -39,7 +39,7 @@ fn write_batch(s: &mut [u8], texts: &[u8]) {
     let n = given(opened::take_texts(s, texts, &mut verdicts));
     write_number(b"texts ", n as u64);
     write_counts(s);
-    write_number(b"verdicts ", verdict_sum(&verdicts, n));
+    write_number(b"verdicts ", sum_of_sums(front(&verdicts, n)));
 }
 
 // How many trees and splits there are.
@@ -51,7 +51,7 @@ fn write_counts(s: &[u8]) {
 // All distances.
 fn write_matrix(s: &[u8], matrix: &mut [u16]) {
     let n = given(comparing::matrix(s, matrix));
-    write_number(b"matrix ", matrix_sum(matrix, n));
+    write_number(b"matrix ", sum_of_sums(front(matrix, n)));
 }
 
 // Both consensus trees.
@@ -59,7 +59,7 @@ fn write_consensus(s: &[u8]) {
     let mut strict = [0u8; 4352];
     let mut majority = [0u8; 4352];
     let lengths = consensus::both(s, &mut strict, &mut majority);
-    let Both::Gives(a, b) = lengths else {
+    let Ok((a, b)) = lengths else {
         return;
     };
     write_text(b"strict ", &strict, a);
@@ -75,11 +75,8 @@ fn write_lengths(s: &[u8]) {
 }
 
 // The number that a call gives; 0 where it refuses.
-pub(crate) fn given(x: Number) -> usize {
-    match x {
-        Number::Gives(n) => n,
-        Number::Refused(_) => 0,
-    }
+pub(crate) fn given(x: Result<usize, Refusal>) -> usize {
+    x.unwrap_or(0)
 }
 
 // Writes a number behind its name.
@@ -92,63 +89,48 @@ pub(crate) fn write_number(name: &[u8], x: u64) {
 // Writes the first n bytes of a text behind its name.
 fn write_text(name: &[u8], text: &[u8], n: usize) {
     io::write_all(STDOUT, name);
-    if n <= text.len() {
-        io::write_all(STDOUT, &text[..n]);
-    }
+    io::write_all(STDOUT, front(text, n));
     io::write_all(STDOUT, b"\n");
 }
 
-// The sum of the sums of the first 1, 2, .. n verdicts, which tells their order too.
-pub(crate) fn verdict_sum(verdicts: &[u32], n: usize) -> u64 {
-    let mut sum = 0u64;
-    let mut sums = 0u64;
-    let mut i = 0;
-    while i < n {
-        if verdicts.len() <= i {
-            return sums;
-        }
-        sum = std::num::wrapping_add_u64(sum, wide32(verdicts[i]));
-        sums = std::num::wrapping_add_u64(sums, sum);
-        i += 1;
-    }
-    sums
+// A sum modulo 2^64, and the sum of the sums until then, which tells the order too.
+#[derive(Clone, Copy)]
+struct Sums {
+    sum: u64,
+    sums: u64,
 }
 
-// The same of the first n entries of the matrix.
-fn matrix_sum(matrix: &[u16], n: usize) -> u64 {
-    let mut sum = 0u64;
-    let mut sums = 0u64;
-    let mut i = 0;
-    while i < n {
-        if matrix.len() <= i {
-            return sums;
-        }
-        sum = std::num::wrapping_add_u64(sum, wide16(matrix[i]));
-        sums = std::num::wrapping_add_u64(sums, sum);
-        i += 1;
+// Those with x behind what was added.
+fn with(all: Sums, x: u64) -> Sums {
+    let sum = all.sum.wrapping_add(x);
+    Sums {
+        sum,
+        sums: all.sums.wrapping_add(sum),
     }
-    sums
+}
+
+// The sum of the sums of the first 1, 2, .. numbers.
+pub(crate) fn sum_of_sums<T: Copy + Into<u64>>(numbers: &[T]) -> u64 {
+    let mut all = Sums { sum: 0, sums: 0 };
+    for x in numbers {
+        all = with(all, (*x).into());
+    }
+    all.sums
 }
 
 // The same of the first n answers on lengths.
 fn lengths_sum(part: u8, s: &[u8], n: usize) -> u64 {
-    let mut sum = 0u64;
-    let mut sums = 0u64;
-    let mut i = 0;
-    while i < n {
-        sum = std::num::wrapping_add_u64(sum, measured::lengths_word(part, s, i));
-        sums = std::num::wrapping_add_u64(sums, sum);
-        i += 1;
+    let mut all = Sums { sum: 0, sums: 0 };
+    for i in 0..n {
+        all = with(all, measured::lengths_word(part, s, i));
     }
-    sums
+    all.sums
 }
 
-// x in 64 bits.
-fn wide32(x: u32) -> u64 {
-    x as u64
-}
-
-// x in 64 bits.
-fn wide16(x: u16) -> u64 {
-    x as u64
+// The first n items; all of them, where there are not so many.
+pub(crate) fn front<T: Copy>(items: &[T], n: usize) -> &[T] {
+    if items.len() < n {
+        return items;
+    }
+    &items[..n]
 }

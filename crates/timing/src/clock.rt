@@ -3,7 +3,7 @@ use crate::answered::STDOUT;
 use std::time::{CpuClock, Duration};
 
 // The processor time that the program has used, in microseconds; 0 where the system does not tell it.
-pub(crate) fn now(rt: &impl CpuClock) -> u64 {
+fn now(rt: &impl CpuClock) -> u64 {
     match rt.process_cpu_time() {
         Ok(t) => unsigned(t),
         Err(_) => 0,
@@ -16,7 +16,7 @@ fn unsigned(t: Duration) -> u64 {
 }
 
 // The nanoseconds of one of so many times, since the time `from`.
-pub(crate) fn nanoseconds(rt: &impl CpuClock, from: u64, times: u64) -> u64 {
+fn nanoseconds(rt: &impl CpuClock, from: u64, times: u64) -> u64 {
     let to = now(rt);
     if to < from {
         return 0;
@@ -29,6 +29,17 @@ pub(crate) fn nanoseconds(rt: &impl CpuClock, from: u64, times: u64) -> u64 {
         return 0;
     }
     micros * 1000 / times
+}
+
+// Makes a step n times, and answers the nanoseconds of one time.
+pub(crate) fn time<F: FnMut(u64)>(rt: &impl CpuClock, n: u64, mut step: F) -> u64
+    requires { F.IsAlwaysCallable step }
+{
+    let from = now(rt);
+    for i in 0..n {
+        step(i);
+    }
+    nanoseconds(rt, from, n)
 }
 
 // Writes a time.

@@ -43,19 +43,17 @@ fn take_bytes(rt: &impl CpuClock, input: &[u8], n: usize, store: &mut [u8; 77876
 
 // Takes the line that says what is wanted.
 fn take_lines(rt: &impl CpuClock, input: &[u8], store: &mut [u8; 778760]) -> Wanted {
-    let e = lines::place_of(10, input, 0);
-    if e == input.len() {
+    let Some(e) = lines::place_of(b'\n', input) else {
         return lines::nothing();
-    }
+    };
     take_names(rt, &input[..e], &input[e + 1..], store)
 }
 
 // Takes the line of names and the texts behind it.
 fn take_names(rt: &impl CpuClock, wanted: &[u8], input: &[u8], store: &mut [u8; 778760]) -> Wanted {
-    let e = lines::place_of(10, input, 0);
-    if e == input.len() {
+    let Some(e) = lines::place_of(b'\n', input) else {
         return lines::nothing();
-    }
+    };
     take_kept(rt, wanted, &input[..e], &input[e + 1..], store)
 }
 

@@ -1,6 +1,6 @@
 // The collection's distances as text, in PHYLIP's layout, up to 4,205,573 bytes.
 use crate::lines::Wanted;
-use crate::{answered, clock, files};
+use crate::{answered, clock};
 use std::time::CpuClock;
 
 // Writes the text of a full collection over the input, if it is wanted: once for its length and a sum over its bytes, or for the
@@ -19,7 +19,7 @@ pub(crate) fn write_over(rt: &impl CpuClock, wanted: Wanted, s: &[u8], input: &m
 fn write_answer(s: &[u8], out: &mut [u8]) {
     let k = answered::given(phylip::write_matrix(s, out));
     answered::write_number(b"phylip ", k as u64);
-    answered::write_number(b"bytes ", files::byte_sum(files::front(out, k)));
+    answered::write_number(b"bytes ", answered::sum_of_sums(answered::front(out, k)));
 }
 
 // Writes the nanoseconds of one of n times.
@@ -29,11 +29,7 @@ fn write_time(rt: &impl CpuClock, n: u64, s: &[u8], out: &mut [u8]) {
 
 // Writes the text n times, and answers the nanoseconds of one time.
 fn time_text(rt: &impl CpuClock, n: u64, s: &[u8], out: &mut [u8]) -> u64 {
-    let from = clock::now(rt);
-    let mut i = 0u64;
-    while i < n {
-        phylip::write_matrix(s, out);
-        i += 1;
-    }
-    clock::nanoseconds(rt, from, n)
+    clock::time(rt, n, |_| {
+        let _ = phylip::write_matrix(s, out);
+    })
 }

@@ -1,5 +1,5 @@
 // What the calls on lengths answer, each in a word.
-use answers::{Lengths, Refusal, Split, SplitLengths, Tree, Weight};
+use answers::{Lengths, Refusal, Split, Tree};
 
 // The answer to one of the two parts that ask on lengths, for the number i.
 pub(crate) fn lengths_word(part: u8, s: &[u8], i: usize) -> u64 {
@@ -10,27 +10,27 @@ pub(crate) fn lengths_word(part: u8, s: &[u8], i: usize) -> u64 {
 }
 
 // A weighted distance: its bits, or the refusal's number.
-fn weight_of(x: Weight) -> u64 {
+fn weight_of(x: Result<f64, Refusal>) -> u64 {
     match x {
-        Weight::Gives(d) => bits_of(d),
-        Weight::Refused(r) => refused(r),
+        Ok(d) => bits_of(d),
+        Err(r) => refused(r),
     }
 }
 
 // The lengths of a split: a sum of their bits that tells them apart, or the refusal's number.
-fn sums_of(x: SplitLengths) -> u64 {
+fn sums_of(x: Result<Lengths, Refusal>) -> u64 {
     match x {
-        SplitLengths::Gives(y) => sum_of_sums(y),
-        SplitLengths::Refused(r) => refused(r),
+        Ok(y) => sum_of_sums(y),
+        Err(r) => refused(r),
     }
 }
 
 // Three times the bits of the shortest, twice those of the longest and those of the sum, modulo 2^64.
 fn sum_of_sums(x: Lengths) -> u64 {
     let one = bits_of(x.shortest);
-    let two = std::num::wrapping_add_u64(one, bits_of(x.longest));
-    let three = std::num::wrapping_add_u64(two, bits_of(x.sum));
-    std::num::wrapping_add_u64(std::num::wrapping_add_u64(one, two), three)
+    let two = one.wrapping_add(bits_of(x.longest));
+    let three = two.wrapping_add(bits_of(x.sum));
+    one.wrapping_add(two).wrapping_add(three)
 }
 
 // The bits of x; 0 where it is no number, which the calls never give.
@@ -43,5 +43,5 @@ fn bits_of(x: f64) -> u64 {
 
 // A refusal's number in 64 bits.
 fn refused(r: Refusal) -> u64 {
-    answers::refusal_number(r) as u64
+    u64::from(answers::refusal_number(r))
 }

@@ -1,17 +1,21 @@
 // The collection that is timed: one lane, room for 1,024 trees and 4,096 splits, 8,192 places, constants that jump about. Its
 // store has 254,472 bytes, and 778,760 where lengths are kept.
 use crate::lines;
-use answers::{Lane, Number};
+use answers::{Lane, Refusal};
 
 // Opens the collection and takes every text, in one call.
 pub(crate) fn fill(s: &mut [u8], kept: bool, names: &[u8], texts: &[u8]) {
     let mut verdicts = [0u32; 2048];
     open(s, kept, names);
-    take_texts(s, texts, &mut verdicts);
+    let _ = take_texts(s, texts, &mut verdicts);
 }
 
 // Takes every text in one call: as a batch, or as a NEXUS file where the first byte is `#`, with which no text of a collection begins.
-pub(crate) fn take_texts(s: &mut [u8], texts: &[u8], verdicts: &mut [u32]) -> Number {
+pub(crate) fn take_texts(
+    s: &mut [u8],
+    texts: &[u8],
+    verdicts: &mut [u32],
+) -> Result<usize, Refusal> {
     if lines::first_byte(texts) == b'#' {
         return nexus::feed_file(s, texts, verdicts);
     }
@@ -21,14 +25,10 @@ pub(crate) fn take_texts(s: &mut [u8], texts: &[u8], verdicts: &mut [u32]) -> Nu
 // Opens the collection and takes each text by a call of its own.
 pub(crate) fn fill_singly(s: &mut [u8], kept: bool, names: &[u8], texts: &[u8]) {
     open(s, kept, names);
-    let mut b = 0;
-    while b < texts.len() {
-        let e = lines::place_of(59, texts, b);
-        if e == texts.len() {
-            return;
-        }
-        feeding::feed(s, Lane(0), &texts[b..e + 1]);
-        b = e + 1;
+    let mut rest = texts;
+    while let Some(e) = lines::place_of(b';', rest) {
+        feeding::feed(s, Lane(0), &rest[..e + 1]);
+        rest = &rest[e + 1..];
     }
 }
 
@@ -51,7 +51,7 @@ fn open_with(s: &mut [u8], kept: bool, names: &[u8], first: &[u64], second: &[u6
     if second.len() < k {
         return;
     }
-    table::open(
+    let _ = table::open(
         s,
         n,
         1,
@@ -78,17 +78,15 @@ fn open_smallest(s: &mut [u8], names: &[u8], zeros: &[u64]) {
     if zeros.len() < k {
         return;
     }
-    table::open(s, n, 1, 1, 1, 1, false, names, &zeros[..k], &zeros[..k]);
+    let _ = table::open(s, n, 1, 1, 1, 1, false, names, &zeros[..k], &zeros[..k]);
 }
 
 // Fills a list of constants with numbers below the 8,192 places.
 fn spread(list: &mut [u64], from: u64) {
     let mut x = from;
-    let mut i = 0;
-    while i < list.len() {
+    for place in list {
         x = next(x);
-        list[i] = x % 8192;
-        i += 1;
+        *place = x % 8192;
     }
 }
 
@@ -99,9 +97,8 @@ pub(crate) fn next(x: u64) -> u64 {
 
 // The first text, with its semicolon; all that is left, where there is no semicolon.
 pub(crate) fn first_text(texts: &[u8]) -> &[u8] {
-    let n = lines::place_of(59, texts, 0);
-    if n == texts.len() {
-        return texts;
+    match lines::place_of(b';', texts) {
+        Some(n) => &texts[..n + 1],
+        None => texts,
     }
-    &texts[..n + 1]
 }

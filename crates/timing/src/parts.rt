@@ -16,13 +16,7 @@ pub(crate) fn time_part(
     matrix: &mut [u16; 1048576],
 ) -> u64 {
     opened::fill(s, kept, names, texts);
-    let from = clock::now(rt);
-    let mut i = 0u64;
-    while i < n {
-        make_part(part, i, kept, names, texts, s, matrix);
-        i += 1;
-    }
-    clock::nanoseconds(rt, from, n)
+    clock::time(rt, n, |i| make_part(part, i, kept, names, texts, s, matrix))
 }
 
 // Fills the collection, makes a part of split files n times, and answers the nanoseconds of one time.
@@ -57,7 +51,7 @@ fn make_part(
         b'b' => opened::fill(s, kept, names, texts),
         b's' => opened::fill_singly(s, kept, names, texts),
         b'm' => {
-            comparing::matrix(s, matrix);
+            let _ = comparing::matrix(s, matrix);
         }
         _ => ask(part, i as usize, texts, s),
     }
@@ -75,7 +69,7 @@ fn ask(part: u8, i: usize, texts: &[u8], s: &mut [u8; 778760]) {
             feeding::feed(s, Lane(0), opened::first_text(texts));
         }
         b'x' => {
-            withdrawing::withdraw(s, Tree(0));
+            let _ = withdrawing::withdraw(s, Tree(0));
         }
         b'w' => test(s),
         _ => pass(s),
@@ -86,7 +80,7 @@ fn ask(part: u8, i: usize, texts: &[u8], s: &mut [u8; 778760]) {
 fn write_both(s: &[u8]) {
     let mut strict = [0u8; 4352];
     let mut majority = [0u8; 4352];
-    consensus::both(s, &mut strict, &mut majority);
+    let _ = consensus::both(s, &mut strict, &mut majority);
 }
 
 // Writes a byte that no lane holds, so that the compiler cannot leave out what x was made by, nor make one of many.
@@ -111,10 +105,8 @@ fn pass(s: &mut [u8; 778760]) {
 // The sum of the first 31,809 words of the store, modulo 2^64.
 fn word_sum(s: &[u8; 778760]) -> u64 {
     let mut sum = 0u64;
-    let mut i = 0;
-    while i < 31809 {
-        sum = std::num::wrapping_add_u64(sum, fields::get64(s, 8 * i));
-        i += 1;
+    for i in 0..31809 {
+        sum = sum.wrapping_add(fields::get64(s, 8 * i));
     }
     sum
 }

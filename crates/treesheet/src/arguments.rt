@@ -1,206 +1,142 @@
 // What the program's arguments ask for. The first is its own name; options stand before the names, each at most once.
-ghost use Rattle.std.specs.Prelude.{◌+◌, ◌≤◌};
+ghost use Rattle.std.specs.Prelude.{◌+◌, ◌≤◌, IfSome};
 
 use filing::STDERR_FILENO;
 use std::rt::Env;
-use words::Number;
 
-// Which argument names the file of names: 0, where the program is not used so. Which ones stand behind the options `--matrix` and
-// `--apart`: 0, where they are not given. How many texts of each file are dropped. Whether `--splits` and `--newick` are given.
+// Which argument names the file of names, and which ones stand behind the options `--matrix` and `--apart`, where they are given. How many
+// texts of each file are dropped, where that is said. Whether `--splits` and `--newick` are given.
 #[derive(Clone, Copy)]
 pub(crate) struct Asked {
     pub names: usize,
-    pub matrix: usize,
-    pub apart: usize,
-    pub dropped: usize,
+    pub matrix: Option<usize>,
+    pub apart: Option<usize>,
+    pub dropped: Option<usize>,
     pub splits: bool,
     pub newick: bool,
 }
 
 // The options.
-const MATRIX: usize = 0;
+#[derive(Clone, Copy)]
+enum Choice {
+    Matrix,
+    Splits,
+    Drop,
+    Newick,
+    Apart,
+}
 
-const SPLITS: usize = 1;
-
-const DROP: usize = 2;
-
-const NEWICK: usize = 3;
-
-const APART: usize = 4;
-
-// An argument that is no option, and one that looks like one.
-const NAME: usize = 5;
-
-const UNKNOWN: usize = 6;
+// What an argument is: an option, one that looks like one, or none.
+#[derive(Clone, Copy)]
+enum Word {
+    Known(Choice),
+    Unknown,
+    Name,
+}
 
 // How many texts can be dropped of a file.
-const MOST_DROPPED: usize = 1000000;
+const MOST_DROPPED: u64 = 1000000;
 
-// Reads what is asked for.
-pub(crate) fn read(rt: &impl Env) -> Asked {
-    let mut at = [0usize; 5];
-    let names = note_options(rt, &mut at);
-    let dropped = dropped_by(rt, at[DROP]);
-    let is_good = is_use(rt, names, dropped, &at);
-    Asked {
-        names: if is_good { names } else { 0 },
-        matrix: at[MATRIX],
-        apart: at[APART],
-        dropped,
-        splits: at[SPLITS] != 0,
-        newick: at[NEWICK] != 0,
+// Reads what is asked for; none, where the program is not used so: with names and a file behind them, and the two trees alone with nothing
+// else.
+pub(crate) fn read(rt: &impl Env) -> Option<Asked> {
+    let asked = options(rt)?;
+    if count(rt) <= asked.names.wrapping_add(1) {
+        return None;
     }
+    if asked.newick && (asked.splits || asked.apart.is_some()) {
+        return None;
+    }
+    Some(asked)
 }
 
-// Notes for each option which argument stands behind it, and answers which one is no option; 0, where one is unknown, comes twice or has no
-// value. There is a turn for each option, and one more.
-fn note_options(rt: &impl Env, at: &mut [usize; 5]) -> usize {
-    let mut i = 1;
-    let mut turns = 6usize;
-    while turns > 0 {
-        let k = kind_of(rt, i);
-        if k == NAME {
-            return i;
+// Reads the options, up to the first argument that is none; nothing, where one is unknown, comes twice or has no value. There is a turn for
+// each option, and one more.
+fn options(rt: &impl Env) -> Option<Asked> {
+    let mut asked = Asked {
+        names: 1,
+        matrix: None,
+        apart: None,
+        dropped: None,
+        splits: false,
+        newick: false,
+    };
+    for turn in 0..6usize {
+        match word_at(rt, asked.names) {
+            Word::Known(choice) => asked = with_option(rt, choice, asked)?,
+            Word::Unknown => return None,
+            Word::Name => return Some(asked),
         }
-        if k == UNKNOWN {
-            return 0;
-        }
-        if at[k] != 0 {
-            return 0;
-        }
-        i += 1;
-        at[k] = i;
-        i = past_value(rt, k, i);
-        if i == 0 {
-            return 0;
-        }
-        turns -= 1;
     }
-    0
+    None
 }
 
-// Which argument stands behind the value of option k, which would be argument i; 0, where it wants one and there is none that can be had.
-fn past_value(rt: &impl Env, k: usize, i: usize) -> usize
-    requires { i ≤ 64 }
-    ensures { result ≤ i + 1 }
+// The same with the option that stands where names would, and with its value.
+fn with_option(rt: &impl Env, choice: Choice, before: Asked) -> Option<Asked>
+    requires { before.names ≤ 64 }
+    ensures { IfSome result (λ next. next.names ≤ before.names + 2) }
 {
-    if k == SPLITS {
-        return i;
+    let i = before.names + 1;
+    let mut next = before;
+    next.names = i + 1;
+    match choice {
+        Choice::Matrix if before.matrix.is_none() => next.matrix = Some(value_at(rt, i)?),
+        Choice::Apart if before.apart.is_none() => next.apart = Some(value_at(rt, i)?),
+        Choice::Drop if before.dropped.is_none() => next.dropped = Some(number_at(rt, i)?),
+        Choice::Splits if !before.splits => {
+            next.splits = true;
+            next.names = i;
+        }
+        Choice::Newick if !before.newick => {
+            next.newick = true;
+            next.names = i;
+        }
+        _ => return None,
     }
-    if k == NEWICK {
-        return i;
-    }
-    if !can_be_had(rt, i) {
-        return 0;
-    }
-    i + 1
+    Some(next)
 }
 
-// Whether there is an argument i, and it is not too long.
-fn can_be_had(rt: &impl Env, i: usize) -> bool {
+// Argument i, where there is one and it is not too long.
+fn value_at(rt: &impl Env, i: usize) -> Option<usize> {
     let mut word = io::buffer();
-    rt.arg(i, &mut word).is_ok()
+    rt.arg(i, &mut word).is_ok().then_some(i)
+}
+
+// How many texts argument i says are dropped of each file, where it is such a number.
+fn number_at(rt: &impl Env, i: usize) -> Option<usize> {
+    let mut word = io::buffer();
+    let n = filing::argument(rt, i, &mut word);
+    let v = words::decimal(&word[..n])?;
+    if MOST_DROPPED < v {
+        return None;
+    }
+    Some(v as usize)
 }
 
 // What argument i is. One that is not there is no option; of one that is too long the first bytes are looked at.
-fn kind_of(rt: &impl Env, i: usize) -> usize
-    ensures { result ≤ 6 }
-{
+fn word_at(rt: &impl Env, i: usize) -> Word {
     let mut word = io::buffer();
     let n = filing::argument(rt, i, &mut word);
     if n == 0 {
         return no_option(&word);
     }
-    kind_of_word(&word[..n])
-}
-
-// What a word is, by its length.
-fn kind_of_word(word: &[u8]) -> usize
-    ensures { result ≤ 6 }
-{
-    match word.len() {
-        6 => if_same(word, b"--drop", DROP),
-        7 => if_same(word, b"--apart", APART),
-        8 => kind_of_eight(word),
-        _ => no_option(word),
-    }
-}
-
-// What a word of eight bytes is.
-fn kind_of_eight(word: &[u8]) -> usize
-    ensures { result ≤ 6 }
-{
-    if filing::same(word, b"--matrix") {
-        return MATRIX;
-    }
-    if filing::same(word, b"--splits") {
-        return SPLITS;
-    }
-    if_same(word, b"--newick", NEWICK)
-}
-
-// The option k, where the word is the one wanted.
-fn if_same(word: &[u8], wanted: &[u8], k: usize) -> usize
-    requires { k ≤ 6 }
-    ensures { result ≤ 6 }
-{
-    if filing::same(word, wanted) {
-        k
-    } else {
-        no_option(word)
+    match &word[..n] {
+        b"--matrix" => Word::Known(Choice::Matrix),
+        b"--splits" => Word::Known(Choice::Splits),
+        b"--drop" => Word::Known(Choice::Drop),
+        b"--newick" => Word::Known(Choice::Newick),
+        b"--apart" => Word::Known(Choice::Apart),
+        other => no_option(other),
     }
 }
 
 // What a word is that is none of the options.
-fn no_option(word: &[u8]) -> usize
-    ensures { result ≤ 6 }
-{
+fn no_option(word: &[u8]) -> Word {
     if filing::begins(word, b"--") {
-        UNKNOWN
+        Word::Unknown
     } else {
-        NAME
+        Word::Name
     }
-}
-
-// How many texts argument i says are dropped of each file: none for argument 0; one more than can be, where it is no such number.
-fn dropped_by(rt: &impl Env, i: usize) -> usize {
-    if i == 0 {
-        return 0;
-    }
-    let mut word = io::buffer();
-    let n = filing::argument(rt, i, &mut word);
-    match words::decimal(&word, 0, n) {
-        Number::Is(v) => most_dropped(v),
-        Number::Nothing => MOST_DROPPED + 1,
-    }
-}
-
-// The number v, or one more than can be dropped.
-fn most_dropped(v: u64) -> usize {
-    if (MOST_DROPPED as u64) < v {
-        return MOST_DROPPED + 1;
-    }
-    v as usize
-}
-
-// Whether the program is used so: with names and a file behind them, and the two trees alone with nothing else.
-fn is_use(rt: &impl Env, names: usize, dropped: usize, at: &[usize; 5]) -> bool {
-    if names == 0 {
-        return false;
-    }
-    if count(rt) <= std::num::wrapping_add_usize(names, 1) {
-        return false;
-    }
-    if MOST_DROPPED < dropped {
-        return false;
-    }
-    if at[NEWICK] == 0 {
-        return true;
-    }
-    if at[SPLITS] != 0 {
-        return false;
-    }
-    at[APART] == 0
 }
 
 // How many arguments there are.

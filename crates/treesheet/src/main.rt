@@ -16,7 +16,8 @@ mod totals;
 
 ghost use Rattle.std.specs.Prelude.{◌≤◌, IfOk};
 
-use arguments::Asked;
+use filing::Done;
+use release::Wanted;
 use std::alloc::AllocError;
 use std::process::ExitCode;
 use std::rt::{Env, Files};
@@ -30,13 +31,13 @@ const COLLECTION: usize = 1048576;
 // What cannot be done without memory is not begun.
 fn main(rt: HostRuntime) -> ExitCode {
     match run(&rt) {
-        Ok(status) => ExitCode::from(status as u8),
+        Ok(status) => ExitCode::from(status),
         Err(_) => ExitCode::from(2),
     }
 }
 
 // Lends the memory.
-fn run<R: Env + Files + Input + AllocGlobal>(rt: &R) -> Result<u32, AllocError>
+fn run<R: Env + Files + Input + AllocGlobal>(rt: &R) -> Result<u8, AllocError>
     ensures { IfOk result (λ status. status ≤ 2) }
 {
     let mut file = vec![in rt.alloc(); 0u8; LONGEST + 1]?;
@@ -52,41 +53,41 @@ pub fn treesheet_main<R: Env + Files + Input>(
     file: &mut [u8],
     lent: &mut [u8],
     verdicts: &mut [u32],
-) -> u32
+) -> u8
     ensures { result ≤ 2 }
 {
-    let asked = arguments::read(rt);
-    if asked.names == 0 {
-        arguments::tell_use();
-        return 2;
-    }
-    let taxa = filing::open_names(rt, b"treesheet", asked.names, files::LANES, file, lent);
-    if taxa == 0 {
-        return 2;
-    }
-    go_on(rt, asked, taxa, file, lent, verdicts)
+    let done = go_on(rt, file, lent, verdicts);
+    filing::exit_status(done)
 }
 
-// The same with an open collection.
+// The same, and answers what was done; none, where nothing could be.
 fn go_on<R: Env + Files + Input>(
     rt: &R,
-    asked: Asked,
-    taxa: u32,
     file: &mut [u8],
     lent: &mut [u8],
     verdicts: &mut [u32],
-) -> u32
-    requires { taxa ≤ 64 }
-    ensures { result ≤ 2 }
-{
-    let apart = strains::asked_for(rt, asked.apart, taxa, lent);
-    if apart == strains::UNKNOWN {
-        return 2;
-    }
-    let all = files::take_all(rt, asked.names, asked.dropped, file, lent, verdicts);
-    if !all.is_good {
-        return 2;
-    }
+) -> Option<Done> {
+    let Some(asked) = arguments::read(rt) else {
+        arguments::tell_use();
+        return None;
+    };
+    let taxa = filing::open_names(rt, b"treesheet", asked.names, files::LANES, file, lent)?;
+    let apart = match asked.apart {
+        Some(i) => Some(strains::asked_for(rt, i, taxa, lent)?),
+        None => None,
+    };
+    let dropped = asked.dropped.unwrap_or(0);
+    let all = files::take_all(rt, asked.names, dropped, file, lent, verdicts)?;
     totals::tell(lent, all);
-    printing::print(rt, asked, apart, lent, all.refused, file)
+    if let Some(i) = asked.matrix {
+        if !printing::save_matrix(rt, i, lent, file) {
+            return None;
+        }
+    }
+    let wanted = Wanted {
+        newick: asked.newick,
+        splits: asked.splits,
+        apart,
+    };
+    printing::print_sheet(wanted, lent, all.refused, file)
 }

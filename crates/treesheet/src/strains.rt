@@ -5,82 +5,45 @@ use answers::Taxon;
 use filing::STDERR_FILENO;
 use std::rt::Env;
 
-// No strain is asked for; there is no such strain.
-pub(crate) const NOBODY: u32 = 64;
-
-pub(crate) const UNKNOWN: u32 = 65;
-
 // The strain that argument i names, in the open collection. None of that name is told.
-pub(crate) fn asked_for(rt: &impl Env, i: usize, taxa: u32, lent: &[u8]) -> u32
+pub(crate) fn asked_for(rt: &impl Env, i: usize, taxa: u32, lent: &[u8]) -> Option<Taxon>
     requires { taxa ≤ 64 }
 {
-    if i == 0 {
-        return NOBODY;
-    }
     let mut name = io::buffer();
-    let named = filing::name_at(rt, b"treesheet", i, &mut name);
-    if !named.is_good {
-        return UNKNOWN;
-    }
-    let n = named.bytes;
-    known(&name[..n], taxa, lent)
-}
-
-// The strain of this name, or what tells that there is none.
-fn known(name: &[u8], taxa: u32, lent: &[u8]) -> u32
-    requires { taxa ≤ 64 }
-{
-    let strain = strain_of(name, taxa, lent);
-    if strain == UNKNOWN {
+    let n = filing::name_at(rt, b"treesheet", i, &mut name)?;
+    let strain = strain_of(&name[..n], taxa, lent);
+    if strain.is_none() {
         io::write_all(STDERR_FILENO, b"treesheet: no strain ");
-        io::write_all(STDERR_FILENO, name);
+        io::write_all(STDERR_FILENO, &name[..n]);
         io::write_all(STDERR_FILENO, b"\n");
     }
     strain
 }
 
-// The strain with this name, or else the one that is written so.
-fn strain_of(name: &[u8], taxa: u32, lent: &[u8]) -> u32
+// The strain with this name, or else the one that has it as its label in the sheet.
+fn strain_of(name: &[u8], taxa: u32, lent: &[u8]) -> Option<Taxon>
     requires { taxa ≤ 64 }
 {
     if lent.len() < 4096 {
-        return UNKNOWN;
+        return None;
     }
-    let named = named_so(name, taxa, lent);
-    if named != UNKNOWN {
+    let named = first_of(taxa, |i: Taxon| head::has_name(lent, i, name));
+    if named.is_some() {
         return named;
     }
-    written_so(name, taxa, lent)
+    first_of(taxa, |i: Taxon| has_label(lent, i, name))
 }
 
-// The strain with this name.
-fn named_so(name: &[u8], taxa: u32, lent: &[u8]) -> u32
-    requires taxa_bound { taxa ≤ 64 }
-    requires in_bounds { 4096 ≤ length lent.now }
+// The first strain of which this holds.
+fn first_of<F: Fn(Taxon) -> bool>(taxa: u32, is_it: F) -> Option<Taxon>
+    requires { (i : _) → i.0 < taxa → F.pre is_it i }
 {
-    let mut i = 0;
-    while i < taxa {
-        if head::has_name(lent, Taxon(i), name) {
-            return i;
+    for i in 0..taxa {
+        if is_it(Taxon(i)) {
+            return Some(Taxon(i));
         }
-        i += 1;
     }
-    UNKNOWN
-}
-
-// The strain that has this label in the sheet.
-fn written_so(label: &[u8], taxa: u32, lent: &[u8]) -> u32
-    requires taxa_bound { taxa ≤ 64 }
-    requires in_bounds { 4096 ≤ length lent.now }
-{
-    let mut i = 0;
-    while i < taxa {
-        if has_label(lent, Taxon(i), label) {
-            return i;
-        }
-        i += 1;
-    }
-    UNKNOWN
+    None
 }
 
 // Whether strain i has this label.

@@ -4,12 +4,11 @@ use filing::STDERR_FILENO;
 
 // Tells how many trees are held, and how many texts were refused and withdrawn.
 pub(crate) fn tell(lent: &[u8], all: Tally) {
-    let mut out = [0u8; 128];
-    let begun = filing::nothing_waits(STDERR_FILENO);
-    let taken = filing::put_counted(&mut out, held(lent) as u64, b" trees taken, ", begun);
-    let refused = filing::put_counted(&mut out, all.refused as u64, b" refused, ", taken);
-    let told = filing::put_counted(&mut out, all.withdrawn as u64, b" withdrawn\n", refused);
-    filing::flush(&out, told);
+    let mut out = filing::nothing_waits(STDERR_FILENO);
+    filing::put_counted(&mut out, held(lent) as u64, b" trees taken, ");
+    filing::put_counted(&mut out, all.refused as u64, b" refused, ");
+    filing::put_counted(&mut out, all.withdrawn as u64, b" withdrawn\n");
+    filing::flush(&mut out);
 }
 
 // How many trees the open collection holds.

@@ -2,11 +2,10 @@
 use crate::output;
 use std::io::{Read, Stdin};
 
-// Takes all of standard input, and prints its summary.
+// Takes all of standard input, and prints its summary. The turns are so many that no run uses them up.
 pub(crate) fn take_all(mut stdin: Stdin, names: &mut [u8], lent: &mut [u8]) {
     let mut state = summary::begin(names, lent);
-    let mut turns = u64::MAX;
-    while turns > 0 {
+    for _ in 0..u64::MAX {
         let mut chunk = io::buffer();
         let Ok(n) = stdin.read(&mut chunk) else {
             output::complain(b"treesum: reading failed\n");
@@ -16,7 +15,6 @@ pub(crate) fn take_all(mut stdin: Stdin, names: &mut [u8], lent: &mut [u8]) {
             break;
         }
         state = summary::take(state, names, lent, &chunk[..n]);
-        turns -= 1;
     }
     let answer = summary::finish(state, names, lent);
     output::print_sheet(answer, lent);

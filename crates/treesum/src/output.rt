@@ -1,47 +1,28 @@
 // What is printed.
-use answers::{Both, Number};
+use answers::Refusal;
 
 // The numbers that the system gives standard output and standard error.
 const STDOUT: i32 = 1;
 
 const STDERR: i32 = 2;
 
-// Prints the sheet, as many lines at a time as fit into 65,536 bytes.
-pub(crate) fn print_sheet(answer: Number, lent: &[u8]) {
-    let mut from = 0;
-    while from < usize::MAX {
-        let lines = print_lines(answer, lent, from);
-        if lines == 0 {
+// Prints the sheet, as many lines at a time as fit into 65,536 bytes. No sheet has more lines than can be counted.
+pub(crate) fn print_sheet(answer: Result<usize, Refusal>, lent: &[u8]) {
+    let mut from = 0usize;
+    for _ in 0..u64::MAX {
+        let Some(lines) = print_lines(answer, lent, from) else {
             return;
-        }
-        // no sheet has so many lines
-        if usize::MAX - from < lines {
-            return;
-        }
-        from += lines;
+        };
+        from = from.saturating_add(lines);
     }
 }
 
-// Prints lines from number `from` on, and answers how many; 0, where there are none or they could not be written.
-fn print_lines(answer: Number, lent: &[u8], from: usize) -> usize {
+// Prints lines from number `from` on, and answers how many; none, where there are none or they could not be written.
+fn print_lines(answer: Result<usize, Refusal>, lent: &[u8], from: usize) -> Option<usize> {
     let mut out = [0u8; 65536];
-    match summary::lines(answer, lent, from, &mut out) {
-        Both::Gives(bytes, lines) => {
-            if !print_front(&out, bytes) {
-                return 0;
-            }
-            lines
-        }
-        Both::Refused(_) => 0,
-    }
-}
-
-// Prints the first n bytes of `out`.
-fn print_front(out: &[u8], n: usize) -> bool {
-    if out.len() < n {
-        return false;
-    }
-    write(&out[..n])
+    let (bytes, lines) = summary::lines(answer, lent, from, &mut out).ok()?;
+    let is_written = write(out.get(..bytes)?);
+    (is_written && lines != 0).then_some(lines)
 }
 
 // Writes bytes to standard output; false, with a complaint, where that fails.

@@ -15,6 +15,7 @@ ghost use Rattle.weighing.specs.Side.{Side};
 ghost use Rattle.weighing.specs.Summed.{with_length};
 
 use answers::Lengths;
+use std::cmp::Ordering;
 
 // The weighted distance of two trees, each given by the masks of its splits and a length for each.
 pub fn weighted(a: &[u64], xs: &[f64], b: &[u64], ys: &[f64]) -> f64
@@ -27,46 +28,43 @@ pub fn weighted(a: &[u64], xs: &[f64], b: &[u64], ys: &[f64]) -> f64
     let mut i = 0usize;
     let mut j = 0usize;
     while i + j < n {
-        let s = side(a, i, b, j);
-        if s == 0 {
-            t = t + gap(xs[i], ys[j]);
-            i += 1;
-            j += 1;
-        } else if s == 1 {
-            t = t + gap(xs[i], 0.0);
-            i += 1;
-        } else {
-            t = t + gap(0.0, ys[j]);
-            j += 1;
+        match side(a, i, b, j) {
+            Ordering::Equal => {
+                t += gap(xs[i], ys[j]);
+                i += 1;
+                j += 1;
+            }
+            Ordering::Less => {
+                t += gap(xs[i], 0.0);
+                i += 1;
+            }
+            Ordering::Greater => {
+                t += gap(0.0, ys[j]);
+                j += 1;
+            }
         }
     }
     t
 }
 
-// Which of two rising lists, gone over up to i and j, has the smallest mask that is left: 0 both, 1 the first, 2 the second.
-fn side(a: &[u64], i: usize, b: &[u64], j: usize) -> u8
+// How the first of two rising lists stands to the second, gone over up to i and j: Less where it alone has the smallest mask that is
+// left, Greater where the second alone has it, Equal where both have it.
+fn side(a: &[u64], i: usize, b: &[u64], j: usize) -> Ordering
     requires i_in_bounds { (i ≤ length a.now) × (j ≤ length b.now) }
     requires j_in_bounds { i + j < length a.now + length b.now }
     ensures { Side a.now i b.now j result }
 {
     if i == a.len() {
-        return 2;
+        return Ordering::Greater;
     }
     if j == b.len() {
-        return 1;
+        return Ordering::Less;
     }
-    let x = a[i];
-    let y = b[j];
-    if x == y {
-        return 0;
-    }
-    if x < y {
-        return 1;
-    }
-    2
+    a[i].cmp(&b[j])
 }
 
 // The size of the difference of two lengths.
+#[tactic(auto, unfolding(trees::specs::Weighted::gap))]
 fn gap(x: f64, y: f64) -> f64
     ensures { result ≡ gap_of x y }
 {
@@ -85,26 +83,13 @@ pub fn first_sum(x: f64) -> Lengths
 }
 
 // Those with the length x of the next tree.
+#[tactic(auto, unfolding(answers::specs::Answers::sums_given, crate::specs::Summed::with_length))]
 pub fn add_sum(l: Lengths, x: f64) -> Lengths
     ensures { sums_given result ≡ with_length (sums_given l) x }
 {
     Lengths {
-        shortest: smaller(x, l.shortest),
-        longest: larger(l.longest, x),
+        shortest: if x < l.shortest { x } else { l.shortest },
+        longest: if l.longest < x { x } else { l.longest },
         sum: l.sum + x,
     }
-}
-
-// x where it is below y, else y.
-fn smaller(x: f64, y: f64) -> f64
-    ensures { result ≡ (if lt x y then x else y) }
-{
-    if x < y { x } else { y }
-}
-
-// y where it is above x, else x.
-fn larger(x: f64, y: f64) -> f64
-    ensures { result ≡ (if lt x y then y else x) }
-{
-    if x < y { y } else { x }
 }

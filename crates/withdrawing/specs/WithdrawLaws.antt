@@ -2,7 +2,7 @@
 --
 --   withdraw-not-whole, withdraw-no-tree, withdraw-done     what each return of the code promises
 --   unlisted-sound                                          what dropping rows asks of the bytes that the tree is taken from
-use Rattle.std.specs.Prelude.{ℕ, ◌≤◌, ◌<◌, ◌≡◌, refl, true, false, List}
+use Rattle.std.specs.Prelude.{ℕ, ◌≤◌, ◌<◌, ◌≡◌, refl, true, false, List, Ok, Err}
 use Rattle.std.proofs.Common.{arith, ◌∙◌, true≢false}
 use Rattle.std.proofs.Math.Path.{sym, ap}
 use Rattle.std.proofs.Math.Bool.{and-false}
@@ -12,7 +12,6 @@ use Rattle.trees.specs.Opening.{store_size}
 use Rattle.trees.specs.Withdrawing.{without_tree, Withdrawn, withdrawing}
 use Rattle.theorems.specs.ListLaws.{and-true}
 use Rattle.answers.specs.declared.Refusal.TheVariants as why
-use Rattle.answers.specs.declared.Finish.TheVariants as finish
 use Rattle.answers.specs.Answers.{refusal_number, finish_given}
 use Rattle.head.specs.Head.{numbers_at, opening_at}
 use Rattle.layout.specs.Store.{size_at, parts_at, trees_held_at, splits_held_at, held_at}
@@ -41,7 +40,7 @@ module _ (s : List ℕ) (k : ℕ) where
     unfolding withdrawn_of
     answer-not-whole = rw e
 
-    pub withdraw-not-whole : WithdrawnAs s k (finish.Refused why.NotWhole) s
+    pub withdraw-not-whole : WithdrawnAs s k (Err why.NotWhole) s
     unfolding finish_given refusal_number
     withdraw-not-whole = record {
       answer = sym answer-not-whole;
@@ -66,7 +65,7 @@ module _ (s : List ℕ) (k : ℕ) where
       unfolding withdrawing
       withdrawing-none = rw (trees-length s, le-ltb k (trees_held_at s) h)
 
-      pub withdraw-no-tree : WithdrawnAs s k (finish.Refused why.NoSuchNumber) s
+      pub withdraw-no-tree : WithdrawnAs s k (Err why.NoSuchNumber) s
       unfolding finish_given refusal_number
       withdraw-no-tree = record {
         answer = sym (ap (λ (x : Withdrawn). x.answer) withdrawn-whole ∙ withdrawing-none);
@@ -120,7 +119,7 @@ module _ (s : List ℕ) (k : ℕ) where
                 behind = λ i l. d.behind i (omega (arith, size, size-held s u c.opening)) ∙ c.behind i (omega (arith, size));
               }
 
-          pub withdraw-done : WithdrawnAs s k finish.Done t
+          pub withdraw-done : WithdrawnAs s k (Ok tt) t
           unfolding finish_given
           withdraw-done = record {
             answer = rw withdrawn-here;

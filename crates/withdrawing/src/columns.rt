@@ -8,10 +8,8 @@ pub(crate) fn gather(s: &mut [u8], from: usize, width: usize, rows: &[u16], m: u
     requires within { Within width from (take m rows.now) s.old }
     ensures { Gathered width from (take m rows.now) s.old s.new }
 {
-    let mut j = 0;
-    while j < m {
+    for j in 0..m {
         fields::copy_within(s, from + width * rows[j] as usize, from + width * j, width);
-        j += 1;
     }
 }
 
@@ -22,11 +20,9 @@ pub(crate) fn rename(s: &mut [u8], from: usize, n: usize, entries: &[u16], add: 
     requires add_bound { add ≤ 1 }
     ensures { Renamed from n entries.now add s.old s.new }
 {
-    let mut j = 0;
-    while j < n {
+    for j in 0..n {
         let at = from + 2 * j;
         let x = fields::get16(s, at) as usize + add;
         fields::put16(s, at, entries[x] - add as u16);
-        j += 1;
     }
 }

@@ -42,8 +42,7 @@ fn rows_left(s: &[u8], n: usize, rows: &mut [u16], entries: &mut [u16]) -> usize
     let links = layout::links_from(s);
     entries[0] = 0;
     let mut m = 0;
-    let mut r = 0;
-    while r < n {
+    for r in 0..n {
         if fields::get32(s, counts + 4 * r) != 0 {
             rows[m] = r as u16;
             m += 1;
@@ -52,7 +51,6 @@ fn rows_left(s: &[u8], n: usize, rows: &mut [u16], entries: &mut [u16]) -> usize
             let link = layout::number16(s, links + 2 * r);
             entries[r + 1] = entries[link];
         }
-        r += 1;
     }
     m
 }
@@ -79,13 +77,11 @@ fn rename_lists(s: &mut [u8], entries: &[u16])
     ensures { ListsNamed (trees_held_at s.old) entries.now s.old s.new }
 {
     let trees = layout::trees_held(s);
-    let mut from = layout::tree_from(s, Tree(0));
-    let mut i = 0;
-    while i < trees {
+    let first = layout::tree_from(s, Tree(0));
+    for i in 0..trees {
+        let from = first + layout::TREE_BYTES * i;
         let n = layout::number16(s, from);
         columns::rename(s, from + 2, n, entries, 1);
-        from += layout::TREE_BYTES;
-        i += 1;
     }
 }
 
@@ -97,14 +93,12 @@ fn close_order(s: &mut [u8], n: usize, entries: &[u16])
     let counts = layout::counts_from(s);
     let from = layout::order_from(s);
     let mut m = 0;
-    let mut k = 0;
-    while k < n {
+    for k in 0..n {
         let row = layout::number16(s, from + 2 * k);
         if fields::get32(s, counts + 4 * row) != 0 {
             fields::put16(s, from + 2 * m, entries[row + 1] - 1);
             m += 1;
         }
-        k += 1;
     }
 }
 

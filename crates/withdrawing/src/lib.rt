@@ -6,23 +6,23 @@
 
 ghost use Rattle.withdrawing.specs.Withdrawn.{WithdrawnAs};
 
-use answers::{Finish, Refusal, Tree};
+use answers::{Refusal, Tree};
 
 mod columns;
 mod leaving;
 mod unlisting;
 
 // Withdraws tree k: the trees after it move down by one number, and splits that no other tree has leave the table.
-pub fn withdraw(s: &mut [u8], k: Tree) -> Finish
+pub fn withdraw(s: &mut [u8], k: Tree) -> Result<(), Refusal>
     ensures { WithdrawnAs s.old k.0 result s.new }
 {
     if !store::is_whole(s) {
-        return Finish::Refused(Refusal::NotWhole);
+        return Err(Refusal::NotWhole);
     }
     if layout::trees_held(s) <= k.0 {
-        return Finish::Refused(Refusal::NoSuchNumber);
+        return Err(Refusal::NoSuchNumber);
     }
     unlisting::unlist(s, k);
     leaving::drop_rows(s);
-    Finish::Done
+    Ok(())
 }

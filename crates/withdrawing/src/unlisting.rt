@@ -15,7 +15,7 @@ pub(crate) fn unlist(s: &mut [u8], k: Tree)
     requires k_bound { k.0 < trees_held_at s.old }
     ensures { Turned s.old (without_list k.0 (parts_at s.old)) s.new }
 {
-    count_less(s, Tree(k.0));
+    count_less(s, k);
     move_trees(s, k);
 }
 
@@ -28,11 +28,9 @@ fn count_less(s: &mut [u8], k: Tree)
     let from = layout::tree_from(s, k);
     let counts = layout::counts_from(s);
     let n = layout::number16(s, from);
-    let mut j = 0;
-    while j < n {
+    for j in 0..n {
         let at = counts + 4 * layout::number16(s, from + 2 + 2 * j);
         fields::put32(s, at, fields::get32(s, at) - 1);
-        j += 1;
     }
 }
 
@@ -44,7 +42,7 @@ fn move_trees(s: &mut [u8], k: Tree)
 {
     let last = layout::trees_held(s) - 1;
     let later = last - k.0;
-    let to = layout::tree_from(s, Tree(k.0));
+    let to = layout::tree_from(s, k);
     move_lengths(s, k, later);
     fields::copy_within(s, to + layout::TREE_BYTES, to, layout::TREE_BYTES * later);
     fields::put16(s, 10, last as u16);

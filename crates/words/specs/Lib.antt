@@ -1,3 +1,4 @@
 pub mod Words
 pub mod Parsed
 pub mod WordLaws
+pub mod DigitLaws

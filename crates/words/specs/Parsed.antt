@@ -1,9 +1,7 @@
 -- The answers of the readers of words, from what the definitions say.
-use Rattle.std.specs.Prelude.{ℕ}
+use Rattle.std.specs.Prelude.{ℕ, None, Some, Option as CodeOption}
 use Rattle.std.proofs.Math.Option.{Option, none, some}
-use Rattle.words.specs.declared.Number.{Number}
-use Rattle.words.specs.declared.Number.TheVariants.{Is, Nothing}
 
-unfoldable pub number_of : Option ℕ → Number
-number_of none = Nothing
-number_of (some v) = Is v
+unfoldable pub number_of : Option ℕ → CodeOption ℕ
+number_of none = None
+number_of (some v) = Some v

@@ -1,7 +1,7 @@
--- Reading decimal digits one after another.
+-- Reading decimal digits one after another, in a part of a line.
 --
 --   DecimalRead     what is read of the digits from b up to e, when i has been reached
-use Rattle.std.specs.Prelude.{ℕ, suc, ◌+◌, ◌-◌, ◌*◌, ◌^◌, ◌≤◌, ◌<◌, ◌≡◌, refl, Bool, true, false, ◌&&◌, not, List, ◌∷◌, leb, ltb, length, if◌then◌else◌}
+use Rattle.std.specs.Prelude.{ℕ, suc, ◌+◌, ◌-◌, ◌*◌, ◌^◌, ◌≤◌, ◌<◌, ◌≡◌, refl, Bool, true, false, ◌&&◌, not, List, ◌∷◌, leb, ltb, length, if◌then◌else◌, None, Some}
 use native.Mathlib.Omega.{arith}
 use Rattle.std.proofs.Common.{add-one, ap₂, ◌∙◌, le-leb, ltb-true}
 use Rattle.std.proofs.Math.Path.{ap, sym}
@@ -13,7 +13,6 @@ use Rattle.trees.specs.Length.{is_digit}
 use Rattle.theorems.specs.ListLaws.{if-true, if-false}
 use Rattle.words.specs.Words.{decimal_from, decimal_of}
 use Rattle.words.specs.Parsed.{number_of}
-use Rattle.words.specs.declared.Number.TheVariants.{Is, Nothing}
 
 -- ---- a byte that is a digit, and one that is none
 
@@ -41,7 +40,7 @@ pub record DecimalRead (s : List ℕ) (b e v i : ℕ) : Type 0 where
   pub same : decimal_of (slice b e s) ≡ decimal_from v (slice i e s)
 
 module _ (s : List ℕ) (b e : ℕ) (u : e ≤ length s) where
-  pub decimal-empty : b ≡ e → Nothing ≡ number_of (decimal_of (slice b e s))
+  pub decimal-empty : b ≡ e → None ≡ number_of (decimal_of (slice b e s))
   unfolding number_of decimal_of
   decimal-empty q = sym (ap (λ (x : ℕ). number_of (decimal_of (slice x e s))) q ∙ ap (λ x. number_of (decimal_of x)) (slice_empty e s))
 
@@ -56,21 +55,21 @@ module _ (s : List ℕ) (b e : ℕ) (u : e ≤ length s) where
     unfolding decimal_from
     step = r.same ∙ ap (decimal_from v) (slice-cons i e s 0 l u)
 
-    stopped : (is_digit (get_or s i 0) && ltb (v * 10 + (get_or s i 0 - 48)) (2 ^ 64)) ≡ false → Nothing ≡ number_of (decimal_of (slice b e s))
+    stopped : (is_digit (get_or s i 0) && ltb (v * 10 + (get_or s i 0 - 48)) (2 ^ 64)) ≡ false → None ≡ number_of (decimal_of (slice b e s))
     unfolding number_of
     stopped q = sym (ap number_of (step ∙ if-false (decimal_from (v * 10 + (get_or s i 0 - 48)) (slice (suc i) e s)) none q))
 
-    pub decimal-low : (d : ℕ) → d ≡ get_or s i 0 → d < 48 → Nothing ≡ number_of (decimal_of (slice b e s))
+    pub decimal-low : (d : ℕ) → d ≡ get_or s i 0 → d < 48 → None ≡ number_of (decimal_of (slice b e s))
     decimal-low d q h = stopped (ap (λ t. t && ltb (v * 10 + (get_or s i 0 - 48)) (2 ^ 64)) (digit_low (get_or s i 0) (omega arith)))
 
-    pub decimal-high : (d : ℕ) → d ≡ get_or s i 0 → 57 < d → Nothing ≡ number_of (decimal_of (slice b e s))
+    pub decimal-high : (d : ℕ) → d ≡ get_or s i 0 → 57 < d → None ≡ number_of (decimal_of (slice b e s))
     decimal-high d q h = stopped (ap (λ t. t && ltb (v * 10 + (get_or s i 0 - 48)) (2 ^ 64)) (digit-high (get_or s i 0) (omega arith)))
 
     module _ (d : ℕ) (q : d ≡ get_or s i 0) (lo : 48 ≤ d) (hi : d ≤ 57) (g : Bool) (f : g ≡ ltb (v * 10 + (d - 48)) (2 ^ 64)) where
       both : (is_digit (get_or s i 0) && ltb (v * 10 + (get_or s i 0 - 48)) (2 ^ 64)) ≡ g
       both = ap (λ t. t && ltb (v * 10 + (get_or s i 0 - 48)) (2 ^ 64)) (digit-is (get_or s i 0) (omega arith) (omega arith)) ∙ sym (f ∙ ap (λ (x : ℕ). ltb (v * 10 + (x - 48)) (2 ^ 64)) q)
 
-      pub decimal-large : not g ≡ true → Nothing ≡ number_of (decimal_of (slice b e s))
+      pub decimal-large : not g ≡ true → None ≡ number_of (decimal_of (slice b e s))
       decimal-large t = stopped (both ∙ not-true g t)
 
       pub decimal-more : not g ≡ false → DecimalRead s b e (v * 10 + (d - 48)) (i + 1)
@@ -85,7 +84,7 @@ module _ (s : List ℕ) (b e : ℕ) (u : e ≤ length s) where
                 ∙ ap₂ (λ (x y : ℕ). decimal_from (v * 10 + (x - 48)) (slice y e s)) (sym q) (sym (add-one i));
           }
 
-  pub decimal-done : (v i : ℕ) → DecimalRead s b e v i → e ≤ i → Is v ≡ number_of (decimal_of (slice b e s))
+  pub decimal-done : (v i : ℕ) → DecimalRead s b e v i → e ≤ i → Some v ≡ number_of (decimal_of (slice b e s))
   unfolding number_of decimal_from
   decimal-done v i r l =
       let w = r.within in

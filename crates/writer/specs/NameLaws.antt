@@ -1,7 +1,7 @@
 -- The laws of names as they are written. Assumes nothing.
 --
 --   name-from                              a name, as the code finds it
---   wants-mark, wants-none                 the bytes that want quotes
+--   wants-mark, wants-none, wants-listed   the bytes that want quotes
 --   put-plain, put-in-quotes               what a name is written as, and stored
 --   underscored-more, underscored-end      a plain name, a byte at a time
 --   doubled-other, doubled-quote           one byte in quotes
@@ -12,11 +12,12 @@ use Rattle.std.proofs.Common.{add-one, arith, ◌∙◌}
 use Rattle.std.proofs.Math.Path.{ap, sym}
 use Rattle.std.proofs.Math.Bool.{not}
 use Rattle.std.proofs.Math.Seq.{slice, slice-cons, slice_empty}
-use borrow.Author.Tests.{eq-eqb, ne_eqb}
+use borrow.Author.Tests.{eqb-true, eq-eqb, ne_eqb}
 use Rattle.trees.specs.Plain.{every, member, bytes}
 use Rattle.trees.specs.Text.{apostrophe}
 use Rattle.trees.specs.Written.{doubled, wants_quotes, underscored, written_name}
-use Rattle.theorems.specs.ListLaws.{if-true, if-false, Mem, mem-member}
+use Rattle.std.specs.List.{list_any}
+use Rattle.theorems.specs.ListLaws.{if-true, if-false, same_bool, Mem, mem-member}
 use Rattle.theorems.specs.WrittenNameLaws.{in_quotes}
 use Rattle.head.specs.Head.{name_at}
 use Rattle.head.specs.HeadLaws.{name-slice}
@@ -55,6 +56,18 @@ module _ (b : ℕ) where
   unfolding wants_quotes member bytes
   wants-none a c d f g h i j k =
       simp (ne_eqb b 95 a, ne_eqb b 40 c, ne_eqb b 41 d, ne_eqb b 91 f, ne_eqb b 93 g, ne_eqb b 39 h, ne_eqb b 58 i, ne_eqb b 59 j, ne_eqb b 44 k)
+
+eqb-swap : (a b : ℕ) → eqb a b ≡ eqb b a
+eqb-swap a b = same_bool (eqb a b) (eqb b a) (λ e. eq-eqb b a (sym (eqb-true a b e))) (λ e. eq-eqb a b (sym (eqb-true b a e)))
+
+any-member : (b : ℕ) (xs : List ℕ) → list_any (λ y. eqb y b) xs ≡ member b xs
+unfolding member
+any-member b [] = refl
+any-member b (x ∷ xs) = rw (eqb-swap x b, any-member b xs)
+
+pub wants-listed : (b : ℕ) → list_any (λ y. eqb y b) marks ≡ wants_quotes b
+unfolding wants_quotes
+wants-listed b = any-member b (bytes "_()[]':;,")
 
 -- ---- bytes in quotes
 

@@ -2,15 +2,14 @@
 --
 --   wrote_nothing     there is too little room
 --   wrote-all         the text, made elsewhere, is copied
-use Rattle.std.specs.Prelude.{ℕ, ◌≤◌, ◌<◌, ◌≡◌, List, ◌++◌, length, take, drop}
+use Rattle.std.specs.Prelude.{ℕ, ◌≤◌, ◌<◌, ◌≡◌, List, ◌++◌, length, take, drop, None, Some}
 use Rattle.std.proofs.Common.{zero-add, arith, sym, ◌∙◌, take_at}
 use Rattle.std.proofs.lemmas.List.Edits.{sets, sets-eq}
 use Rattle.fields.specs.Run.{copied}
-use Rattle.writer.specs.declared.Text.TheVariants.{Bytes, TooShort}
 use Rattle.writer.specs.Text.{Wrote}
 use Rattle.putting.specs.Put.{Put}
 
-pub wrote_nothing : (w before after : List ℕ) (n : ℕ) → n ≡ length w → length before < n → after ≡ before → Wrote w before TooShort after
+pub wrote_nothing : (w before after : List ℕ) (n : ℕ) → n ≡ length w → length before < n → after ≡ before → Wrote w before None after
 unfolding Wrote
 wrote_nothing w before after n p h e = (omega arith, e)
 
@@ -19,7 +18,7 @@ sets-start : (w l : List ℕ) → length w ≤ length l → sets l 0 w ≡ w ++ 
 sets-start w l h = sets-eq w l 0 (omega arith) ∙ rw zero-add
 
 pub wrote-all : (w blank made before after : List ℕ) (n : ℕ) → Put blank 0 w made n → length w ≤ length blank → n ≤ length before
-    → after ≡ copied before 0 made 0 n → Wrote w before (Bytes n) after
+    → after ≡ copied before 0 made 0 n → Wrote w before (Some n) after
 unfolding Wrote copied
 wrote-all w blank made before after n p f h e =
     let q : n ≡ length w = omega (arith, p.ends) in

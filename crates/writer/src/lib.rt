@@ -23,15 +23,8 @@ mod names;
 
 pub use names::write_name;
 
-// The answer of a writing: how many bytes were written, or that there is no room.
-#[derive(Clone, Copy)]
-pub enum Text {
-    Bytes(usize),
-    TooShort,
-}
-
 // Writes the tree of the first k splits of the list, or nothing where out is too short for it.
-pub fn write_tree(head: &[u8], list: &[u64], k: usize, out: &mut [u8]) -> Text
+pub fn write_tree(head: &[u8], list: &[u64], k: usize, out: &mut [u8]) -> Option<usize>
     requires head_bytes_in_bounds { head_bytes ≤ length head.now }
     requires head_value { good_opening (opening_at head.now) ≡ true }
     requires k_in_bounds { k ≤ length list.now }
@@ -41,10 +34,10 @@ pub fn write_tree(head: &[u8], list: &[u64], k: usize, out: &mut [u8]) -> Text
     let mut text = [0u8; 4352];
     let n = write_root(head, list, k, &mut text);
     if out.len() < n {
-        return Text::TooShort;
+        return None;
     }
     fields::copy_from(out, 0, &text, 0, n);
-    Text::Bytes(n)
+    Some(n)
 }
 
 // Writes the tree from the start of out, as far as out reaches, and answers its length.
@@ -140,10 +133,8 @@ pub fn widest_in(list: &[u64], k: usize, m: u64, i: Taxon) -> u64
     ensures { result ≡ widest m i.0 (take k list.now) }
 {
     let mut best = 0;
-    let mut j = 0;
-    while j < k {
+    for j in 0..k {
         best = wider_of(best, list[j], m, i);
-        j += 1;
     }
     best
 }

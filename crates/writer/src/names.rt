@@ -35,7 +35,7 @@ fn name_end(head: &[u8], b: usize) -> usize
     requires b_in_bounds { b + 255 ≤ length head.now }
     ensures { (result ≡ b + get_or head.now (b - 1) 0) × (result ≤ b + 255) }
 {
-    b + head[b - 1] as usize
+    b + usize::from(head[b - 1])
 }
 
 // Whether none of the bytes from b up to e wants quotes.
@@ -44,12 +44,10 @@ fn is_plain(s: &[u8], b: usize, e: usize) -> bool
     requires e_in_bounds { e ≤ length s.now }
     ensures { result ≡ is_plain (slice b e s.now) }
 {
-    let mut i = b;
-    while i < e {
+    for i in b..e {
         if wants_quotes(s[i]) {
             return false;
         }
-        i += 1;
     }
     true
 }
@@ -58,34 +56,7 @@ fn is_plain(s: &[u8], b: usize, e: usize) -> bool
 fn wants_quotes(b: u8) -> bool
     ensures { result ≡ wants_quotes b }
 {
-    if b == b'_' {
-        return true;
-    }
-    if b == b'(' {
-        return true;
-    }
-    if b == b')' {
-        return true;
-    }
-    if b == b'[' {
-        return true;
-    }
-    if b == b']' {
-        return true;
-    }
-    if b == b'\'' {
-        return true;
-    }
-    if b == b':' {
-        return true;
-    }
-    if b == b';' {
-        return true;
-    }
-    if b == b',' {
-        return true;
-    }
-    false
+    b"_()[]':;,".contains(&b)
 }
 
 // Writes the bytes from b up to e with underscores for blanks, as far as out reaches, and answers where they end.
@@ -97,11 +68,9 @@ fn put_underscored(s: &[u8], b: usize, e: usize, out: &mut [u8], at: usize) -> u
     ensures { Put out.old at (map underscoredByte (slice b e s.now)) out.new result }
 {
     let mut end = at;
-    let mut i = b;
-    while i < e {
+    for i in b..e {
         put_byte(out, end, underscored(s[i]));
         end += 1;
-        i += 1;
     }
     end
 }
@@ -126,10 +95,8 @@ fn put_doubled(s: &[u8], b: usize, e: usize, out: &mut [u8], at: usize) -> usize
     ensures upper_bound { result ≤ at + 510 }
 {
     let mut end = at;
-    let mut i = b;
-    while i < e {
+    for i in b..e {
         end = put_quoted(out, end, s[i]);
-        i += 1;
     }
     end
 }

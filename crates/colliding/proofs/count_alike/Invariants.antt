@@ -7,6 +7,3 @@ use Rattle.colliding.proofs.count_alike.Given as goal
 
 abbrev pub invariant-loop-j : goal.invariant-loop-j
 invariant-loop-j l = (l.j ≤ l.n) × (l.count + count_from (alike l.places l.identifiers l.p l.x) l.j (l.n - l.j) ≡ count_from (alike l.places l.identifiers l.p l.x) l.from (l.n - l.from))
-
-abbrev pub decreases-loop-j : goal.decreases-loop-j
-decreases-loop-j l = l.n - l.j

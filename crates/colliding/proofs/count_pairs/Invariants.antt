@@ -8,6 +8,3 @@ use Rattle.colliding.proofs.count_pairs.Given as goal
 
 abbrev pub invariant-loop-k : goal.invariant-loop-k
 invariant-loop-k l = (l.k ≤ l.n) × (l.sum + pairs_from l.places l.identifiers l.k (l.n - l.k) ≡ pairs_from l.places l.identifiers 0 l.n) × (l.sum ≤ most_room * l.k)
-
-abbrev pub decreases-loop-k : goal.decreases-loop-k
-decreases-loop-k l = l.n - l.k

@@ -1,5 +1,6 @@
 -- `comparing::doubled` meets its contract. Assumes nothing.
 use native.Mathlib.Omega.{arith}
+use Rattle.std.proofs.Common.{◌∙◌}
 use Rattle.trees.specs.Distance.{doubled}
 use Rattle.answers.specs.AnswerLaws.{number-refused}
 use Rattle.opening.specs.GivenLaws.{failed, passed}
@@ -26,4 +27,4 @@ pub doubled-requires : goal.doubled-requires
 doubled-requires c = record { s_value = passed _ _ c.is_whole.ensures c.if-not-is_whole.false-raw; a_bound = (omega arith, omega arith) }
 
 pub returns : goal.returns
-returns c = both-there doubled _ (passed _ _ c.is_whole.ensures c.if-not-is_whole.false-raw) _ _ _ (doubled-pair _ _ _) (omega arith) (omega arith) _ c.doubled.ensures
+returns c = both-there doubled _ (passed _ _ c.is_whole.ensures c.if-not-is_whole.false-raw) _ _ _ (doubled-pair _ _ _) (omega arith) (omega arith) _ (c.from.ensures ∙ c.doubled.ensures)

@@ -1,5 +1,6 @@
 -- `comparing::one_sided` meets its contract. Assumes nothing.
 use native.Mathlib.Omega.{arith}
+use Rattle.std.proofs.Common.{◌∙◌}
 use Rattle.trees.specs.Distance.{one_sided}
 use Rattle.answers.specs.AnswerLaws.{number-refused}
 use Rattle.opening.specs.GivenLaws.{failed, passed}
@@ -26,4 +27,4 @@ pub one_sided-requires : goal.one_sided-requires
 one_sided-requires c = record { s_value = passed _ _ c.is_whole.ensures c.if-not-is_whole.false-raw; a_bound = (omega arith, omega arith) }
 
 pub returns : goal.returns
-returns c = both-there one_sided _ (passed _ _ c.is_whole.ensures c.if-not-is_whole.false-raw) _ _ _ (one-sided-pair _ _ _) (omega arith) (omega arith) _ c.one_sided.ensures
+returns c = both-there one_sided _ (passed _ _ c.is_whole.ensures c.if-not-is_whole.false-raw) _ _ _ (one-sided-pair _ _ _) (omega arith) (omega arith) _ (c.from.ensures ∙ c.one_sided.ensures)

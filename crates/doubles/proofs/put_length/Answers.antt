@@ -3,18 +3,9 @@ use mathlib.Core.Path.{◌≡◌, subst}
 use mathlib.Core.Bool.{true}
 use Rattle.theorems.specs.ProperDoubleLaws.{proper-number}
 use Rattle.trees.specs.Whole.{good_length}
-use Rattle.doubles.specs.Double.{put_double}
-use Rattle.doubles.specs.Stored.{branch_given, put_length}
+use Rattle.doubles.specs.Stored.{branch_given}
 use Rattle.doubles.proofs.put_length.Goals as goal
 
 pub float_to_bits-d : goal.float_to_bits-d
 unfolding branch_given good_length
-float_to_bits-d c = proper-number _ (subst (λ q. good_length (branch_given q) ≡ true) c.in-Given.is c.requires.x_value)
-
-pub returns-in-Absent : goal.returns-in-Absent
-unfolding branch_given put_length
-returns-in-Absent c = rw c.in-Absent.is c.put64.ensures
-
-pub returns-in-Given : goal.returns-in-Given
-unfolding branch_given put_length put_double
-returns-in-Given c = rw c.in-Given.is c.put64-in-Given.ensures
+float_to_bits-d c = proper-number _ (subst (λ q. good_length (branch_given q) ≡ true) c.in-Some.is c.requires.x_value)

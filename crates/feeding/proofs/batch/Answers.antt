@@ -1,6 +1,9 @@
 -- `feeding::batch` meets its contract: each return is a law. Assumes nothing.
+use Prim.Native.Nat.{◌≤◌}
 use mathlib.Core.Path.{ap, ◌∙◌}
 use mathlib.Core.Bool.{Bool}
+use lib.ListN.{length}
+use lib.Seq.{length-take-le}
 use native.Mathlib.Omega.{arith}
 use Rattle.trees.specs.Batch.{texts_in}
 use Rattle.opening.specs.GivenLaws.{failed, passed}
@@ -42,18 +45,19 @@ pub feed_texts-requires : goal.feed_texts-requires
 feed_texts-requires c =
     let w = passed _ _ c.is_whole.ensures c.if-not-is_whole.false-raw in
     let a = c.args in
-    let e = c.count_texts-n.ensures ∙ ap (λ (x : Bool). texts_in x a.piece.now) c.quotes_open-quoted.ensures in record { s_value = w; l_bound = omega arith; indexed = c.build_index.ensures; n_value = e; n_in_bounds = omega arith }
+    let fits : c.count_texts-n.result ≤ length a.verdicts.now = omega (arith, c.if-verdicts-n.false) in
+    let e = c.count_texts-n.ensures ∙ ap (λ (x : Bool). texts_in x a.piece.now) c.quotes_open-quoted.ensures in record { s_value = w; l_bound = omega arith; indexed = c.build_index.ensures; verdicts_len = length-take-le _ _ fits ∙ e }
 
 pub shape_of-s : goal.shape_of-s
 shape_of-s c = c.feed_texts.ensures.holds.size
-
-pub shape_of-verdicts : goal.shape_of-verdicts
-shape_of-verdicts c = batched-length _ _ _ _ _ _ (omega arith) c.feed_texts.ensures.verdicts_after
 
 pub returns : goal.returns
 returns c =
     let w = passed _ _ c.is_whole.ensures c.if-not-is_whole.false-raw in
     let a = c.args in
     let e = c.count_texts-n.ensures ∙ ap (λ (x : Bool). texts_in x a.piece.now) c.quotes_open-quoted.ensures in
+    let fits : c.count_texts-n.result ≤ length a.verdicts.now = omega (arith, c.if-verdicts-n.false) in
+    let few = length-take-le c.count_texts-n.result a.verdicts.now fits in
+    let f = c.feed_texts.ensures in
     batch-done a.s.now a.l.0 a.piece.now a.verdicts.now w (omega (arith, c.if-lanes-l.false, c.lanes.ensures.value)) c.count_texts-n.result e
-    (omega (arith, c.if-verdicts-n.false)) _ _ c.feed_texts.ensures.holds c.feed_texts.ensures.verdicts_after c.feed_texts.ensures.same_outside
+    fits _ _ (rw few at f.holds) (rw (f.verdicts_after, few)) (rw few at f.same_outside)

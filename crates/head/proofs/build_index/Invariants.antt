@@ -6,6 +6,3 @@ use Rattle.head.proofs.build_index.Given as goal
 
 abbrev pub invariant-loop-i : goal.invariant-loop-i
 invariant-loop-i l = (l.i ≤ (numbers_at l.s).taxa) × (length l.starts ≡ keys) × (length l.links ≡ 64) × IndexedFrom (names_at l.s) l.i l.starts l.links
-
-abbrev pub decreases-loop-i : goal.decreases-loop-i
-decreases-loop-i l = l.i

@@ -6,4 +6,4 @@ use Rattle.head.proofs.fold.Goals as goal
 pub returns : goal.returns
 returns c =
     let a = c.args in
-    (rw (c.wrapping_add_u64.ensures.value, c.wrapping_add_u64-two.ensures.value, mod-add-mod (a.first + a.middle) (2 ^ 64) a.last), omega arith)
+    (rw (mod-add-mod (a.first + a.middle) (2 ^ 64) a.last), omega arith)

@@ -1,5 +1,4 @@
 -- `masks::every_taxon` meets its contract. Assumes nothing.
-use borrow.Author.Rules.{rules}
 use lib.Pow.{pow_pos}
 use Rattle.trees.specs.Mask.{every_taxon}
 use Rattle.masks.specs.MaskLaws.{shift_one}

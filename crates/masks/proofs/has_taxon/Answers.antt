@@ -1,6 +1,5 @@
 -- `masks::has_taxon` meets its contract. Assumes nothing.
 use mathlib.Core.Path.{refl}
-use borrow.Author.Rules.{rules}
 use Rattle.trees.specs.Mask.{has}
 use Rattle.masks.proofs.has_taxon.Goals as goal
 

@@ -1,8 +1,6 @@
 -- `masks::is_proper` meets its contract. Assumes nothing.
 use mathlib.Core.Path.{sym, ◌∙◌}
 use native.Mathlib.Omega.{arith}
-use borrow.Author.Rules.{rules}
-use borrow.Author.Tests.{not-true, not-false}
 use Rattle.masks.specs.MaskLaws.{proper-odd, proper-few, proper-outside, proper-wide, proper-others}
 use Rattle.masks.proofs.is_proper.Goals as goal
 

@@ -1,5 +1,4 @@
 -- `masks::only_taxon` meets its contract. Assumes nothing.
-use borrow.Author.Rules.{rules}
 use Rattle.masks.specs.MaskLaws.{shift_one}
 use Rattle.masks.proofs.only_taxon.Goals as goal
 

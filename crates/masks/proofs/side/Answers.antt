@@ -1,7 +1,6 @@
 -- `masks::side` meets its contract. Assumes nothing.
 use mathlib.Core.Path.{sym}
 use native.Mathlib.Omega.{arith}
-use borrow.Author.Rules.{rules}
 use Rattle.trees.specs.Mask.{every_taxon}
 use Rattle.theorems.specs.BitLaws.{on-first, first_on}
 use Rattle.theorems.specs.MaskLaws.{side-odd, side-even}

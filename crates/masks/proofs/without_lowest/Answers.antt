@@ -1,5 +1,4 @@
 -- `masks::without_lowest` meets its contract. Assumes nothing.
-use native.Mathlib.Omega.{arith}
 use Rattle.masks.specs.LowestLaws.{without-none, and-before}
 use Rattle.masks.proofs.without_lowest.Goals as goal
 

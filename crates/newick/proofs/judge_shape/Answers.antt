@@ -1,4 +1,5 @@
 -- `newick::judge_shape` meets its contract. Assumes nothing.
+use Rattle.std.proofs.lemmas.Result.{err_from_is_err_and}
 use Rattle.newick.proofs.TaxonLaws.{prepared-opening}
 use Rattle.newick.specs.ShapingLaws.{shaping-room}
 use Rattle.newick.proofs.JudgeLaws.{judged-faulty, sound-read, judged-splits}
@@ -7,14 +8,16 @@ use Rattle.newick.proofs.judge_shape.Goals as goal
 pub gather_splits-requires : goal.gather_splits-requires
 gather_splits-requires c =
     let x = c.requires.by_index.1 in
-    let w = sound-read _ _ _ _ _ _ (c.read_leaves-t.ensures _ _ x) _ _ c.in-Sound.is (shaping-room _ _ _ _ _ _ x) in record { head_bytes_in_bounds = (c.requires.prepared.reach, c.requires.prepared.good); k_bound = w.sums; n_bound = w.spans; most_words_in_bounds = c.requires.most_words_in_bounds }
+    let w = sound-read _ _ _ _ _ _ (c.read_leaves.ensures _ _ x) _ _ c.in_ok-k.was (shaping-room _ _ _ _ _ _ x) in record { head_bytes_in_bounds = (c.requires.prepared.reach, c.requires.prepared.good); k_bound = w.sums; n_bound = w.spans; most_words_in_bounds = c.requires.most_words_in_bounds }
 
-pub returns-in-Faulty : goal.returns-in-Faulty
-returns-in-Faulty c = λ s x. judged-faulty _ _ _ _ _ _ (c.read_leaves-t.ensures _ _ x) _ c.in-Faulty.is _
+pub returns-in_err-k : goal.returns-in_err-k
+returns-in_err-k c =
+    let p = err_from_is_err_and c.from_residual.result c.from_residual.ensures.1 in
+    rw (p.1, p.2) (λ s x. judged-faulty _ _ _ _ _ _ (c.read_leaves.ensures _ _ x) _ c.in_err-k.was _)
 
-pub returns-in-Sound : goal.returns-in-Sound
-returns-in-Sound c =
+pub returns : goal.returns
+returns c =
     let g = prepared-opening _ _ _ c.requires.prepared in
     λ s x.
-    let w = sound-read _ _ _ _ _ _ (c.read_leaves-t.ensures _ _ x) _ _ c.in-Sound.is (shaping-room _ _ _ _ _ _ x) in
+    let w = sound-read _ _ _ _ _ _ (c.read_leaves.ensures _ _ x) _ _ c.in_ok-k.was (shaping-room _ _ _ _ _ _ x) in
     judged-splits _ _ _ _ g _ _ w _ _ _ (c.gather_splits.ensures.value, c.gather_splits.ensures.out_after)

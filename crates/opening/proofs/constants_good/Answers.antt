@@ -13,5 +13,5 @@ returns-then-second-n c = λ _ _ _ _. sym (constants-not-second _ _ _ c.if-first
 pub returns : goal.returns
 returns c =
     λ _ _ _ _.
-    c.all_below.ensures
+    (rw c.from.ensures at c.all_below.ensures)
     ∙ sym (constants-below _ _ c.args.second.now c.if-first-n.false c.if-second-n.false (λ i. omega (arith, c.type_inv.second i)))

@@ -1,33 +1,24 @@
 -- `reasons::reason` meets its contract. Assumes nothing.
-use native.Mathlib.Omega.{arith}
+use Rattle.std.proofs.Common.{arith, ◌≡◌, ◌<◌, ◌-◌, ℕ, List, [], length, map, get_or, sym, Bor}
+use Rattle.std.proofs.lemmas.List.{get_or-map}
+use Rattle.trees.specs.Plain.{bytes}
 use Rattle.answers.specs.declared.Refusal.TheVariants as why
 use Rattle.answers.specs.Answers.{refusal_number}
 use Rattle.answers.specs.AnswerLaws.{filled-refused}
-use Rattle.reasons.specs.ReasonLaws.{asked-none, asked-above, given}
+use Rattle.reasons.specs.Reasons.{reasons, reason_of}
+use Rattle.reasons.specs.ReasonLaws.{asked-none, given}
 use Rattle.reasons.proofs.reason.Goals as goal
+
+-- what the elements of a list refer to
+now_at : (l : List (Bor (List ℕ))) (i : ℕ) (d : Bor (List ℕ)) → i < length l → (get_or l i d).now ≡ get_or (map (λ (b : Bor (List ℕ)). b.now) l) i []
+now_at l i d h = sym (get_or-map (λ (b : Bor (List ℕ)). b.now) l i d [] h)
 
 pub returns-then-k-eq0 : goal.returns-then-k-eq0
 unfolding refusal_number
-returns-then-k-eq0 c = filled-refused _ _ why.NoSuchNumber (asked-none _ _ (omega arith))
-
-pub returns-then-k-gt25 : goal.returns-then-k-gt25
-unfolding refusal_number
-returns-then-k-gt25 c = filled-refused _ _ why.NoSuchNumber (asked-above _ _ (omega arith))
-
-pub returns-then-k-le5 : goal.returns-then-k-le5
-returns-then-k-le5 c = given c.args.k c.args.out.now _ _ (omega arith) (omega arith) c.of_lending.ensures
-
-pub returns-then-k-le10 : goal.returns-then-k-le10
-returns-then-k-le10 c = given c.args.k c.args.out.now _ _ (omega arith) (omega arith) c.of_text.ensures
-
-pub returns-then-k-le14 : goal.returns-then-k-le14
-returns-then-k-le14 c = given c.args.k c.args.out.now _ _ (omega arith) (omega arith) c.of_collection.ensures
-
-pub returns-then-k-le18 : goal.returns-then-k-le18
-returns-then-k-le18 c = given c.args.k c.args.out.now _ _ (omega arith) (omega arith) c.of_nexus_and_lengths.ensures
-
-pub returns-then-k-le23 : goal.returns-then-k-le23
-returns-then-k-le23 c = given c.args.k c.args.out.now _ _ (omega arith) (omega arith) c.of_file.ensures
+returns-then-k-eq0 c = filled-refused _ _ why.NoSuchNumber (asked-none _ _ c.then-k-eq0.either)
 
 pub returns : goal.returns
-returns c = given c.args.k c.args.out.now _ _ (omega arith) (omega arith) c.of_matrix.ensures
+unfolding reason_of reasons bytes
+returns c =
+    let h : c.args.k - 1 < 25 = omega arith in
+    given _ _ c.args.out.now _ _ _ (omega arith) (omega arith) c.put.ensures (rw now_at)

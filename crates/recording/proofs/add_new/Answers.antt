@@ -38,9 +38,6 @@ add_split-requires c =
       x_value = rw (c.mask_of-m.ensures, c.identifier_of.ensures) a.1.1.1.1.1;
     }
 
-pub overflow_add-j : goal.overflow_add-j
-overflow_add-j c = omega (arith, c.requires.splits_of.few)
-
 pub loop-j-preserved : goal.loop-j-preserved
 loop-j-preserved c =
     let l = c.loop-j in

@@ -1,5 +1,5 @@
 -- `recording::add_new` meets its contract. The loop's invariant: the new ones of the first j splits stand. Assumes nothing.
-use Prim.Native.Nat.{◌≤◌, ◌-◌}
+use Prim.Native.Nat.{◌≤◌}
 use Rattle.layout.specs.Store.{parts_at}
 use Rattle.records.specs.Records.{masks_of}
 use Rattle.recording.specs.Recording.{new_in, Grown}
@@ -7,6 +7,3 @@ use Rattle.recording.proofs.add_new.Given as goal
 
 abbrev pub invariant-loop-j : goal.invariant-loop-j
 invariant-loop-j l = (l.j ≤ l.n) × Grown l.initial.s (new_in (parts_at l.initial.s) (masks_of l.j l.records)) l.s
-
-abbrev pub decreases-loop-j : goal.decreases-loop-j
-decreases-loop-j l = l.n - l.j

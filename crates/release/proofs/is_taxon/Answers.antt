@@ -6,8 +6,8 @@ use Rattle.release.proofs.is_taxon.Goals as goal
 pub taxa-requires : goal.taxa-requires
 taxa-requires c = long _ c.requires
 
-pub returns-in-Nobody : goal.returns-in-Nobody
-returns-in-Nobody c = taxon-nobody _ c.in-Nobody.is
+pub returns-in-None : goal.returns-in-None
+returns-in-None c = taxon-nobody _ c.in-None.is
 
-pub returns-in-Of : goal.returns-in-Of
-returns-in-Of c = taxon-of _ c.in-Of.is c.taxa.ensures.value
+pub returns-in-Some : goal.returns-in-Some
+returns-in-Some c = taxon-of _ c.in-Some.is c.taxa.ensures.value

@@ -1,5 +1,5 @@
 -- `rows::copy_tree` meets its contract. The loop's invariant: the first j masks are copied. Assumes nothing.
-use Prim.Native.Nat.{◌≤◌, ◌-◌}
+use Prim.Native.Nat.{◌≤◌}
 use mathlib.Core.Path.{◌≡◌}
 use mathlib.Core.List.{◌++◌}
 use lib.ListN.{length, take, drop}
@@ -8,6 +8,3 @@ use Rattle.rows.proofs.copy_tree.Given as goal
 
 abbrev pub invariant-loop-j : goal.invariant-loop-j
 invariant-loop-j l = (l.j ≤ l.n) × (l.n ≡ length (list_at l.s l.i.0)) × (l.masks ≡ take l.j (tree_at l.s l.i.0) ++ drop l.j l.initial.masks)
-
-abbrev pub decreases-loop-j : goal.decreases-loop-j
-decreases-loop-j l = l.n - l.j

@@ -10,4 +10,4 @@ pub returns : goal.returns
 returns c =
     let e = c.put_end-n.ensures in
     let a = c.args in
-    refusal-given a.k a.out.now _ (put-taken (replicate 64 0) _ _ _ (refusal-put _ c.put_counted-e.ensures.put e) (omega (arith, c.put_counted-e.ensures.upper_bound.0, e.ends, length-replicate {A = ℕ} 64 0))) _ _ c.give.ensures
+    refusal-given a.k a.out.now _ (put-taken (replicate 64 0) _ _ _ (refusal-put _ (rw c.from.ensures at c.put_counted-e.ensures.put) e) (omega (arith, c.put_counted-e.ensures.upper_bound.0, e.ends, length-replicate {A = ℕ} 64 0))) _ _ c.give.ensures

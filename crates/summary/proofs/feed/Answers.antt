@@ -2,8 +2,8 @@
 use Rattle.summary.specs.CallLaws.{feeds-given, feeds-refused}
 use Rattle.summary.proofs.feed.Goals as goal
 
-pub returns-in-Gives : goal.returns-in-Gives
-returns-in-Gives c = feeds-given _ _ _ _ _ c.take_texts-answer.ensures _ c.in-Gives.is
+pub returns-in-Ok : goal.returns-in-Ok
+returns-in-Ok c = feeds-given _ _ _ _ _ c.take_texts-answer.ensures _ c.in-Ok.is
 
-pub returns-in-Refused : goal.returns-in-Refused
-returns-in-Refused c = feeds-refused _ _ _ _ _ c.take_texts-answer.ensures _ c.in-Refused.is
+pub returns-in-Err : goal.returns-in-Err
+returns-in-Err c = feeds-refused _ _ _ _ _ c.take_texts-answer.ensures _ c.in-Err.is

@@ -2,8 +2,8 @@
 use Rattle.summary.specs.CallLaws.{printed-sheet, printed-refusal}
 use Rattle.summary.proofs.lines.Goals as goal
 
-pub returns-in-Gives : goal.returns-in-Gives
-returns-in-Gives c = printed-sheet _ _ _ _ _ _ _ c.in-Gives.is c.lines.ensures
+pub returns-in-Ok : goal.returns-in-Ok
+returns-in-Ok c = printed-sheet _ _ _ _ _ _ _ c.in-Ok.is c.lines.ensures
 
-pub returns-in-Refused : goal.returns-in-Refused
-returns-in-Refused c = printed-refusal _ _ _ _ _ _ _ c.in-Refused.is c.line_of_refusal.ensures
+pub returns-in-Err : goal.returns-in-Err
+returns-in-Err c = printed-refusal _ _ _ _ _ _ _ c.in-Err.is c.line_of_refusal.ensures

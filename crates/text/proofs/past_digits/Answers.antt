@@ -1,5 +1,7 @@
 use borrow.Author.Rules.{rules}
-use mathlib.Core.Path.{sym, ◌∙◌}
+use native.Mathlib.Omega.{arith}
+use lib.ListN.{length}
+use mathlib.Core.Path.{◌≡◌, sym, ◌∙◌}
 use Rattle.text.proofs.NumberLaws.{digits-none, digits_more, digits-end, digits-never}
 use Rattle.text.proofs.past_digits.Goals as goal
 
@@ -16,4 +18,6 @@ pub loop-d-preserved : goal.loop-d-preserved
 loop-d-preserved c = digits_more _ _ _ c.loop-d.invariant (search rules) (sym (c.if-not-is_digit.false) ∙ c.is_digit.ensures)
 
 pub returns : goal.returns
-returns c = digits-end _ _ _ _ c.loop-d.invariant c.if-k-ne0.false
+returns c =
+    let e : c.loop-d.d ≡ length c.args.text.now = omega arith in
+    digits-end _ _ _ _ (rw e at c.loop-d.invariant) c.if-k-ne0.false

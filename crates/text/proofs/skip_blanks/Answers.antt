@@ -1,7 +1,8 @@
 use native.Mathlib.Omega.{arith}
 use borrow.Author.Rules.{rules}
 use borrow.Author.Tests.{eqb-true, eqb-false}
-use mathlib.Core.Path.{sym, ◌∙◌}
+use lib.ListN.{length}
+use mathlib.Core.Path.{◌≡◌, sym, ◌∙◌}
 use Rattle.text.proofs.SymbolLaws.{blanks-none, blanks-more}
 use Rattle.text.specs.PlaceLaws.{kind-is, kind-there, end-stops}
 use Rattle.text.proofs.skip_blanks.Goals as goal
@@ -16,4 +17,7 @@ pub loop-at-preserved : goal.loop-at-preserved
 loop-at-preserved c = blanks-more _ _ _ c.loop-at.invariant (search rules) (kind-is 0 (sym (eqb-true _ 0 (sym c.is_blank.ensures.value_2 ∙ c.if-not-is_blank.false))) (omega arith))
 
 pub returns : goal.returns
-returns c = record { past = search rules; within = search rules; tokens = c.loop-at.invariant.tokens; each = c.loop-at.invariant.each; stop = end-stops _ _ c.loop-at-test.false }
+returns c =
+    let e : c.loop-at.at ≡ length c.args.text.now = omega arith in
+    let b = rw e at c.loop-at.invariant in
+    record { past = search rules; within = search rules; tokens = b.tokens; each = b.each; stop = end-stops _ _ (omega arith) }

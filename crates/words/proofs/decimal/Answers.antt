@@ -1,36 +1,26 @@
-use Prim.Native.Nat.{◌+◌, ◌-◌, ◌*◌}
-use native.Mathlib.Omega.{arith}
-use Rattle.words.specs.WordLaws.{decimal-empty, decimal-start, decimal-low, decimal-high, decimal-large, decimal-more, decimal-done, grown-fits}
+use Rattle.std.proofs.Common.{arith, ◌≡◌, ◌∙◌, ◌+◌, ◌*◌, ◌-◌, sym, get_or}
+use Rattle.words.specs.DigitLaws.{decimal-none, decimal-start, decimal-stop, decimal-large, decimal-more, decimal-done}
 use Rattle.words.proofs.decimal.Goals as goal
 
-pub returns-then-b-e : goal.returns-then-b-e
-returns-then-b-e c = decimal-empty _ _ _ c.requires.1 c.if-b-e.true
+pub returns-then-is_empty : goal.returns-then-is_empty
+returns-then-is_empty c = decimal-none _ (sym c.is_empty.ensures ∙ c.if-is_empty.true)
 
-pub loop-i-init : goal.loop-i-init
-loop-i-init c = decimal-start _ _ _ c.requires.1 c.requires.0 c.if-b-e.false
+pub loop-b-init : goal.loop-b-init
+loop-b-init c = decimal-start _ (sym c.is_empty.ensures ∙ c.if-is_empty.false)
 
-pub bounds-s-i : goal.bounds-s-i
-bounds-s-i c = omega (arith, c.requires.1)
+pub returns-then-not-is_ascii_digit : goal.returns-then-not-is_ascii_digit
+returns-then-not-is_ascii_digit c = decimal-stop _ _ _ c.loop-b.invariant c.loop-b-test.true (sym c.is_ascii_digit.ensures.value ∙ c.if-not-is_ascii_digit.true)
 
-pub returns-then-d-lt48 : goal.returns-then-d-lt48
-returns-then-d-lt48 c = decimal-low _ _ _ c.requires.1 _ _ c.loop-i.invariant c.loop-i-test.true _ c.wide-d.ensures.0 c.if-d-lt48.true
+pub returns-in_err-checked_mul : goal.returns-in_err-checked_mul
+returns-in_err-checked_mul c = c.from_residual.ensures ∙ decimal-large _ _ _ c.loop-b.invariant c.loop-b-test.true (omega (arith, c.in_err-checked_mul.ensures))
 
-pub returns-then-d-gt57 : goal.returns-then-d-gt57
-returns-then-d-gt57 c = decimal-high _ _ _ c.requires.1 _ _ c.loop-i.invariant c.loop-i-test.true _ c.wide-d.ensures.0 c.if-d-gt57.true
+pub returns-in_err-v : goal.returns-in_err-v
+returns-in_err-v c = c.from_residual-in_err-v.ensures ∙ decimal-large _ _ _ c.loop-b.invariant c.loop-b-test.true (omega (arith, c.in_err-v.ensures, c.in_ok-checked_mul.ensures, c.from.ensures))
 
-pub returns-then-not-grows : goal.returns-then-not-grows
-returns-then-not-grows c = decimal-large _ _ _ c.requires.1 _ _ c.loop-i.invariant c.loop-i-test.true _ c.wide-d.ensures.0 c.if-d-lt48.false c.if-d-gt57.false _ c.grows.ensures c.if-not-grows.true-raw
-
-pub overflow_mul-v : goal.overflow_mul-v
-overflow_mul-v c = let f = grown-fits (c.loop-i.v * 10 + (c.wide-d.result - 48)) _ c.grows.ensures c.if-not-grows.false-raw in omega arith
-
-pub overflow_add-v : goal.overflow_add-v
-overflow_add-v c = let f = grown-fits (c.loop-i.v * 10 + (c.wide-d.result - 48)) _ c.grows.ensures c.if-not-grows.false-raw in omega arith
-
-pub loop-i-preserved : goal.loop-i-preserved
-loop-i-preserved c =
-    decimal-more _ _ _ c.requires.1 _ _ c.loop-i.invariant c.loop-i-test.true _ c.wide-d.ensures.0
-    c.if-d-lt48.false c.if-d-gt57.false _ c.grows.ensures c.if-not-grows.false-raw
+pub loop-b-preserved : goal.loop-b-preserved
+loop-b-preserved c =
+    let e : c.in_ok-v.v ≡ c.loop-b.v * 10 + (get_or c.args.word.now c.loop-b.b-index 0 - 48) = omega (arith, c.in_ok-v.ensures, c.in_ok-checked_mul.ensures, c.from.ensures) in
+    rw e (decimal-more _ _ _ c.loop-b.invariant c.loop-b-test.true (sym c.is_ascii_digit.ensures.value ∙ c.if-not-is_ascii_digit.false) (omega (arith, c.in_ok-v.ensures)))
 
 pub returns : goal.returns
-returns c = decimal-done _ _ _ c.requires.1 _ _ c.loop-i.invariant (omega arith)
+returns c = decimal-done _ _ _ c.loop-b.invariant c.loop-b-test.false c.loop-b.auto.b-index-end

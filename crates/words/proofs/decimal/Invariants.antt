@@ -1,10 +1,7 @@
--- `words::decimal` meets its contract. Assumes nothing.
-use Prim.Native.Nat.{◌-◌}
-use Rattle.words.specs.WordLaws.{DecimalRead}
+-- `words::decimal` meets its contract. The loop's invariant: what is left of the word, behind the number v, gives the whole. Assumes nothing.
+use Rattle.std.proofs.Common.{◌≡◌, drop}
+use Rattle.words.specs.Words.{decimal_from, decimal_of}
 use Rattle.words.proofs.decimal.Given as goal
 
-abbrev pub invariant-loop-i : goal.invariant-loop-i
-invariant-loop-i l = DecimalRead l.s l.b l.e l.v l.i
-
-abbrev pub decreases-loop-i : goal.decreases-loop-i
-decreases-loop-i l = l.e - l.i
+abbrev pub invariant-loop-b : goal.invariant-loop-b
+invariant-loop-b l = decimal_of l.word ≡ decimal_from l.v (drop l.b-index l.word)

@@ -4,14 +4,14 @@ use Rattle.answers.specs.Answers.{sums_given, split_lengths_given}
 use Rattle.table.specs.NumberLaws.{lengths-numbers}
 use Rattle.calling.proofs.questions.lengths.Goals as goal
 
-pub float_to_bits-a : goal.float_to_bits-a
+pub float_to_bits-shortest : goal.float_to_bits-shortest
 unfolding split_lengths_given sums_given
-float_to_bits-a c = (lengths-numbers _ _ _ (sym c.in-Gives.ensures)).0
+float_to_bits-shortest c = (lengths-numbers _ _ _ (sym c.in_ok-x.ensures)).0
 
-pub float_to_bits-b : goal.float_to_bits-b
+pub float_to_bits-longest : goal.float_to_bits-longest
 unfolding split_lengths_given sums_given
-float_to_bits-b c = (lengths-numbers _ _ _ (sym c.in-Gives.ensures)).1
+float_to_bits-longest c = (lengths-numbers _ _ _ (sym c.in_ok-x.ensures)).1
 
-pub float_to_bits-c : goal.float_to_bits-c
+pub float_to_bits-sum : goal.float_to_bits-sum
 unfolding split_lengths_given sums_given
-float_to_bits-c c = (lengths-numbers _ _ _ (sym c.in-Gives.ensures)).2
+float_to_bits-sum c = (lengths-numbers _ _ _ (sym c.in_ok-x.ensures)).2

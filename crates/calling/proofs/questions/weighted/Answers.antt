@@ -5,6 +5,6 @@ use Rattle.answers.specs.Answers.{weight_given}
 use Rattle.comparing.specs.NumberLaws.{weighted-number}
 use Rattle.calling.proofs.questions.weighted.Goals as goal
 
-pub float_to_bits-x : goal.float_to_bits-x
+pub float_to_bits-result : goal.float_to_bits-result
 unfolding weight_given
-float_to_bits-x c = plus-number _ (weighted-number _ _ _ _ (sym c.in-Gives.ensures))
+float_to_bits-result c = plus-number _ (weighted-number _ _ _ _ (sym c.in_ok-x.ensures))

@@ -42,7 +42,7 @@ unfolding branch_given
 loop-j-preserved c =
     let l = c.loop-j in
     let full = branches-full _ _ c.requires.i_bound c.requires.bound in
-    let e = sym c.length_in.ensures ∙ ap branch_given c.in-Given.is in (
+    let e = sym c.length_in.ensures ∙ ap branch_given c.in-Some.is in (
       omega arith,
       l.invariant.1,
       length-set l.lengths l.j _ ∙ l.invariant.2,

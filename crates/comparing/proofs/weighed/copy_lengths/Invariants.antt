@@ -1,5 +1,5 @@
 -- `comparing::weighed::copy_lengths` meets its contract. The loop's invariant: the first j lengths are given, and copied. Assumes nothing.
-use Prim.Native.Nat.{◌≤◌, ◌-◌}
+use Prim.Native.Nat.{◌≤◌}
 use mathlib.Core.Path.{◌≡◌}
 use mathlib.Core.Option.{some}
 use lib.ListN.{length, take}
@@ -9,6 +9,3 @@ use Rattle.comparing.proofs.weighed.copy_lengths.Given as goal
 
 abbrev pub invariant-loop-j : goal.invariant-loop-j
 invariant-loop-j l = (l.j ≤ l.n) × (l.n ≡ length (branches_at l.s l.i.0)) × (length l.lengths ≡ length l.initial.lengths) × (all_given (take l.j (branches_at l.s l.i.0)) ≡ some (take l.j l.lengths))
-
-abbrev pub decreases-loop-j : goal.decreases-loop-j
-decreases-loop-j l = l.n - l.j

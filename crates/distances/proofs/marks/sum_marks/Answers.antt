@@ -22,14 +22,14 @@ bounds-marks-k c =
     omega (arith, k, c.requires.marks_len)
 
 pub overflow_add-sum : goal.overflow_add-sum
-overflow_add-sum c = omega (arith, c.wide-sum.ensures.1, c.loop-at.invariant.2)
+overflow_add-sum c = omega (arith, c.from-sum.ensures, c.loop-at.invariant.2)
 
 pub loop-at-preserved : goal.loop-at-preserved
 loop-at-preserved c =
     let l = c.loop-at in
-    let w = c.wide-sum.ensures in
+    let w = c.from-sum.ensures in
     let q = sum_more c.args.marks.now (list_at c.args.s.now c.args.j) l.at _ (omega (arith, c.splits_in-n.ensures)) c.row_in-k.ensures in
-    (omega arith, l.invariant.1, omega (arith, w.1, l.invariant.2), omega (arith, w.0, l.invariant.3, q))
+    (omega arith, l.invariant.1, omega (arith, w, l.invariant.2), omega (arith, w, l.invariant.3, q))
 
 pub returns : goal.returns
 returns c =

@@ -7,6 +7,6 @@ pub returns : goal.returns
 unfolding rows_in
 returns c =
     let i = c.args.i in
-    let n = c.wide.result in
+    let n = c.from.result in
     let e : 64 * i + n - 64 * i ≡ n = omega arith in
-    rw (e, c.wide.ensures.0)
+    rw (e, c.from.ensures)

@@ -9,7 +9,7 @@ loop-j-init c = (omega arith, refl)
 pub returns-then-is_same : goal.returns-then-is_same
 returns-then-is_same c =
     let l = c.loop-j in
-    c.wide.ensures ∙ sym (l.invariant.1 ∙ search-here _ _ _ l.j (omega arith) (omega arith) (sym c.is_same.ensures ∙ c.if-is_same.true))
+    c.from.ensures ∙ sym (l.invariant.1 ∙ search-here _ _ _ l.j (omega arith) (omega arith) (sym c.is_same.ensures ∙ c.if-is_same.true))
 
 pub loop-j-preserved : goal.loop-j-preserved
 loop-j-preserved c =

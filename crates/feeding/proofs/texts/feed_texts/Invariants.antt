@@ -1,10 +1,7 @@
 -- `feeding::texts::feed_texts` meets its contract. The loop's invariant: i texts are fed, and the rest decides. Assumes nothing.
-use Prim.Native.Nat.{◌-◌}
+use lib.ListN.{length}
 use Rattle.feeding.specs.BatchLaws.{Going}
 use Rattle.feeding.proofs.texts.feed_texts.Given as goal
 
 abbrev pub invariant-loop-i : goal.invariant-loop-i
-invariant-loop-i l = Going l.initial.s l.l.0 l.piece l.n l.initial.verdicts l.s l.verdicts l.at l.i
-
-abbrev pub decreases-loop-i : goal.decreases-loop-i
-decreases-loop-i l = l.n - l.i
+invariant-loop-i l = Going l.initial.s l.l.0 l.piece (length l.initial.verdicts) l.initial.verdicts l.s l.verdicts l.at l.i

@@ -1,6 +1,7 @@
 -- `feeding::verdicts::finish_text` meets its contract: 6, the text's own refusal, or the tree if there is room. Assumes nothing.
 use mathlib.Core.Path.{refl, ◌∙◌}
 use native.Mathlib.Omega.{arith}
+use Rattle.std.proofs.lemmas.Result.{err_from_is_err_and}
 use Rattle.answers.specs.Answers.{refusal_number, progress_given}
 use Rattle.lanes.specs.LaneLaws.{lane-overrun, lane-holding}
 use Rattle.feeding.specs.JudgingLaws.{judged-refused, judged-gives, splits_of_lem, lengths-of, tree-given}
@@ -21,26 +22,27 @@ judge_lane-judged-requires c = let n = c.lane_length-n.ensures.upper_bound in re
 
 pub accept-requires : goal.accept-requires
 accept-requires c =
-    let b = judged-gives _ _ _ _ _ _ _ c.judge_lane-judged.ensures _ c.in-Splits.is in
+    let b = judged-gives _ _ _ _ _ _ _ c.judge_lane-judged.ensures _ c.in_ok-k.was in
     let l = c.empty_lane-2.ensures in
     let o = opening-kept _ _ _ _ l in record { s_value = l.whole; splits_of = splits_of_lem _ _ _ b.0 _ _ _ _ _ c.requires.s_value o b.1 b.2 b.3 b.4; lengths_of = lengths-of _ _ _ b.0 _ _ _ _ _ c.requires.s_value o b.1 b.2 b.3 b.4 }
 
-pub shape_of-s-in-Refused : goal.shape_of-s-in-Refused
-shape_of-s-in-Refused c = c.empty_lane-2.ensures.size
+pub shape_of-s-in_err-k : goal.shape_of-s-in_err-k
+shape_of-s-in_err-k c = c.empty_lane-2.ensures.size
 
-pub returns-in-Refused : goal.returns-in-Refused
+pub returns-in_err-k : goal.returns-in_err-k
 unfolding progress_given
-returns-in-Refused c =
-    let v = judged-refused _ _ _ _ _ _ _ c.judge_lane-judged.ensures _ c.in-Refused.is in
+returns-in_err-k c =
+    let v = judged-refused _ _ _ _ _ _ _ c.judge_lane-judged.ensures _ c.in_err-k.was in
     let t = lane-holding _ c.requires.s_value _ c.requires.l_bound _ c.lane_length-n.ensures.value c.if-n-gt-MOST_TEXT.false in
-    finish-refused _ _ c.requires.l_bound _ c.empty_lane-2.ensures _ _ (verdict-refused _ _ _ _ t v) refl
+    let p = err_from_is_err_and c.from_residual.result c.from_residual.ensures.1 in
+    rw (p.1, p.2) (finish-refused _ _ c.requires.l_bound _ c.empty_lane-2.ensures _ _ (verdict-refused _ _ _ _ t v) refl)
 
-pub shape_of-s-in-Splits : goal.shape_of-s-in-Splits
-shape_of-s-in-Splits c = accepts-size _ _ _ _ c.accept.ensures ∙ c.empty_lane-2.ensures.size
+pub shape_of-s : goal.shape_of-s
+shape_of-s c = accepts-size _ _ _ _ c.accept.ensures ∙ c.empty_lane-2.ensures.size
 
-pub returns-in-Splits : goal.returns-in-Splits
-returns-in-Splits c =
-    let b = judged-gives _ _ _ _ _ _ _ c.judge_lane-judged.ensures _ c.in-Splits.is in
+pub returns : goal.returns
+returns c =
+    let b = judged-gives _ _ _ _ _ _ _ c.judge_lane-judged.ensures _ c.in_ok-k.was in
     let t = lane-holding _ c.requires.s_value _ c.requires.l_bound _ c.lane_length-n.ensures.value c.if-n-gt-MOST_TEXT.false in
     let l = c.empty_lane-2.ensures in
     let g = tree-given _ _ _ b.0 _ _ _ _ _ c.requires.s_value (opening-kept _ _ _ _ l) b.1 b.2 b.3 b.4 in

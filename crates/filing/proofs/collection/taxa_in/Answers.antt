@@ -5,19 +5,19 @@ use Rattle.filing.specs.Names.{taxa_of}
 use Rattle.filing.specs.NameLaws.{names-all, names_more, names-last}
 use Rattle.filing.proofs.collection.taxa_in.Goals as goal
 
-pub loop-i-init : goal.loop-i-init
-loop-i-init c = (omega arith, omega arith, omega (arith, names-all c.args.line.now))
+pub loop-b-init : goal.loop-b-init
+loop-b-init c = (omega arith, omega arith, omega (arith, names-all c.args.line.now))
 
-pub loop-i-preserved : goal.loop-i-preserved
-loop-i-preserved c =
-    let l = c.loop-i in
+pub loop-b-preserved : goal.loop-b-preserved
+loop-b-preserved c =
+    let l = c.loop-b in
     let s = c.args.line.now in
-    let e = names_more l.quoted s l.i c.loop-i-test.true _ _ c.space_at-spaces.ensures.0 c.turn_quotes-quoted.ensures in
+    let e = names_more l.quoted s l.b-index c.loop-b-test.true _ _ c.space_at-spaces.ensures.0 c.turn_quotes-quoted.ensures in
     (omega arith, omega arith, omega (arith, e, l.invariant.2))
 
 pub returns-clause-value : goal.returns-clause-value
 returns-clause-value c =
-    let l = c.loop-i in
+    let l = c.loop-b in
     let s = c.args.line.now in
-    let e : l.spaces + 1 ≡ name_count s = omega (arith, names-last l.quoted s l.i (omega arith), l.invariant.2) in
+    let e : l.spaces + 1 ≡ name_count s = omega (arith, names-last l.quoted s l.b-index (omega arith), l.invariant.2) in
     c.one_more.ensures.value ∙ ap taxa_of e

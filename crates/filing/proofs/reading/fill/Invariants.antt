@@ -1,9 +1,6 @@
--- The measure is the turns left.
+-- No more bytes are held than there is room for.
 use Rattle.std.proofs.Common.{◌≤◌, length}
 use Rattle.filing.proofs.reading.fill.Given as goal
 
-abbrev pub invariant-loop-turns : goal.invariant-loop-turns
-invariant-loop-turns g l = l.held.bytes ≤ length l.buf
-
-abbrev pub decreases-loop-turns : goal.decreases-loop-turns
-decreases-loop-turns g l = l.turns
+abbrev pub invariant-loop : goal.invariant-loop
+invariant-loop g l = l.held.bytes ≤ length l.buf

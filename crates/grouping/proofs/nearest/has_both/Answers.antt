@@ -8,7 +8,7 @@ returns-then-has_taxon c =
     let a = c.args in
     c.has_taxon-then-has_taxon.ensures ∙ both-second a.i.0 a.j.0 a.m (sym c.has_taxon.ensures ∙ c.if-has_taxon.true)
 
-pub returns : goal.returns
-returns c =
+pub returns-else-has_taxon : goal.returns-else-has_taxon
+returns-else-has_taxon c =
     let a = c.args in
-    both-not a.i.0 a.j.0 a.m (sym c.has_taxon.ensures ∙ c.if-has_taxon.false)
+    c.has_taxon.ensures ∙ rw c.has_taxon.ensures at (c.if-has_taxon.false) ∙ both-not a.i.0 a.j.0 a.m (sym c.has_taxon.ensures ∙ c.if-has_taxon.false)

@@ -1,5 +1,5 @@
 -- `grouping::stand_ins::put_sharing` meets its contract. The loop's invariant: the lines of those below j are put. Assumes nothing.
-use Prim.Native.Nat.{◌+◌, ◌-◌, ◌*◌, ◌≤◌}
+use Prim.Native.Nat.{◌+◌, ◌*◌, ◌≤◌}
 use mathlib.Core.List.{map}
 use lib.ListN.{length}
 use Rattle.trees.specs.Plain.{keep}
@@ -16,6 +16,3 @@ abbrev pub invariant-loop-j : goal.invariant-loop-j
 invariant-loop-j l =
     let those = keep (sharer (numbers_at l.s).taxa l.i.0 l.list l.k) (up_to l.j) in
     (l.j ≤ l.n) × (l.e ≤ l.at + 4370 * length those) × Put l.initial.out l.at (bytes_of (map (stand_in_line (held_at l.s) l.i.0) those)) l.out l.e
-
-abbrev pub decreases-loop-j : goal.decreases-loop-j
-decreases-loop-j l = l.n - l.j

@@ -10,15 +10,15 @@ pub returns-in_default : goal.returns-in_default
 returns-in_default c = leaf-none _ _ _ _ c.find_taxon-f.ensures.value c.in_default.is
 
 pub has_taxon-requires : goal.has_taxon-requires
-has_taxon-requires c = taxon-64 _ c.requires.prepared.good _ (leaf-below _ _ 0 _ c.find_taxon-f.ensures.value _ c.in-At.is c.find_taxon-f.ensures.below)
+has_taxon-requires c = taxon-64 _ c.requires.prepared.good _ (leaf-below _ _ 0 _ c.find_taxon-f.ensures.value _ c.in-Some.is c.find_taxon-f.ensures.below)
 
 pub returns-then-has_taxon : goal.returns-then-has_taxon
-returns-then-has_taxon c = leaf-before _ _ _ _ c.find_taxon-f.ensures.value _ c.in-At.is (sym c.has_taxon.ensures ∙ c.if-has_taxon.true)
+returns-then-has_taxon c = leaf-before _ _ _ _ c.find_taxon-f.ensures.value _ c.in-Some.is (sym c.has_taxon.ensures ∙ c.if-has_taxon.true)
 
 pub add_taxon-requires : goal.add_taxon-requires
-add_taxon-requires c = record { head_bytes_in_bounds = (c.requires.prepared.reach, c.requires.prepared.good); t_bound = leaf-below _ _ 0 _ c.find_taxon-f.ensures.value _ c.in-At.is c.find_taxon-f.ensures.below; t_value = sym c.has_taxon.ensures ∙ c.if-has_taxon.false; hashed = c.requires.hashed }
+add_taxon-requires c = record { head_bytes_in_bounds = (c.requires.prepared.reach, c.requires.prepared.good); t_bound = leaf-below _ _ 0 _ c.find_taxon-f.ensures.value _ c.in-Some.is c.find_taxon-f.ensures.below; t_value = sym c.has_taxon.ensures ∙ c.if-has_taxon.false; hashed = c.requires.hashed }
 
 pub returns : goal.returns
 returns c =
-    leaf-more _ _ _ _ c.find_taxon-f.ensures.value _ c.in-At.is (sym c.has_taxon.ensures ∙ c.if-has_taxon.false) _
+    leaf-more _ _ _ _ c.find_taxon-f.ensures.value _ c.in-Some.is (sym c.has_taxon.ensures ∙ c.if-has_taxon.false) _
     c.add_taxon.ensures.mask_value c.add_taxon.ensures.hashed_2

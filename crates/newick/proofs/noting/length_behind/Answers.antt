@@ -11,12 +11,12 @@ length_at-t-requires c = record { length_stands = length-stands _ _ _ c.requires
 
 pub float_to_bits-result : goal.float_to_bits-result
 unfolding value_given
-float_to_bits-result c = proper-number _ (length-proper _ _ (sym c.length_at-t.ensures.value ∙ ap value_given c.in-Inside.is))
+float_to_bits-result c = proper-number _ (length-proper _ _ (sym c.length_at-t.ensures.value ∙ ap value_given c.in_ok-x.was))
 
-pub returns-in-Outside : goal.returns-in-Outside
+pub returns-in_err-x : goal.returns-in_err-x
 unfolding value_given
-returns-in-Outside c = measured-outside _ _ _ c.requires.fine c.skip_blanks-b.ensures _ c.length_at-t.ensures.run (sym c.length_at-t.ensures.value ∙ ap value_given c.in-Outside.is)
+returns-in_err-x c = rw c.from_residual.ensures (measured-outside _ _ _ c.requires.fine c.skip_blanks-b.ensures _ c.length_at-t.ensures.run (sym c.length_at-t.ensures.value ∙ ap value_given c.in_err-x.was))
 
-pub returns-in-Inside : goal.returns-in-Inside
+pub returns : goal.returns
 unfolding value_given
-returns-in-Inside c = measured-inside _ _ _ c.requires.fine c.skip_blanks-b.ensures _ c.length_at-t.ensures.run _ _ (sym c.length_at-t.ensures.value ∙ ap value_given c.in-Inside.is) refl
+returns c = measured-inside _ _ _ c.requires.fine c.skip_blanks-b.ensures _ c.length_at-t.ensures.run _ _ (sym c.length_at-t.ensures.value ∙ ap value_given c.in_ok-x.was) refl

@@ -1,4 +1,4 @@
-use Rattle.std.proofs.Common.{sym, ◌∙◌, arith, rules}
+use Rattle.std.proofs.Common.{◌≡◌, length, sym, ◌∙◌, arith, rules}
 use Rattle.newick.proofs.NotingLaws.{passed_none, passed_on}
 use Rattle.newick.proofs.noting.next_stop.Goals as goal
 
@@ -12,4 +12,4 @@ pub loop-at-preserved : goal.loop-at-preserved
 loop-at-preserved c = passed_on _ _ _ c.loop-at.invariant (search rules) (sym c.is_stop.ensures ∙ c.if-is_stop.false)
 
 pub returns : goal.returns
-returns c = record { passed = c.loop-at.invariant; stop = λ l. absurd (omega (arith, c.loop-at-test.false)) }
+returns c = let e : c.loop-at.at ≡ length c.args.text.now = omega arith in record { passed = rw e at c.loop-at.invariant; stop = λ l. absurd (omega arith) }

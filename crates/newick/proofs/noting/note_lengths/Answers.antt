@@ -23,16 +23,16 @@ note_last-requires c = c.loop-at.invariant.some-noted
 
 pub next_stop-at-requires-then-b-eq58 : goal.next_stop-at-requires-then-b-eq58
 next_stop-at-requires-then-b-eq58 c =
-    let m = subst (MeasuredBehind _ _) c.in-Inside.is c.length_behind-m.ensures in
+    let m = subst (MeasuredBehind _ _) c.in-Some.is c.length_behind-m.ensures in
     let t = c.if-b-eq58.true in record { from_in_bounds = (length-past _ _ _ _ _ _ c.loop-at.invariant c.loop-at-test.true t _ _ m).1; fine = behind-length _ _ _ _ _ _ c.loop-at.invariant c.loop-at-test.true t _ _ m }
 
 pub loop-at-smaller-then-b-eq58 : goal.loop-at-smaller-then-b-eq58
 loop-at-smaller-then-b-eq58 c =
-    let p = length-past _ _ _ _ _ _ c.loop-at.invariant c.loop-at-test.true c.if-b-eq58.true _ _ (subst (MeasuredBehind _ _) c.in-Inside.is c.length_behind-m.ensures) in
+    let p = length-past _ _ _ _ _ _ c.loop-at.invariant c.loop-at-test.true c.if-b-eq58.true _ _ (subst (MeasuredBehind _ _) c.in-Some.is c.length_behind-m.ensures) in
     omega (arith, p.0, c.next_stop-at-then-b-eq58.ensures.passed.past, c.loop-at-test.true)
 
 pub loop-at-preserved-then-b-eq58 : goal.loop-at-preserved-then-b-eq58
-loop-at-preserved-then-b-eq58 c = noting-length _ _ _ _ _ _ c.loop-at.invariant c.loop-at-test.true c.if-b-eq58.true _ _ (subst (MeasuredBehind _ _) c.in-Inside.is c.length_behind-m.ensures) _ c.note_last.ensures _ c.next_stop-at-then-b-eq58.ensures
+loop-at-preserved-then-b-eq58 c = noting-length _ _ _ _ _ _ c.loop-at.invariant c.loop-at-test.true c.if-b-eq58.true _ _ (subst (MeasuredBehind _ _) c.in-Some.is c.length_behind-m.ensures) _ c.note_last.ensures _ c.next_stop-at-then-b-eq58.ensures
 
 pub overflow_add-n : goal.overflow_add-n
 overflow_add-n c = omega (arith, c.loop-at.invariant.few, c.requires.text_len_bound)

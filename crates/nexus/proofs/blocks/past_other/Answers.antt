@@ -1,4 +1,4 @@
-use mathlib.Core.Path.{refl, sym, ◌∙◌}
+use mathlib.Core.Path.{sym, ◌∙◌}
 use native.Mathlib.Omega.{arith}
 use borrow.Author.Rules.{rules}
 use Rattle.nexus.specs.BlockLaws.{beyond-none, beyond-more, beyond-good, beyond-fault}
@@ -8,7 +8,7 @@ pub loop-from-init : goal.loop-from-init
 loop-from-init c = beyond-none _ _ (search rules)
 
 pub returns-then-end-f : goal.returns-then-end-f
-returns-then-end-f c = beyond-fault _ _ _ _ c.loop-from.invariant c.command_end-end.ensures c.if-end-f.true _ refl
+returns-then-end-f c = beyond-fault _ _ _ _ c.loop-from.invariant c.command_end-end.ensures c.if-end-f.true
 
 pub ends_other-requires : goal.ends_other-requires
 ends_other-requires c = c.command_end-end.ensures.paired (omega (arith, c.if-end-f.false, c.command_end-end.ensures.within))

@@ -1,30 +1,31 @@
 -- `nexus::blocks::read_trees` meets its contract: the list, the lines, and what stands behind them. Assumes nothing.
-use mathlib.Core.Path.{refl}
-use mathlib.Core.Bool.{true≢false}
-use Rattle.nexus.specs.FileLaws.{trees-bad, trees-no-list, trees-no-lines, trees-no-end, trees-found}
+use Rattle.nexus.specs.FileLaws.{listed-there, counted-there, trees-no-list, trees-no-lines, trees-no-end, trees-found}
 use Rattle.nexus.proofs.blocks.read_trees.Goals as goal
 
-pub returns-then-f-list : goal.returns-then-f-list
-returns-then-f-list c =
-    trees-bad _ _ _ c.malformed.ensures _
-    (trees-no-list _ _ _ _ c.read_list-list.ensures.listed_as c.if-f-list.true)
+pub returns-in_err-list : goal.returns-in_err-list
+returns-in_err-list c = rw c.from_residual.ensures (trees-no-list _ _ _ c.in_err-list.ensures.listed_as)
 
-pub returns-then-f-counted : goal.returns-then-f-counted
-returns-then-f-counted c =
-    trees-bad _ _ _ c.malformed-then-f-counted.ensures _
-    (trees-no-lines _ _ _ _ c.read_list-list.ensures.listed_as c.if-f-list.false _
-    c.count_lines-counted.ensures c.if-f-counted.true)
+pub count_lines-requires : goal.count_lines-requires
+count_lines-requires c = listed-there _ _ _ _ c.in_ok-list.ensures.listed_as
+
+pub returns-in_err-counted : goal.returns-in_err-counted
+returns-in_err-counted c =
+    let list = c.in_ok-list.ensures.listed_as in
+    rw c.from_residual-in_err-counted.ensures (trees-no-lines _ _ _ _ list c.in_err-counted.ensures)
+
+pub ends_well-requires : goal.ends_well-requires
+ends_well-requires c =
+    let list = c.in_ok-list.ensures.listed_as in
+    counted-there _ _ _ _ list _ c.in_ok-counted.ensures
 
 pub returns-then-not-ends_well : goal.returns-then-not-ends_well
 returns-then-not-ends_well c =
-    trees-bad _ _ _ c.malformed-then-not-ends_well.ensures _
-    (trees-no-end _ _ _ _ c.read_list-list.ensures.listed_as c.if-f-list.false _
-    c.count_lines-counted.ensures c.if-f-counted.false
-    (c.ends_well.ensures.not (c.if-not-ends_well.true)))
+    let list = c.in_ok-list.ensures.listed_as in
+    let lines = c.in_ok-counted.ensures in
+    trees-no-end _ _ _ _ list _ lines (c.ends_well.ensures.not c.if-not-ends_well.true)
 
 pub returns : goal.returns
 returns c =
-    let list = c.read_list-list.ensures.listed_as in
-    let lines = c.count_lines-counted.ensures in
-    let well = c.ends_well.ensures.well (c.if-not-ends_well.false) in
-    record { good = λ h. trees-found _ _ _ _ list c.if-f-list.false _ lines c.if-f-counted.false well _ refl; bad = λ h. absurd (true≢false h) }
+    let list = c.in_ok-list.ensures.listed_as in
+    let lines = c.in_ok-counted.ensures in
+    trees-found _ _ _ _ list _ lines (c.ends_well.ensures.well c.if-not-ends_well.false)

@@ -1,5 +1,6 @@
-use mathlib.Core.Path.{sym, ◌∙◌}
+use mathlib.Core.Path.{◌≡◌, sym, ◌∙◌}
 use native.Mathlib.Omega.{arith}
+use lib.ListN.{length}
 use Rattle.nexus.specs.PlainLaws.{run_more, run_ends}
 use Rattle.nexus.proofs.commands.past_plain.Goals as goal
 
@@ -13,4 +14,4 @@ pub loop-at-preserved : goal.loop-at-preserved
 loop-at-preserved c = run_more _ _ _ c.loop-at.invariant (omega arith) (sym c.is_plain.ensures ∙ c.if-not-is_plain.false)
 
 pub returns : goal.returns
-returns c = run_ends _ _ _ c.loop-at.invariant (λ h. absurd (omega arith))
+returns c = let e : c.loop-at.at ≡ length c.args.s.now = omega arith in run_ends _ _ _ (rw e at c.loop-at.invariant) (λ h. absurd (omega arith))

@@ -1,11 +1,6 @@
 -- `nexus::comments::past_next` meets its contract. The loop's invariant: none of the bytes so far is `b`. Assumes nothing.
-use Prim.Native.Nat.{◌-◌}
-use lib.ListN.{length}
 use Rattle.nexus.specs.CommentLaws.{Others}
 use Rattle.nexus.proofs.comments.past_next.Given as goal
 
 abbrev pub invariant-loop-at : goal.invariant-loop-at
 invariant-loop-at l = Others l.s l.b l.from l.at
-
-abbrev pub decreases-loop-at : goal.decreases-loop-at
-decreases-loop-at l = length l.s - l.at

@@ -1,7 +1,6 @@
 -- `nexus::feed::feed_lines` meets its contract. The loop's invariant: i trees are fed, and the rest decides; the buffer keeps its length.
 -- Assumes nothing.
 use mathlib.Core.Path.{◌≡◌}
-use Prim.Native.Nat.{◌-◌}
 use lib.ListN.{length}
 use Rattle.trees.specs.Held.{most_text}
 use Rattle.nexus.specs.Commands.{pairs_in}
@@ -10,6 +9,3 @@ use Rattle.nexus.proofs.feed.feed_lines.Given as goal
 
 abbrev pub invariant-loop-i : goal.invariant-loop-i
 invariant-loop-i l = Going (pairs_in l.list l.pairs l.places) l.f l.from l.n l.initial.s l.initial.verdicts l.s l.verdicts l.at l.i × (length l.text ≡ most_text)
-
-abbrev pub decreases-loop-i : goal.decreases-loop-i
-decreases-loop-i l = l.n - l.i

@@ -43,7 +43,7 @@ returns-then-is_key c =
     let l = c.loop-number in
     let z = c.loop-number-test.true in
     let w = part a.b a.e a.text.now in
-    let q = compared a.list.now a.places.now w _ _ _ _ z l.invariant.0 c.is_key.ensures c.if-is_key.true in record { found_as = found_here _ w _ l.invariant.1 z q; upper_bound = omega arith }
+    let q = compared a.list.now a.places.now w _ _ _ _ z l.invariant.0 c.is_key.ensures c.if-is_key.true in found_here _ w _ l.invariant.1 z q
 
 pub bounds-links-i : goal.bounds-links-i
 bounds-links-i c =
@@ -68,4 +68,4 @@ loop-number-preserved c =
     some-entry _ _ w _ _ (sought-next _ w _ _ c.requires.indexed _ l.invariant.1 z q)
 
 pub returns : goal.returns
-returns c = record { found_as = found-out _ _ _ c.loop-number.invariant.1 c.loop-number-test.false; upper_bound = omega arith }
+returns c = found-out _ _ _ c.loop-number.invariant.1 c.loop-number-test.false

@@ -9,6 +9,3 @@ use Rattle.nexus.proofs.keys.index_keys.Given as goal
 
 abbrev pub invariant-loop-i : goal.invariant-loop-i
 invariant-loop-i l = (l.i ≤ l.n) × (length l.starts ≡ keys) × (length l.links ≡ 64) × IndexedFrom (keys_of (pairs_in l.list l.n l.places)) l.i l.starts l.links
-
-abbrev pub decreases-loop-i : goal.decreases-loop-i
-decreases-loop-i l = l.i

@@ -1,5 +1,4 @@
 -- `nexus::keys::repeats` meets its contract. The loop's invariant: the keys from pair i on decide. Assumes nothing.
-use Prim.Native.Nat.{◌-◌}
 use mathlib.Core.Path.{◌≡◌}
 use lib.ListN.{drop}
 use Rattle.trees.specs.Names.{different}
@@ -9,6 +8,3 @@ use Rattle.nexus.proofs.keys.repeats.Given as goal
 
 abbrev pub invariant-loop-i : goal.invariant-loop-i
 invariant-loop-i l = different (keys_of (pairs_in l.list l.n l.places)) ≡ different (drop l.i (keys_of (pairs_in l.list l.n l.places)))
-
-abbrev pub decreases-loop-i : goal.decreases-loop-i
-decreases-loop-i l = l.n - l.i

@@ -1,6 +1,7 @@
 use native.Mathlib.Omega.{arith}
 use borrow.Author.Rules.{rules}
-use mathlib.Core.Path.{sym, ◌∙◌}
+use mathlib.Core.Path.{◌≡◌, sym, ◌∙◌}
+use lib.ListN.{length}
 use Rattle.nexus.specs.TokenLaws.{run_none, run_more}
 use Rattle.nexus.proofs.plain.past_kept.Goals as goal
 
@@ -14,4 +15,4 @@ pub loop-at-preserved : goal.loop-at-preserved
 loop-at-preserved c = run_more c.loop-at.invariant (search rules) (sym c.is_kept.ensures ∙ c.if-not-is_kept.false)
 
 pub returns : goal.returns
-returns c = record { run = c.loop-at.invariant; stop = λ h. absurd (omega arith) }
+returns c = let e : c.loop-at.at ≡ length c.args.raw.now = omega arith in record { run = rw e at c.loop-at.invariant; stop = λ h. absurd (omega arith) }

@@ -1,5 +1,7 @@
+use native.Mathlib.Omega.{arith}
 use borrow.Author.Rules.{rules}
-use mathlib.Core.Path.{sym, ◌∙◌}
+use mathlib.Core.Path.{◌≡◌, sym, ◌∙◌}
+use lib.ListN.{length}
 use Rattle.nexus.specs.TokenLaws.{run_none, run_more}
 use Rattle.nexus.proofs.plain.past_openings.Goals as goal
 
@@ -13,4 +15,4 @@ pub loop-at-preserved : goal.loop-at-preserved
 loop-at-preserved c = run_more c.loop-at.invariant (search rules) (sym c.is_opening.ensures ∙ c.if-not-is_opening.false)
 
 pub returns : goal.returns
-returns c = c.loop-at.invariant
+returns c = let e : c.loop-at.at ≡ length c.args.raw.now = omega arith in rw e at c.loop-at.invariant

@@ -1,12 +1,7 @@
 -- `nexus::tokens::is_word` meets its contract. The loop's invariant: the first `i` bytes are alike, so that the rest decides.
 -- Assumes nothing.
-use Prim.Native.Nat.{◌-◌}
-use lib.ListN.{length}
 use Rattle.nexus.specs.TokenLaws.{Alike}
 use Rattle.nexus.proofs.tokens.is_word.Given as goal
 
 abbrev pub invariant-loop-i : goal.invariant-loop-i
 invariant-loop-i l = Alike l.s l.b l.e l.k l.i
-
-abbrev pub decreases-loop-i : goal.decreases-loop-i
-decreases-loop-i l = length l.k - l.i

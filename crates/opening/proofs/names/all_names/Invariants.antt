@@ -1,5 +1,5 @@
 -- `opening::names::all_names` meets its contract. The loop's invariant: the names from i on decide. Assumes nothing.
-use Prim.Native.Nat.{◌≤◌, ◌-◌}
+use Prim.Native.Nat.{◌≤◌}
 use mathlib.Core.Path.{◌≡◌}
 use lib.ListN.{drop}
 use Rattle.trees.specs.Plain.{every}
@@ -9,6 +9,3 @@ use Rattle.opening.proofs.names.all_names.Given as goal
 
 abbrev pub invariant-loop-i : goal.invariant-loop-i
 invariant-loop-i l = (l.i ≤ l.n) × (every is_name (first_names l.n l.s) ≡ every is_name (drop l.i (first_names l.n l.s)))
-
-abbrev pub decreases-loop-i : goal.decreases-loop-i
-decreases-loop-i l = l.n - l.i

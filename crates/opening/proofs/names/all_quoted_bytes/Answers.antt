@@ -1,30 +1,18 @@
-use mathlib.Core.Path.{refl, sym, ◌∙◌}
-use native.Mathlib.Omega.{arith}
-use Rattle.opening.specs.GivenLaws.{failed, passed}
-use Rattle.opening.specs.NameTestLaws.{quoted-more, quoted-not, quoted-end}
+-- `opening::names::all_quoted_bytes` meets its contract. Assumes nothing.
+use Rattle.std.proofs.Common.{rules, ◌∙◌, ap}
+use Rattle.std.specs.List.{between}
+use Rattle.std.proofs.lemmas.Slice.{between_is}
+use Rattle.std.proofs.lemmas.Iterator.{YieldsList-from_slice}
+use Rattle.std.proofs.lemmas.Iterator.Search.{all_from_yields_List}
+use borrow.Author.Tests.{tests}
+use Rattle.trees.specs.Plain.{every}
+use Rattle.trees.specs.Text.{is_quoted_byte}
+use Rattle.opening.specs.GivenLaws.{every_all}
 use Rattle.opening.proofs.names.all_quoted_bytes.Goals as goal
-
-pub loop-i-init : goal.loop-i-init
-loop-i-init c = (omega arith, refl)
-
-pub returns-then-not-is_quoted_byte : goal.returns-then-not-is_quoted_byte
-returns-then-not-is_quoted_byte c =
-    let a = c.args in
-    let l = c.loop-i in
-    sym (l.invariant.1
-    ∙ quoted-not a.s.now l.i a.e (omega arith) (omega arith) (failed _ _ c.is_quoted_byte.ensures c.if-not-is_quoted_byte.true-raw))
-
-pub loop-i-preserved : goal.loop-i-preserved
-loop-i-preserved c =
-    let a = c.args in
-    let l = c.loop-i in (
-      omega arith,
-      l.invariant.1
-          ∙ quoted-more a.s.now l.i a.e (omega arith) (omega arith) (passed _ _ c.is_quoted_byte.ensures c.if-not-is_quoted_byte.false-raw),
-    )
 
 pub returns : goal.returns
 returns c =
     let a = c.args in
-    let l = c.loop-i in
-    sym (l.invariant.1 ∙ quoted-end a.s.now l.i a.e (omega arith))
+    all_from_yields_List is_quoted_byte _ _ c.all.result c.all.ensures.ran (YieldsList-from_slice (between a.b a.e a.s.now) cc) (λ x b q k. search (rules, tests))
+    ∙ every_all _ _
+    ∙ ap (every is_quoted_byte) (between_is a.s.now a.b a.e)

@@ -28,7 +28,7 @@ returns-in_default c =
 
 pub overflow_add-at : goal.overflow_add-at
 overflow_add-at c =
-    let h = row_within _ _ _ (place_at _ _ _ _ c.row_end.ensures _ c.in-At.is).0 in
+    let h = row_within _ _ _ (place_at _ _ _ _ c.row_end.ensures _ c.in-Some.is).0 in
     omega arith
 
 pub loop-k-preserved : goal.loop-k-preserved
@@ -36,7 +36,7 @@ loop-k-preserved c =
     let t = c.args.t in
     let k = c.loop-k.k in
     let v = c.loop-k.invariant in
-    let h = place_at _ _ _ _ c.row_end.ensures _ c.in-At.is in
+    let h = place_at _ _ _ _ c.row_end.ensures _ c.in-Some.is in
     let e : t - k - 1 ≡ t - (k + 1) = omega arith in (
       omega arith,
       simp length-set v.1,

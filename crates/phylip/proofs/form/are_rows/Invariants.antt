@@ -13,6 +13,3 @@ invariant-loop-k l =
     × (are_rows l.t l.t (rest l.f l.i) ≡ are_rows (l.t - l.k) l.t (rest l.f l.p))
     × (rest l.f l.p ≡ next_rows l.k l.t (rest l.f l.i))
     × Stands l.f (rest l.f l.i) l.t l.k l.at
-
-abbrev pub decreases-loop-k : goal.decreases-loop-k
-decreases-loop-k l = l.t - l.k

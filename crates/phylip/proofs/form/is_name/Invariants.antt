@@ -1,13 +1,11 @@
--- `phylip::form::is_name` meets its contract. The loop's invariant: the bytes from here on decide. Assumes nothing.
+-- `phylip::form::is_name` meets its contract. The loop's invariant: the bytes from here on decide, and those before are in the text. Assumes nothing.
+use Prim.Native.Nat.{◌+◌, ◌-◌, ◌≤◌, ◌<◌}
 use mathlib.Core.Path.{◌≡◌}
-use lib.ListN.{take}
+use lib.ListN.{length, take}
 use Rattle.trees.specs.Phylip.{is_name}
 use Rattle.phylip.specs.Walk.{rest}
 use Rattle.phylip.specs.PlaceRowLaws.{named}
 use Rattle.phylip.proofs.form.is_name.Given as goal
 
-abbrev pub invariant-loop-left : goal.invariant-loop-left
-invariant-loop-left l = is_name (take 10 (rest l.f l.i)) ≡ named l.left (rest l.f l.at)
-
-abbrev pub decreases-loop-left : goal.decreases-loop-left
-decreases-loop-left l = l.left
+abbrev pub invariant-loop-k : goal.invariant-loop-k
+invariant-loop-k l = (0 < l.k → l.i + l.k ≤ length l.f) × (is_name (take 10 (rest l.f l.i)) ≡ named (10 - l.k) (rest l.f (l.i + l.k)))

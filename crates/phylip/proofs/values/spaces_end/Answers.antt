@@ -1,17 +1,22 @@
-use native.Mathlib.Omega.{arith}
-use mathlib.Core.Path.{sym, ◌∙◌}
+use Rattle.std.proofs.Common.{sym, refl, arith, ◌∙◌}
+use borrow.Author.Tests.{eq-eqb, ne_eqb}
 use Rattle.theorems.specs.RunOfLaws.{behind-over}
-use Rattle.phylip.specs.PlaceLaws.{begins-within, behind-next}
+use Rattle.phylip.specs.Walk.{is_byte}
+use Rattle.phylip.specs.PlaceLaws.{begins-here, begins-past, behind-next, rest_past}
 use Rattle.phylip.proofs.values.spaces_end.Goals as goal
 
-pub overflow_add-at : goal.overflow_add-at
-overflow_add-at c = let h = begins-within _ _ _ (sym c.has_byte.ensures ∙ c.loop-at-test.true) in omega arith
+pub loop-at-init : goal.loop-at-init
+loop-at-init c = refl
 
-pub loop-at-smaller : goal.loop-at-smaller
-loop-at-smaller c = let h = begins-within _ _ _ (sym c.has_byte.ensures ∙ c.loop-at-test.true) in omega arith
+pub returns-then-f-at-ne32 : goal.returns-then-f-at-ne32
+unfolding is_byte
+returns-then-f-at-ne32 c = sym (c.loop-at.invariant ∙ behind-over _ _ (begins-here (is_byte 32) _ _ (omega arith) _ (ne_eqb _ 32 c.if-f-at-ne32.true)))
 
 pub loop-at-preserved : goal.loop-at-preserved
-loop-at-preserved c = c.loop-at.invariant ∙ behind-next _ _ _ (sym c.has_byte.ensures ∙ c.loop-at-test.true)
+unfolding is_byte
+loop-at-preserved c = c.loop-at.invariant ∙ behind-next _ _ _ (begins-here (is_byte 32) _ _ (omega arith) _ (eq-eqb _ 32 c.if-f-at-ne32.false))
 
 pub returns : goal.returns
-returns c = sym (c.loop-at.invariant ∙ behind-over _ _ (sym c.has_byte.ensures ∙ c.loop-at-test.false))
+returns c =
+    let f = c.args.f.now in
+    sym (c.loop-at.invariant ∙ behind-over _ _ (begins-past (is_byte 32) f _ (omega arith)) ∙ rest_past f _ _ (omega arith) (omega arith))

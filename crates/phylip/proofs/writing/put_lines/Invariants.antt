@@ -1,5 +1,5 @@
 -- `phylip::writing::put_lines` meets its contract. The loop's invariant: the lines from tree i on are left. Assumes nothing.
-use Prim.Native.Nat.{◌≤◌, ◌-◌}
+use Prim.Native.Nat.{◌≤◌}
 use mathlib.Core.Path.{◌≡◌}
 use lib.ListN.{drop}
 use Rattle.trees.specs.Phylip.{row_texts}
@@ -12,6 +12,3 @@ abbrev pub invariant-loop-i : goal.invariant-loop-i
 invariant-loop-i l =
     (l.i ≤ l.trees) × (l.trees ≡ trees_held_at l.s) × Kept l.s l.i l.rows × (l.e ≤ 8000000)
     × Putting l.initial.out l.at (row_texts 0 (distance_rows (held_at l.s).trees)) l.out l.e (row_texts l.i (drop l.i (distance_rows (held_at l.s).trees)))
-
-abbrev pub decreases-loop-i : goal.decreases-loop-i
-decreases-loop-i l = l.trees - l.i

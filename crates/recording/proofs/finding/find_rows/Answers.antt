@@ -4,7 +4,7 @@ use Rattle.layout.specs.Store.{parts_at}
 use Rattle.layout.specs.WholeFacts.{whole-at-facts}
 use Rattle.recording.specs.NewLaws.{new-most, filled_none, filled-found, filled-missing}
 use Rattle.recording.proofs.finding.find_rows.Goals as goal
-use Rattle.recording.proofs.finding.find_rows.Goals.{in-Row, in-Nothing}
+use Rattle.recording.proofs.finding.find_rows.Goals.{in-Some, in-None}
 
 pub splits_held-held-requires : goal.splits_held-held-requires
 splits_held-held-requires c = (whole-at-facts _ c.requires.s_value).head.head-there
@@ -29,24 +29,21 @@ overflow_add-rows c =
     let l = c.loop-j in
     omega (arith, c.requires.splits_of.few, l.invariant.1.counted, new-most (parts_at c.args.s.now) c.args.records.now l.j)
 
-pub offset_bounds-rows-j-in-Nothing : goal.offset_bounds-rows-j-in-Nothing
-offset_bounds-rows-j-in-Nothing c = omega (arith, c.requires.splits_of.few)
+pub offset_bounds-rows-j-in-None : goal.offset_bounds-rows-j-in-None
+offset_bounds-rows-j-in-None c = omega (arith, c.requires.splits_of.few)
 
 pub overflow_add-new : goal.overflow_add-new
 overflow_add-new c =
     let l = c.loop-j in
     omega (arith, c.requires.splits_of.few, l.invariant.1.counted, new-most (parts_at c.args.s.now) c.args.records.now l.j)
 
-pub overflow_add-j : goal.overflow_add-j
-overflow_add-j c = omega (arith, c.requires.splits_of.few)
-
 pub loop-j-preserved : goal.loop-j-preserved
 loop-j-preserved c =
     let v = c.loop-j.invariant.1 in
     let f = rw c.mask_of.ensures at c.find_row-found.ensures in
     elim c.match-found.branch [
-      | in-Row w ↦ (omega arith, filled-found _ c.requires.s_value _ _ _ _ _ v (omega arith) _ f _ _ _ w.in-Row.is w.rows-is w.new-is)
-      | in-Nothing w ↦ (omega arith, filled-missing _ c.requires.s_value _ _ _ _ _ v (omega arith) _ f _ _ _ (omega arith) w.in-Nothing.is w.rows-is w.new-is)
+      | in-Some w ↦ (omega arith, filled-found _ c.requires.s_value _ _ _ _ _ v (omega arith) _ f _ _ _ w.in-Some.is w.rows-is w.new-is)
+      | in-None w ↦ (omega arith, filled-missing _ c.requires.s_value _ _ _ _ _ v (omega arith) _ f _ _ _ (omega arith) w.in-None.is w.rows-is w.new-is)
     ]
 
 pub shape_of-rows : goal.shape_of-rows

@@ -18,12 +18,6 @@ put_split-e-requires c =
     let l = c.loop-k.invariant in
     let t = c.loop-k-test.true in record { s_value = c.requires.s_value; k_bound = omega (arith, l.1, t); at_bound = omega (arith, l.1, l.2, t, c.requires.at_bound, splits-few _ c.requires.s_value) }
 
-pub overflow_add-k : goal.overflow_add-k
-overflow_add-k c = omega (arith, c.loop-k-test.true, c.splits_held-n.ensures.upper_bound)
-
-pub loop-k-smaller : goal.loop-k-smaller
-loop-k-smaller c = omega (arith, c.loop-k-test.true)
-
 pub loop-k-preserved : goal.loop-k-preserved
 loop-k-preserved c =
     let l = c.loop-k in

@@ -16,6 +16,3 @@ invariant-loop-k l =
     × (l.n ≡ splits_held_at l.s)
     × (l.e ≤ l.at + 42 * l.k)
     × Putting l.initial.out l.at (bytes_of (map (split_line (held_at l.s)) (recorded (held_at l.s).trees))) l.out l.e (bytes_of (map (split_line (held_at l.s)) (drop l.k (recorded (held_at l.s).trees))))
-
-abbrev pub decreases-loop-k : goal.decreases-loop-k
-decreases-loop-k l = l.n - l.k

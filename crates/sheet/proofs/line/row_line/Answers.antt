@@ -18,17 +18,16 @@ write_row-requires c = record { s_value = c.requires.s_value; i_bound = c.requir
 pub loop-j-init : goal.loop-j-init
 loop-j-init c =
     let n = c.trees_held-trees.ensures in
-    (refl, omega arith, omega (arith, n, c.requires.i_bound), n, omega (arith, n, trees-few _ (whole-at-facts _ c.requires.s_value).head), omega (arith, c.put_number-at.ensures.upper_bound.1 c.wide.ensures.1), row-none _ _ _)
+    (refl, omega arith, omega (arith, n, c.requires.i_bound), n, omega (arith, n, trees-few _ (whole-at-facts _ c.requires.s_value).head), omega (arith, c.put_number-at.ensures.upper_bound.1 (omega (arith, c.from.ensures))), row-none _ _ _)
 
 pub loop-j-preserved : goal.loop-j-preserved
 loop-j-preserved c =
     let l = c.loop-j in
-    let d = c.wide-in-loop-j.ensures in
-    let e = c.put_counted-at.ensures.upper_bound.1 d.1 in
-    (omega (arith, l.invariant.0), omega (arith, l.invariant), omega (arith, l.invariant), l.invariant.3, l.invariant.4, omega (arith, l.invariant.5, e), row_more _ _ _ l.invariant.1 d.0 l.invariant.6 c.put_counted-at.ensures.put)
+    let e = c.put_counted-at.ensures.upper_bound.1 (omega (arith, c.from-in-loop-j.ensures)) in
+    (omega (arith, l.invariant.0), omega (arith, l.invariant), omega (arith, l.invariant), l.invariant.3, l.invariant.4, omega (arith, l.invariant.5, e), row_more _ _ _ l.invariant.1 c.from-in-loop-j.ensures l.invariant.6 c.put_counted-at.ensures.put)
 
 pub returns : goal.returns
 returns c =
     let e = c.put_end.ensures in
     let l = c.loop-j in
-    let n : l.j ≡ trees_held_at c.args.s.now = omega (arith, l.invariant.2, l.invariant.3) in record { put = row_put _ _ _ _ c.write_row.ensures _ _ n l.invariant.1 c.wide.ensures.0 c.put_number-at.ensures.put l.invariant.6 e; upper_bound = omega (arith, l.invariant.4, l.invariant.5, e.ends) }
+    let n : l.j ≡ trees_held_at c.args.s.now = omega (arith, l.invariant.2, l.invariant.3) in record { put = row_put _ _ _ _ c.write_row.ensures _ _ n l.invariant.1 c.from.ensures c.put_number-at.ensures.put l.invariant.6 e; upper_bound = omega (arith, l.invariant.4, l.invariant.5, e.ends) }

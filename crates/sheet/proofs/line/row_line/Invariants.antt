@@ -9,6 +9,3 @@ use Rattle.sheet.proofs.line.row_line.Given as goal
 
 abbrev pub invariant-loop-j : goal.invariant-loop-j
 invariant-loop-j l = (length l.out ≡ length l.initial.out) × (1 ≤ l.j) × (l.j ≤ l.trees) × (l.trees ≡ trees_held_at l.s) × (l.trees ≤ 1024) × (l.at ≤ 6 * l.j) × Put l.initial.out l.initial.at (rest (cell l.row) l.j) l.out l.at
-
-abbrev pub decreases-loop-j : goal.decreases-loop-j
-decreases-loop-j l = l.trees - l.j

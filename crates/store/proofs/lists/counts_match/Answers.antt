@@ -20,11 +20,11 @@ returns-then-count-eq0 c =
     let l = c.loop-k in
     sym (all-fails (good_count _) _ l.k (omega arith) (count-zero _ _ _ c.count_at-count.ensures c.if-count-eq0.true))
 
-pub returns-then-count-wide16 : goal.returns-then-count-wide16
-returns-then-count-wide16 c =
+pub returns-then-count-from : goal.returns-then-count-from
+returns-then-count-from c =
     let l = c.loop-k in
     let e = c.requires.counted.entries l.k (omega arith) in
-    sym (all-fails (good_count _) _ l.k (omega arith) (count-wrong _ _ _ c.count_at-count.ensures (λ q. c.if-count-wide16.true (omega arith))))
+    sym (all-fails (good_count _) _ l.k (omega arith) (count-wrong _ _ _ c.count_at-count.ensures (λ q. c.if-count-from.true (omega arith))))
 
 pub loop-k-preserved : goal.loop-k-preserved
 loop-k-preserved c =

@@ -80,9 +80,6 @@ overflow_add-counts c =
     let k : c.row_in-k.result < splits_held_at c.args.s.now = omega (arith, v.3, c.if-held-k.false) in
     omega (arith, part-most _ _ c.requires.i_bound _ _ v.4.counted _ k, c.requires.i_bound, trees-few _ c.requires.head_at)
 
-pub offset_bounds-counts-k-in-loop-j : goal.offset_bounds-counts-k-in-loop-j
-offset_bounds-counts-k-in-loop-j c = omega (arith, c.loop-j.invariant.3, c.if-held-k.false, splits-few _ c.requires.head_at)
-
 pub bounds-counts-k-in-loop-j : goal.bounds-counts-k-in-loop-j
 bounds-counts-k-in-loop-j c = omega (arith, c.loop-j.invariant.3, c.if-held-k.false, splits-few _ c.requires.head_at)
 
@@ -91,12 +88,6 @@ offset_bounds-outer-at c = omega (arith, c.lowest_taxon-at.ensures.result_bound)
 
 pub bounds-outer-at : goal.bounds-outer-at
 bounds-outer-at c = omega (arith, c.lowest_taxon-at.ensures.result_bound)
-
-pub overflow_add-j : goal.overflow_add-j
-overflow_add-j c = omega (arith, c.loop-j-test.true, c.loop-j.invariant.2)
-
-pub loop-j-smaller : goal.loop-j-smaller
-loop-j-smaller c = omega (arith, c.loop-j-test.true)
 
 pub loop-j-preserved : goal.loop-j-preserved
 loop-j-preserved c =

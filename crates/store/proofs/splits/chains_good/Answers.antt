@@ -31,11 +31,11 @@ offset_bounds-highest-p c = omega (arith, small _ c.requires.head_at _ _ c.place
 pub bounds-highest-p : goal.bounds-highest-p
 bounds-highest-p c = small _ c.requires.head_at _ _ c.place_of-p.ensures
 
-pub returns-then-link_at-wide16 : goal.returns-then-link_at-wide16
-returns-then-link_at-wide16 c =
+pub returns-then-link_at-from : goal.returns-then-link_at-from
+returns-then-link_at-from c =
     let p = place_read _ _ _ _ c.mask_at.ensures c.place_of-p.ensures in
-    let h = c.wide16.ensures ∙ c.loop-k.invariant.3.each _ (small _ c.requires.head_at _ _ c.place_of-p.ensures) in
-    let e = link-bad _ _ _ _ _ c.link_at.ensures p h c.if-link_at-wide16.true in
+    let h = c.from.ensures ∙ c.loop-k.invariant.3.each _ (small _ c.requires.head_at _ _ c.place_of-p.ensures) in
+    let e = link-bad _ _ _ _ _ c.link_at.ensures p h c.if-link_at-from.true in
     let s = c.args.s.now in
     let f : all_below (good_link s) (splits_held_at s) ≡ false = all-fails _ _ c.loop-k.k (omega arith) e in
     sym (good-chains s ∙ rw f)
@@ -51,8 +51,8 @@ loop-k-preserved c =
     let v = c.loop-k.invariant in
     let p = place_read _ _ _ _ c.mask_at.ensures c.place_of-p.ensures in
     let b = small _ c.requires.head_at _ _ c.place_of-p.ensures in
-    let h = c.wide16.ensures ∙ v.3.each _ b in
-    let e = link-good _ _ _ _ _ c.link_at.ensures p h c.if-link_at-wide16.false in
+    let h = c.from.ensures ∙ v.3.each _ b in
+    let e = link-good _ _ _ _ _ c.link_at.ensures p h c.if-link_at-from.false in
     (omega arith, v.1, simp length-set v.2, heights-more _ _ _ v.2 v.3 _ p b, all_more _ _ v.4 e)
 
 pub starts_good-requires : goal.starts_good-requires

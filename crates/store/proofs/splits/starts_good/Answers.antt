@@ -14,17 +14,17 @@ loop-p-init c = (omega arith, omega (arith, places-few _ c.requires.head_at), al
 pub start_at-requires : goal.start_at-requires
 start_at-requires c = record { head_at = c.requires.head_at; p_bound = omega arith }
 
-pub returns-then-start_at-wide16 : goal.returns-then-start_at-wide16
-returns-then-start_at-wide16 c =
+pub returns-then-start_at-from : goal.returns-then-start_at-from
+returns-then-start_at-from c =
     let l = c.loop-p in
-    let h = c.wide16.ensures ∙ c.requires.highest.each l.p (omega arith) in
-    sym (all-fails _ _ l.p (omega arith) (start-bad _ _ _ _ c.start_at.ensures h c.if-start_at-wide16.true))
+    let h = c.from.ensures ∙ c.requires.highest.each l.p (omega arith) in
+    sym (all-fails _ _ l.p (omega arith) (start-bad _ _ _ _ c.start_at.ensures h c.if-start_at-from.true))
 
 pub loop-p-preserved : goal.loop-p-preserved
 loop-p-preserved c =
     let l = c.loop-p in
-    let h = c.wide16.ensures ∙ c.requires.highest.each l.p (omega arith) in
-    (omega arith, omega arith, all_more _ _ l.invariant.2 (start-good _ _ _ _ c.start_at.ensures h c.if-start_at-wide16.false))
+    let h = c.from.ensures ∙ c.requires.highest.each l.p (omega arith) in
+    (omega arith, omega arith, all_more _ _ l.invariant.2 (start-good _ _ _ _ c.start_at.ensures h c.if-start_at-from.false))
 
 pub returns : goal.returns
 returns c =

@@ -8,7 +8,7 @@ loop-v-init c = (omega arith, doubled-none _ _ _ _ c.requires.sums_len)
 pub loop-v-preserved : goal.loop-v-preserved
 loop-v-preserved c =
     let d = doubled-more _ _ _ _ _ _ c.loop-v.invariant.1 (omega arith) c.requires.width_bound in
-    (omega arith, rw c.wrapping_add_u64.ensures.value d)
+    (omega arith, d)
 
 pub returns : goal.returns
 returns c =

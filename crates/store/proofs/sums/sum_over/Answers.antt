@@ -7,12 +7,11 @@ loop-b-init c = (omega arith, omega arith, omega arith, λ cs s. rw zero-add)
 
 pub loop-b-preserved : goal.loop-b-preserved
 loop-b-preserved c =
-    let l = c.loop-b in
-    let w = c.wrapping_add_u64-sum.ensures.value in (
+    let l = c.loop-b in (
       omega arith,
-      omega (arith, w),
+      omega arith,
       turn-less _ _ (omega arith) l.invariant.2,
-      λ cs s. rw w (turn-sum cs _ s l.b l.rest l.sum (omega arith) ∙ l.invariant.3 cs s),
+      λ cs s. turn-sum cs _ s l.b l.rest l.sum (omega arith) ∙ l.invariant.3 cs s,
     )
 
 pub returns : goal.returns

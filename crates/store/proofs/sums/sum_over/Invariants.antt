@@ -9,6 +9,3 @@ abbrev pub invariant-loop-b : goal.invariant-loop-b
 invariant-loop-b l =
     (l.b ≤ 8) × (l.sum < 2 ^ 64) × (l.rest < 256 ^ (8 - l.b))
     × ((cs : List ℕ) → Sums cs 8 l.sums → (l.sum + sum_over (drop (8 * l.b) cs) l.rest) % 2 ^ 64 ≡ sum_over cs l.m % 2 ^ 64)
-
-abbrev pub decreases-loop-b : goal.decreases-loop-b
-decreases-loop-b l = 8 - l.b

@@ -4,10 +4,10 @@ use Rattle.trees.specs.Batch.{refused_after}
 use Rattle.answers.specs.Answers.{finish_given}
 use Rattle.summary.proofs.texts.one_if_refused.Goals as goal
 
-pub returns-in-Refused : goal.returns-in-Refused
+pub returns-in-Err : goal.returns-in-Err
 unfolding refused_after finish_given
-returns-in-Refused c = sym (ap (λ q. refused_after 0 (finish_given q)) c.in-Refused.is)
+returns-in-Err c = sym (ap (λ q. refused_after 0 (finish_given q)) c.in-Err.is)
 
-pub returns-in-Done : goal.returns-in-Done
+pub returns-in-Ok : goal.returns-in-Ok
 unfolding refused_after finish_given
-returns-in-Done c = sym (ap (λ q. refused_after 0 (finish_given q)) c.in-Done.is)
+returns-in-Ok c = sym (ap (λ q. refused_after 0 (finish_given q)) c.in-Ok.is)

@@ -1,5 +1,5 @@
 -- `text::ends::count_plain` meets its contract. The loop's invariant: those so far, and those of the rest. Assumes nothing.
-use Prim.Native.Nat.{◌+◌, ◌≤◌, ◌-◌}
+use Prim.Native.Nat.{◌+◌, ◌≤◌}
 use mathlib.Core.Path.{◌≡◌}
 use mathlib.Core.Bool.{false}
 use lib.ListN.{length, drop}
@@ -8,6 +8,3 @@ use Rattle.text.proofs.ends.count_plain.Given as goal
 
 abbrev pub invariant-loop-i : goal.invariant-loop-i
 invariant-loop-i l = (l.i ≤ length l.block) × (l.n ≤ l.i) × (l.n + texts_in false (drop l.i l.block) ≡ texts_in false l.block)
-
-abbrev pub decreases-loop-i : goal.decreases-loop-i
-decreases-loop-i l = length l.block - l.i

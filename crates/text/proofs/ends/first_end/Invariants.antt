@@ -1,5 +1,5 @@
 -- `text::ends::first_end` meets its contract. The loop's invariant: the bytes so far, and those of the rest. Assumes nothing.
-use Prim.Native.Nat.{◌+◌, ◌≤◌, ◌-◌}
+use Prim.Native.Nat.{◌+◌, ◌≤◌}
 use mathlib.Core.Path.{◌≡◌}
 use lib.ListN.{length, drop}
 use Rattle.trees.specs.Text.{before_end}
@@ -7,6 +7,3 @@ use Rattle.text.proofs.ends.first_end.Given as goal
 
 abbrev pub invariant-loop-i : goal.invariant-loop-i
 invariant-loop-i l = (l.i ≤ length l.piece) × (l.i + length (before_end l.quoted (drop l.i l.piece)) ≡ length (before_end l.q l.piece))
-
-abbrev pub decreases-loop-i : goal.decreases-loop-i
-decreases-loop-i l = length l.piece - l.i

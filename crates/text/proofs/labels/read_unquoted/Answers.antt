@@ -1,39 +1,38 @@
-use native.Mathlib.Omega.{arith}
-use mathlib.Core.Path.{refl}
+use Rattle.std.proofs.Common.{◌≡◌, ◌+◌, ◌-◌, refl, add-zero, arith}
 use Rattle.text.specs.LabelsLaws.{spaced-more, spaced-end, reading-start, reading-more, reading-full, reading-end}
 use Rattle.text.proofs.labels.read_unquoted.Goals as goal
 
-pub loop-i-init : goal.loop-i-init
-loop-i-init c = (omega arith, reading-start _ _ _ _)
+pub loop-n-init : goal.loop-n-init
+loop-n-init c = rw add-zero (reading-start _ _ _ _)
 
 pub shape_of-out-then-n-most : goal.shape_of-out-then-n-most
-shape_of-out-then-n-most c = c.loop-i.invariant.1.room
+shape_of-out-then-n-most c = c.loop-n.invariant.room
 
 pub returns-then-n-most : goal.returns-then-n-most
 returns-then-n-most c =
-    let l = c.loop-i in
+    let l = c.loop-n in
     let a = c.args in
-    reading-full l.invariant.1 (spaced-more a.text.now l.i a.e _ (omega arith) (omega arith) refl) c.if-n-most.true
+    reading-full l.invariant (spaced-more a.text.now (a.b + l.n) a.e _ (omega arith) (omega arith) refl) c.if-n-most.true
 
 pub overflow_add-out : goal.overflow_add-out
-overflow_add-out c = omega (arith, c.loop-i.invariant.1.within)
+overflow_add-out c = omega (arith, c.loop-n.invariant.within)
 
 pub bounds-out-at : goal.bounds-out-at
-bounds-out-at c = let r = c.loop-i.invariant.1 in omega (arith, r.within, r.room)
+bounds-out-at c = let r = c.loop-n.invariant in omega (arith, r.within, r.room)
 
-pub overflow_add-n : goal.overflow_add-n
-overflow_add-n c = omega (arith, c.loop-i.invariant.1.within)
-
-pub loop-i-preserved : goal.loop-i-preserved
-loop-i-preserved c =
-    let l = c.loop-i in
+pub loop-n-preserved : goal.loop-n-preserved
+loop-n-preserved c =
+    let l = c.loop-n in
     let a = c.args in
-    (omega arith, reading-more l.invariant.1 (spaced-more a.text.now l.i a.e _ (omega arith) (omega arith) c.spaced.ensures) c.if-n-most.false)
+    let q : a.b + (l.n + 1) ≡ a.b + l.n + 1 = omega arith in
+    rw q (reading-more l.invariant (spaced-more a.text.now (a.b + l.n) a.e _ (omega arith) (omega arith) c.spaced.ensures) c.if-n-most.false)
 
 pub shape_of-out : goal.shape_of-out
-shape_of-out c = c.loop-i.invariant.1.room
+shape_of-out c = c.loop-n.invariant.room
 
 pub returns : goal.returns
 returns c =
-    let l = c.loop-i in
-    reading-end l.invariant.1 (spaced-end _ l.i _ l.invariant.0 (omega arith))
+    let l = c.loop-n in
+    let a = c.args in
+    let q : l.n ≡ a.e - a.b = omega arith in
+    rw q at (reading-end l.invariant (spaced-end _ (a.b + l.n) _ (omega arith) (omega arith)))

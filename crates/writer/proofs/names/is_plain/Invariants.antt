@@ -1,5 +1,5 @@
 -- `writer::names::is_plain` meets its contract. The loop's invariant: the bytes from i on decide. Assumes nothing.
-use Prim.Native.Nat.{◌≤◌, ◌-◌}
+use Prim.Native.Nat.{◌≤◌}
 use mathlib.Core.Path.{◌≡◌}
 use lib.Seq.{slice}
 use Rattle.writer.specs.Name.{is_plain}
@@ -7,6 +7,3 @@ use Rattle.writer.proofs.names.is_plain.Given as goal
 
 abbrev pub invariant-loop-i : goal.invariant-loop-i
 invariant-loop-i l = (l.i ≤ l.e) × (is_plain (slice l.b l.e l.s) ≡ is_plain (slice l.i l.e l.s))
-
-abbrev pub decreases-loop-i : goal.decreases-loop-i
-decreases-loop-i l = l.e - l.i

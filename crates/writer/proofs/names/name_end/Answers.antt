@@ -4,11 +4,8 @@ use mathlib.Core.Path.{refl}
 use native.Mathlib.Omega.{arith}
 use Rattle.writer.proofs.names.name_end.Goals as goal
 
-pub overflow_cast-result : goal.overflow_cast-result
-overflow_cast-result c = omega (arith, c.type_inv.head (c.args.b - 1))
-
 pub overflow_add-result : goal.overflow_add-result
-overflow_add-result c = omega (arith, c.type_inv.head (c.args.b - 1))
+overflow_add-result c = omega (arith, c.from.ensures, c.type_inv.head (c.args.b - 1))
 
 pub returns : goal.returns
-returns c = (refl, omega (arith, c.type_inv.head (c.args.b - 1)))
+returns c = rw c.from.ensures (refl, omega (arith, c.type_inv.head (c.args.b - 1)))

@@ -1,9 +1,0 @@
--- `head::name_length` meets its contract: a byte is below 256. Assumes nothing.
-use Rattle.std.proofs.Common.{◌+◌, ◌*◌, refl, arith}
-use Rattle.head.proofs.name_length.Goals as goal
-
-pub overflow_cast-result : goal.overflow_cast-result
-overflow_cast-result c = omega (arith, c.type_inv.s (16 + 33 * c.args.i))
-
-pub returns : goal.returns
-returns c = (refl, omega (arith, c.type_inv.s (16 + 33 * c.args.i)))
