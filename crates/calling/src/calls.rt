@@ -22,9 +22,10 @@ pub(crate) enum Call<'a> {
     Bytes(Bytes<'a>),
 }
 
-// The buffers that answers are written into, and the most elements of each that an answer may take.
+// The buffers that answers are written into, and the most elements of each that an answer may take. The place for texts is not the caller's.
 #[derive(Drop)]
 pub(crate) struct Buffers<'a> {
+    pub texts: &'a mut [u8],
     pub masks: &'a mut [u64],
     pub counts: &'a mut [u32],
     pub distances: &'a mut [u16],
@@ -82,7 +83,7 @@ impl Session {
             Call::Change(change) => change.made(&mut memory[..lent], buffers.counts, buffers.room),
             Call::Question(question) => question.made(&memory[..lent]),
             Call::List(list) => list.made(&memory[..lent], buffers),
-            Call::Text(text) => text.made(&memory[..lent], buffers.file, buffers.room),
+            Call::Text(text) => text.made(&memory[..lent], buffers.texts, buffers.room),
             Call::Bytes(bytes) => bytes.made(&memory[..lent], buffers.file, buffers.room),
         }
     }

@@ -20,6 +20,7 @@ use calls::{Buffers, Session};
 use input::Input;
 use output::Output;
 use std::io::Stdin;
+use texts::TWO_TEXTS;
 
 // Answers standard input up to its end, or until a read or a write fails: then the exit status is 1, else 0. The turns are so many that
 // no run uses them up.
@@ -38,11 +39,13 @@ pub fn answer_all(
     let mut input = Input::new(input);
     let mut out = Output::new(out);
     let mut session = Session::START;
+    let mut places = [0u8; TWO_TEXTS];
     for _ in 0..u64::MAX {
         let Some(line) = input.next_line(stdin, &mut out) else {
             break;
         };
         let buffers = Buffers {
+            texts: &mut places,
             masks: &mut *masks,
             counts: &mut *counts,
             distances: &mut *distances,

@@ -135,7 +135,9 @@ fn lengths(out: &mut Output, shortest: u64, longest: u64, sum: u64) {
 // Puts the records of a split file. One without records has no number of trees that is known.
 fn records(out: &mut Output, trees: usize, masks: &[u64], counts: &[u32]) {
     if masks.is_empty() {
-        out.bytes(b"records -");
+        // in two, as every other answer's word is put by itself
+        out.bytes(b"records");
+        out.bytes(b" -");
         return;
     }
     numbered(out, b"records", trees as u64);

@@ -6,6 +6,9 @@ use answers::{Refusal, Tree};
 // The place for a text. The longest has 4,349 bytes.
 const TEXT: usize = 4352;
 
+// The places for two, as `both` gives two.
+pub(crate) const TWO_TEXTS: usize = 8704;
+
 // A call that writes a tree or two.
 #[derive(Clone, Copy)]
 pub(crate) enum Text<'a> {

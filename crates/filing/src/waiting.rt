@@ -10,7 +10,7 @@ pub const STDERR_FILENO: i32 = 2;
 const ROOM: usize = 512;
 
 // How many bytes wait, which they are, for which descriptor, and whether every write so far went well.
-#[derive(Drop)]
+#[derive(Clone, Copy)]
 pub struct Waiting {
     pub fd: i32,
     pub bytes: usize,
